@@ -1,0 +1,5 @@
+pub mod Tests
+pub mod Choices
+pub mod Table
+pub mod Lists
+pub mod Decided

@@ -1,0 +1,105 @@
+-- What holds of every shape of the modes' table, and where a cell of a shape lies.
+-- Assumes nothing.
+use mathlib.Core.Path.{_≡_, _∙_, refl, sym, ap, subst}
+use mathlib.Core.Bool.{Bool, true, false}
+use Rattle.base.proofs.Choices.{by-lt}
+use Rattle.base.proofs.Lists.{default-any}
+use mathlib.Core.List.{List, [], _∷_}
+use Prim.Native.Nat.{ℕ, zero, suc, _+_, _*_, _%_, _<_, _≤_, _^_}
+use native.Mathlib.Nat.{mul-comm, mul-le-mul, mul-le-mul-right, suc-mul, mod-lt, le-of-lt}
+use native.Mathlib.Omega.{arith}
+use mir.Syntax.{w8, w64}
+use mir.Val.{Fits}
+use lib.Dec.{T, leb, ltb, leb→le, ltb→lt}
+use lib.ListN.{length, getD, set, List·getD-eq-default}
+use Rattle.base.proofs.Table.{both, both-left, both-right, at}
+use Rattle.cells.specs.Modes.{shaped, modes, rowOf, shapeOf, countOf}
+use Rattle.cells.specs.Cells.{Colours, placeOf, cellOf, withCell}
+use Rattle.cells.specs.declared.Shape.{Shape}
+
+-- columns at most 320, rows at most 192, cells at most 61,440, colours from 1 to 256
+pub record Good (shape : Shape) : Type 0 where
+  pub wide : shape .columns ≤ 320
+  pub high : shape .rows ≤ 192
+  pub fit : shape .columns * shape .rows ≤ 61440
+  pub colours : Colours (shape .colours)
+
+test : ℕ → Shape → Bool
+test k s =
+    both (leb (s .columns) 320) (both (leb (s .rows) 192) (both (leb (s .columns * s .rows) 61440) (both (ltb 0 (s .colours)) (leb (s .colours) 256))))
+
+good-of : (s : Shape) (k : ℕ) → T (test k s) → Good s
+unfolding test
+good-of s k t =
+    let t1 = both-right (leb (s .columns) 320) _ t in
+    let t2 = both-right (leb (s .rows) 192) _ t1 in
+    let t3 = both-right (leb (s .columns * s .rows) 61440) _ t2 in
+    record {
+      wide = leb→le _ _ (both-left (leb (s .columns) 320) _ t);
+      high = leb→le _ _ (both-left (leb (s .rows) 192) _ t1);
+      fit = leb→le _ _ (both-left (leb (s .columns * s .rows) 61440) _ t2);
+      colours = record { some = ltb→lt _ _ (both-left (ltb 0 (s .colours)) _ t3); byte = leb→le _ _ (both-right (ltb 0 (s .colours)) _ t3) };
+    }
+
+-- the table's rule, tested once over the whole table
+good-at : (k : ℕ) → Good (getD modes k (shaped 0 0 1))
+unfolding modes test
+good-at k =
+    by-lt k 7 (λ h. good-of (getD modes k (shaped 0 0 1)) k (at (shaped 0 0 1) test modes tt k h))
+    (λ h. subst Good (sym (List·getD-eq-default modes (shaped 0 0 1) h)) (good-of (shaped 0 0 1) 0 tt))
+
+pub shape-good : (mode : ℕ) → Good (shapeOf mode)
+unfolding shapeOf
+shape-good mode = good-at (rowOf mode)
+
+-- a cell of the shape lies among its cells
+pub cell-in : (shape : Shape) (row column n : ℕ) → row < shape .rows → column < shape .columns → shape .columns * shape .rows ≤ n → placeOf shape row column < n
+cell-in shape row column n h k l =
+    omega (arith, mul-le-mul-right (shape .columns) h, suc-mul row (shape .columns), mul-comm (shape .rows) (shape .columns))
+
+-- two 16-bit numbers' product fits
+pub product-below : (a b : ℕ) → a < 65536 → b < 65536 → a * b ≤ 4294967296
+product-below a b h k = mul-le-mul (le-of-lt h) (le-of-lt k)
+
+pub cell-byte : (x colours : ℕ) → Colours colours → x % colours < 256
+cell-byte x colours c = omega (arith, mod-lt x (c .some), c .byte)
+
+-- a row of the table, and what is past it
+module _ (mode row : ℕ) (e : row ≡ rowOf mode) where
+  pub shape-row : row < 7 → getD modes row (shaped 0 0 0) ≡ shapeOf mode
+  unfolding shapeOf modes
+  shape-row h = default-any modes row (shaped 0 0 0) (shaped 0 0 1) h ∙ ap (λ (k : ℕ). getD modes k (shaped 0 0 1)) e
+
+  pub shape-none : 7 ≤ row → shaped 0 0 1 ≡ shapeOf mode
+  unfolding shapeOf modes
+  shape-none h = sym (List·getD-eq-default modes (shaped 0 0 1) h) ∙ ap (λ (k : ℕ). getD modes k (shaped 0 0 1)) e
+
+-- a shape that `shape_of` gave
+module _ (mode : ℕ) (shape : Shape) (e : shape ≡ shapeOf mode) where
+  pub good-shape : Good shape
+  good-shape = subst Good (sym e) (shape-good mode)
+
+  pub some-colours : 0 < shape .colours
+  some-colours = good-shape .colours .some
+
+  pub colours-byte : (x : ℕ) → Fits w8 (x % shape .colours)
+  colours-byte x = record { fits = cell-byte x (shape .colours) (good-shape .colours) }
+
+  pub shape-colours : Colours (shape .colours)
+  shape-colours = good-shape .colours
+
+  pub count-of : shape .columns * shape .rows ≡ countOf mode
+  unfolding countOf
+  count-of = rw e
+
+  pub count-bound : Fits w64 (shape .columns * shape .rows)
+  count-bound = record { fits = omega (arith, good-shape .fit) }
+
+  module _ (row column place : ℕ) (cells : List ℕ) (p : place ≡ placeOf shape row column) where
+    pub read-law : (byte : ℕ) → byte ≡ getD cells place 0 → byte % shape .colours ≡ cellOf mode row column cells
+    unfolding cellOf
+    read-law byte q = rw (q, p, e)
+
+    pub write-law : (byte : ℕ) (after : List ℕ) → after ≡ set cells place (byte % shape .colours) → after ≡ withCell mode row column byte cells
+    unfolding withCell
+    write-law byte after q = q ∙ rw (p, e)

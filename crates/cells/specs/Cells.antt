@@ -1,0 +1,49 @@
+-- The cells of a mode on the lent screen: row after row, a byte each. "Cells past the mode stay."
+-- Assumes nothing.
+use Prim.Native.Nat.{ℕ, _+_, _-_, _*_, _%_, _<_, _≤_}
+use mathlib.Core.Path.{_≡_}
+use mathlib.Core.List.{List, _++_, map}
+use lib.ListN.{length, getD, set, take, drop, replicate}
+use Rattle.cells.specs.declared.Shape.{Shape}
+use Rattle.cells.specs.Modes.{shapeOf, countOf}
+
+-- "a lent screen of 61,440 cells"
+pub record Whole (cells : List ℕ) : Type 0 where
+  pub all : length cells ≡ 61440
+
+-- a mode's number of colours
+pub record Colours (colours : ℕ) : Type 0 where
+  pub some : 0 < colours
+  pub byte : colours ≤ 256
+
+-- cell (row, column)
+abbrev pub placeOf : Shape → ℕ → ℕ → ℕ
+placeOf shape row column = row * shape .columns + column
+
+-- "cell modulo colours"
+unfoldable pub cellOf : (mode row column : ℕ) → List ℕ → ℕ
+cellOf mode row column cells = getD cells (placeOf (shapeOf mode) row column) 0 % shapeOf mode .colours
+
+-- "cell = byte modulo colours"
+unfoldable pub withCell : (mode row column byte : ℕ) → List ℕ → List ℕ
+withCell mode row column byte cells = set cells (placeOf (shapeOf mode) row column) (byte % shapeOf mode .colours)
+
+-- the mode's cells are all this byte
+unfoldable pub filled : (mode byte : ℕ) → List ℕ → List ℕ
+filled mode byte cells = replicate (countOf mode) byte ++ drop (countOf mode) cells
+
+-- each cell modulo the colours
+abbrev pub reducedAll : (colours : ℕ) → List ℕ → List ℕ
+reducedAll colours cells = map (λ (cell : ℕ). cell % colours) cells
+
+-- the mode's cells modulo the colours
+unfoldable pub reduced : (mode : ℕ) → List ℕ → List ℕ
+reduced mode cells = reducedAll (shapeOf mode .colours) (take (countOf mode) cells) ++ drop (countOf mode) cells
+
+-- each row of 40 cells but the last becomes the next
+unfoldable pub raised : List ℕ → List ℕ
+raised cells = drop 40 cells ++ drop (length cells - 40) cells
+
+-- "rows move up and row 23 becomes $20": of mode 0's 960 cells
+unfoldable pub scrolled : List ℕ → List ℕ
+scrolled cells = take 920 (drop 40 cells) ++ (replicate 40 0x20 ++ drop 960 cells)

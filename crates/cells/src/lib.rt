@@ -1,0 +1,155 @@
+// The screen's cells, a byte each: what each mode has, and the cells of a mode read, written, filled and reduced. Cells past
+// the mode stay.
+pub mod part;
+
+ghost use mathlib.Core.Path.{_≡_};
+ghost use Prim.Native.Nat.{_<_, _≤_};
+ghost use Rattle.cells.specs.Modes.{isMode, rowOf, shapeOf, countOf};
+ghost use Rattle.cells.specs.Cells.{Whole, placeOf, cellOf, withCell, filled, reduced, scrolled};
+
+pub struct Shape {
+    pub columns: u16,
+    pub rows: u16,
+    pub colours: u16,
+}
+
+const MODES: [Shape; 7] = [
+    Shape {
+        columns: 40,
+        rows: 24,
+        colours: 256,
+    },
+    Shape {
+        columns: 40,
+        rows: 24,
+        colours: 4,
+    },
+    Shape {
+        columns: 80,
+        rows: 48,
+        colours: 2,
+    },
+    Shape {
+        columns: 80,
+        rows: 48,
+        colours: 4,
+    },
+    Shape {
+        columns: 160,
+        rows: 96,
+        colours: 2,
+    },
+    Shape {
+        columns: 160,
+        rows: 96,
+        colours: 4,
+    },
+    Shape {
+        columns: 320,
+        rows: 192,
+        colours: 2,
+    },
+];
+
+// A mode: 0, or 3 to 8.
+pub fn is_mode(mode: u8) -> bool
+    ensures { λ r. ⌜ r ≡ isMode mode ⌝ }
+{
+    if mode == 0 {
+        return true;
+    }
+    if mode < 3 {
+        return false;
+    }
+    mode <= 8
+}
+
+fn row_of(mode: u8) -> usize
+    ensures { λ r. ⌜ r ≡ rowOf mode ⌝ }
+{
+    if mode == 0 {
+        return 0;
+    }
+    if 3 <= mode {
+        if mode <= 8 {
+            return (mode - 2) as usize;
+        }
+    }
+    7
+}
+
+// A mode's row of the table; a number that is no mode has no cells.
+pub fn shape_of(mode: u8) -> Shape
+    ensures { λ r. ⌜ r ≡ shapeOf mode ⌝ }
+{
+    let row = row_of(mode);
+    if row < 7 {
+        return MODES[row];
+    }
+    Shape {
+        columns: 0,
+        rows: 0,
+        colours: 1,
+    }
+}
+
+// How many cells a mode has.
+pub fn count(mode: u8) -> usize
+    ensures { λ r. ⌜ r ≡ countOf mode ⌝ }
+{
+    let s = shape_of(mode);
+    s.columns as usize * s.rows as usize
+}
+
+// Where a mode's cell lies on the screen.
+pub fn place(shape: Shape, row: u16, column: u16) -> usize
+    ensures { λ r. ⌜ r ≡ placeOf shape row column ⌝ }
+{
+    row as usize * shape.columns as usize + column as usize
+}
+
+// A cell of a mode, modulo the mode's colours.
+pub fn read(screen: &[u8], mode: u8, row: u16, column: u16) -> u8
+    ensures { λ r. ⌜ r ≡ cellOf mode row column (now (screen .entry)) ⌝ }
+{
+    let s = shape_of(mode);
+    let cell = base::byte_at(screen, place(s, row, column)) as u16;
+    (cell % s.colours) as u8
+}
+
+// A cell of a mode becomes a byte modulo the mode's colours.
+pub fn write(screen: &mut [u8], mode: u8, row: u16, column: u16, byte: u8)
+    ensures { λ _. ⌜ now (screen .exit) ≡ withCell mode row column byte (now (screen .entry)) ⌝ }
+{
+    let s = shape_of(mode);
+    let cell = byte as u16;
+    base::set_byte(screen, place(s, row, column), (cell % s.colours) as u8);
+}
+
+// All cells of a mode become one byte.
+pub fn fill(screen: &mut [u8], mode: u8, byte: u8)
+    requires { ⌜ Whole (now screen) ⌝ }
+    ensures { λ _. ⌜ now (screen .exit) ≡ filled mode byte (now (screen .entry)) ⌝ }
+{
+    let end = count(mode);
+    part::paint(&mut screen[..end], byte);
+}
+
+// Each cell of a mode is taken modulo the mode's colours.
+pub fn reduce(screen: &mut [u8], mode: u8)
+    requires { ⌜ Whole (now screen) ⌝ }
+    ensures { λ _. ⌜ now (screen .exit) ≡ reduced mode (now (screen .entry)) ⌝ }
+{
+    let s = shape_of(mode);
+    let end = count(mode);
+    part::reduce_all(&mut screen[..end], s.colours);
+}
+
+// Rows move up, and row 23 becomes $20.
+pub fn scroll(screen: &mut [u8])
+    requires { ⌜ Whole (now screen) ⌝ }
+    ensures { λ _. ⌜ now (screen .exit) ≡ scrolled (now (screen .entry)) ⌝ }
+{
+    part::raise(&mut screen[..960]);
+    part::paint(&mut screen[920..960], 0x20);
+}

@@ -1,0 +1,4 @@
+pub mod Acts
+pub mod Keeps
+pub mod Cases
+pub mod Decided

@@ -1,0 +1,3 @@
+pub mod Group
+pub mod Handlers
+pub mod Fit

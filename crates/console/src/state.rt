@@ -1,0 +1,174 @@
+// The console's state by value, and each handler's part of it.
+use editor::Editor;
+use editor::ReadColumn;
+use graphics::Graphics;
+use keys::keyboard::Keyboard;
+ghost use mathlib.Core.Path.{_≡_};
+ghost use Rattle.console.specs.Group.{freshConsole, editorOf, withEditor, withMode, graphicsOf, withGraphics, withKeyboard, pressedOf};
+ghost use Rattle.console.specs.Fit.{cursorFits, readingFits, keysFit, fitOf};
+
+pub struct Console {
+    pub mode: u8,
+    pub row: u16,
+    pub column: u16,
+    pub last: u8,
+    pub escape: bool,
+    pub reading: ReadColumn,
+    pub keyboard: Keyboard,
+}
+
+impl Console {
+    pub fn fresh() -> Console
+        ensures { λ r. ⌜ r ≡ freshConsole ⌝ }
+    {
+        Console {
+            mode: 0,
+            row: 0,
+            column: 2,
+            last: 0,
+            escape: false,
+            reading: ReadColumn::Dropped,
+            keyboard: Keyboard::fresh(),
+        }
+    }
+
+    // E's part.
+    pub fn editor(self) -> Editor
+        ensures { λ r. ⌜ r ≡ editorOf self ⌝ }
+    {
+        let reading = self.reading;
+        Editor {
+            row: self.row,
+            column: self.column,
+            last: self.last,
+            escape: self.escape,
+            reading: reading,
+        }
+    }
+
+    pub fn with_editor(self, editor: Editor) -> Console
+        ensures { λ r. ⌜ r ≡ withEditor editor self ⌝ }
+    {
+        let reading = editor.reading;
+        let keyboard = self.keyboard;
+        Console {
+            mode: self.mode,
+            row: editor.row,
+            column: editor.column,
+            last: editor.last,
+            escape: editor.escape,
+            reading: reading,
+            keyboard: keyboard,
+        }
+    }
+
+    pub fn with_mode(self, mode: u8) -> Console
+        ensures { λ r. ⌜ r ≡ withMode mode self ⌝ }
+    {
+        let mut next = self;
+        next.mode = mode;
+        next
+    }
+
+    // S's part.
+    pub fn graphics(self) -> Graphics
+        ensures { λ r. ⌜ r ≡ graphicsOf self ⌝ }
+    {
+        Graphics {
+            mode: self.mode,
+            row: self.row,
+            column: self.column,
+            last: self.last,
+        }
+    }
+
+    pub fn with_graphics(self, graphics: Graphics) -> Console
+        ensures { λ r. ⌜ r ≡ withGraphics graphics self ⌝ }
+    {
+        let mut next = self;
+        next.mode = graphics.mode;
+        next.row = graphics.row;
+        next.column = graphics.column;
+        next.last = graphics.last;
+        next
+    }
+
+    pub fn with_keyboard(self, keyboard: Keyboard) -> Console
+        ensures { λ r. ⌜ r ≡ withKeyboard keyboard self ⌝ }
+    {
+        let mut next = self;
+        next.keyboard = keyboard;
+        next
+    }
+
+    // Nothing that is stored is damaged.
+    pub fn fits(self) -> bool
+        ensures { λ r. ⌜ r ≡ fitOf self ⌝ }
+    {
+        let reading = self.reading;
+        let keyboard = self.keyboard;
+        if cells::is_mode(self.mode) {
+            if cursor_fits(self.mode, self.row, self.column) {
+                if reading_fits(reading) {
+                    return keys_fit(keyboard);
+                }
+                return false;
+            }
+            return false;
+        }
+        false
+    }
+
+    // A key pressed.
+    pub fn press(self, code: u8) -> Console
+        ensures { λ r. ⌜ r ≡ pressedOf code self ⌝ }
+    {
+        let keyboard = self.keyboard;
+        self.with_keyboard(keyboard.press(code))
+    }
+}
+
+// The cursor is in its mode.
+fn cursor_fits(mode: u8, row: u16, column: u16) -> bool
+    ensures { λ r. ⌜ r ≡ cursorFits mode row column ⌝ }
+{
+    if mode == 0 {
+        if 24 <= row {
+            return false;
+        }
+        if column < 2 {
+            return false;
+        }
+        return column <= 39;
+    }
+    let shape = cells::shape_of(mode);
+    if shape.rows < row {
+        return false;
+    }
+    column < shape.columns
+}
+
+fn reading_fits(reading: ReadColumn) -> bool
+    ensures { λ r. ⌜ r ≡ readingFits reading ⌝ }
+{
+    match reading {
+        ReadColumn::Dropped => true,
+        ReadColumn::At(column) => {
+            if column < 2 {
+                return false;
+            }
+            column <= 40
+        }
+    }
+}
+
+fn keys_fit(keyboard: Keyboard) -> bool
+    ensures { λ r. ⌜ r ≡ keysFit keyboard ⌝ }
+{
+    let lock = keyboard.lock;
+    let inverse = keyboard.inverse;
+    if 2 < lock {
+        return false;
+    }
+    inverse <= 1
+}

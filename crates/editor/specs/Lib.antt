@@ -1,0 +1,4 @@
+pub mod Decide
+pub mod Text
+pub mod Get
+pub mod Fit

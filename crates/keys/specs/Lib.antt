@@ -1,0 +1,4 @@
+pub mod Table
+pub mod Translation
+pub mod Keyboard
+pub mod Fit

@@ -1,0 +1,39 @@
+-- What a key code means under a lock (0 none, 1 shift, 2 control) and inverse (0, 1).
+-- Assumes nothing.
+use Prim.Native.Nat.{ℕ, _+_, _-_, _*_}
+use mathlib.Core.Bool.{Bool}
+use lib.Dec.{ltb}
+use Rattle.base.specs.Choice.{pick, and, or, within}
+use Rattle.keys.specs.Table.{keyAt}
+
+-- "a block 0 entry $61 to $7A"
+abbrev pub letter : ℕ → Bool
+letter entry = within 0x61 0x7A entry
+
+-- "Under a lock, a block 0 entry $61 to $7A is read from block 1 (shift lock) or 2 (control lock)": a lock's number is its
+-- block's
+unfoldable pub entryOf : (code lock : ℕ) → ℕ
+entryOf code lock = pick (and (ltb code 64) (letter (keyAt code))) (keyAt (code + 64 * lock)) (keyAt code)
+
+-- "Inverse adds $80 unless the character is $1B-$1F, $7D-$7F, $9B-$9F, $FD-$FF."
+abbrev pub fixed : ℕ → Bool
+fixed character =
+    or (within 0x1B 0x1F character)
+    (or (within 0x7D 0x7F character)
+    (or (within 0x9B 0x9F character) (within 0xFD 0xFF character)))
+
+-- "256 to 261 for entries $80 to $85"
+abbrev pub numberOf : ℕ → ℕ
+numberOf entry = 256 + (entry - 0x80)
+
+-- "Answer: the character; 256 to 261 for entries $80 to $85"
+unfoldable pub answerOf : (entry inverse : ℕ) → ℕ
+answerOf entry inverse =
+    pick (within 0x80 0x85 entry) (numberOf entry)
+    (pick (fixed entry) entry (entry + 0x80 * inverse))
+
+-- "256 for a code above $BF; 262, first, for another lock or inverse."
+unfoldable pub translateOf : (code lock inverse : ℕ) → ℕ
+translateOf code lock inverse =
+    pick (or (ltb 2 lock) (ltb 1 inverse)) 262
+    (pick (ltb 0xBF code) 256 (answerOf (entryOf code lock) inverse))
