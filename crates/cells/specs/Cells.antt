@@ -40,7 +40,7 @@ reducedAll colours cells = map (λ (cell : ℕ). cell % colours) cells
 unfoldable pub reduced : (mode : ℕ) → List ℕ → List ℕ
 reduced mode cells = reducedAll (shapeOf mode .colours) (take (countOf mode) cells) ++ drop (countOf mode) cells
 
--- each row of 40 cells but the last becomes the next
+-- a part of the screen moved up: each row of 40 cells but the last becomes the next, and the last stays as it is
 unfoldable pub raised : List ℕ → List ℕ
 raised cells = drop 40 cells ++ drop (length cells - 40) cells
 

@@ -1,4 +1,4 @@
--- Document 01, Damaged: the console is fit where none of that sentence's words on it hold.
+-- Document 01, Damaged: the console is fit where none of that sentence's words on it hold. A fit group also has its whole screen.
 -- Assumes nothing.
 use Prim.Native.Nat.{ℕ}
 use mathlib.Core.Path.{_≡_}

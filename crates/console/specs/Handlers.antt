@@ -81,7 +81,7 @@ writeE byte g = seen (withText g) (editor.putOf byte (textOf g))
 unfoldable pub writeS : ℕ → ConsoleGroup → Answer Done ConsoleGroup
 writeS byte g = seen (withPicture g) (graphics.putOf byte (pictureOf g))
 
--- K offers no writing: "$87 .. writing without W"
+-- A PUT to K never gets here: K offers no W, and "$87 .. writing without W" comes before the group; the same status stands here
 unfoldable pub writeOf : Handler → ℕ → ConsoleGroup → Answer Done ConsoleGroup
 writeOf E byte g = writeE byte g
 writeOf S byte g = writeS byte g

@@ -11,10 +11,11 @@ use lib.ListN.{length, set, length-set, getD}
 use Rattle.base.proofs.Choices.{pick-le, choose-go, choose-eq, choose-lt, choose-le}
 use Rattle.handler.specs.declared.Got.{Got}
 use Rattle.handler.specs.Answer.{Answer}
-use Rattle.cells.specs.Cells.{Whole, filled, scrolled}
+use Rattle.cells.specs.Modes.{modes, rowOf, shapeOf}
+use Rattle.cells.specs.Cells.{Whole, placeOf, filled, scrolled}
 use Rattle.cells.proofs.Parts.{filled-length, scrolled-length}
 use Rattle.editor.specs.Decide.{actOf}
-use Rattle.editor.specs.Text.{Text, text, placed, withLast, unread, plainly, moveTo, cellAt, newRow, openOf, lessOf, moreOf, clearOf, backOf, onward, dataOf, doing, putOf}
+use Rattle.editor.specs.Text.{Text, text, placed, withLast, unread, withEscape, moveTo, cellAt, newRow, openOf, lessOf, moreOf, clearOf, backOf, onward, dataOf, doing, putOf}
 use Rattle.editor.specs.Get.{columnOf, heldOf, endOf, readOn, getAt, getOf}
 use Rattle.editor.specs.Fit.{FitReading, FitEditor, FitText}
 use Rattle.editor.specs.declared.decide.Act.{Act}
@@ -22,6 +23,11 @@ use Rattle.editor.specs.declared.decide.Act.the-variants.{Escape, Up, Do
 use Rattle.editor.specs.declared.ReadColumn.{ReadColumn}
 use Rattle.editor.specs.declared.ReadColumn.the-variants.{Dropped, At}
 use Rattle.editor.specs.declared.Editor.{Editor}
+
+-- E's cells are those of mode 0 in the modes' table
+pub cell-at : (row column : ℕ) → cellAt row column ≡ placeOf (shapeOf 0) row column
+unfolding shapeOf rowOf modes
+cell-at row column = refl
 
 whole-by : (s t : List ℕ) → length t ≡ length s → Whole s → Whole t
 whole-by s t e w = record { all = e ∙ w .all }
@@ -89,7 +95,7 @@ data-fit byte t f =
       whole = set-whole (t .cells) (cellAt (t .editor .row) (t .editor .column)) byte (f .whole);
     })
 
-plain-fit : (escape : Bool) (t : Text) → FitText t → FitText (text (plainly escape (t .editor)) (t .cells))
+plain-fit : (escape : Bool) (t : Text) → FitText t → FitText (text (withEscape escape (t .editor)) (t .cells))
 plain-fit escape t f = record { editor = record { row = f .editor .row; low = f .editor .low; high = f .editor .high; reading = tt }; whole = f .whole }
 
 doing-fit : (act : Act) (byte : ℕ) (t : Text) → FitText t → FitText (doing act byte t)
@@ -115,7 +121,7 @@ doing-fit Data byte t f = data-fit byte t f
 
 pub put-fit : (byte : ℕ) (t : Text) → FitText t → FitText (putOf byte t .leaves)
 unfolding putOf
-put-fit byte t f = doing-fit (actOf (t .editor .escape) byte) byte (text (plainly false (t .editor)) (t .cells)) (plain-fit false t f)
+put-fit byte t f = doing-fit (actOf (t .editor .escape) byte) byte (text (withEscape false (t .editor)) (t .cells)) (plain-fit false t f)
 
 -- an opened editor is in range whatever it was
 pub open-fit : (t : Text) → Whole (t .cells) → FitText (openOf t)

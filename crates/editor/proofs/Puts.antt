@@ -10,7 +10,7 @@ use Rattle.handler.specs.declared.Done.the-variants.{Success}
 use Rattle.handler.specs.Answer.{answer}
 use Rattle.cells.specs.Cells.{filled, scrolled}
 use Rattle.editor.specs.Decide.{actOf}
-use Rattle.editor.specs.Text.{Text, text, cellAt, placed, withLast, plainly, moveTo, newRow, openOf, lessOf, moreOf, clearOf, backOf, onward, dataOf, doing, putOf}
+use Rattle.editor.specs.Text.{Text, text, cellAt, placed, withLast, withEscape, moveTo, newRow, openOf, lessOf, moreOf, clearOf, backOf, onward, dataOf, doing, putOf}
 use Rattle.editor.specs.declared.decide.Act.{Act}
 use Rattle.editor.specs.declared.decide.Act.the-variants.{Escape, Up, Down, Left, Right, Clear, Back, NewRow, Nothing, Data}
 use Rattle.editor.specs.declared.Editor.{Editor}
@@ -28,7 +28,7 @@ module _ (e r : Editor) (s t : List ℕ) where
   unfolding clearOf
   clear-law p q = rw (p, q)
 
-  pub open-law : t ≡ filled 0 0x20 s → text (placed 0 2 (plainly false e)) t ≡ openOf (text e s)
+  pub open-law : t ≡ filled 0 0x20 s → text (placed 0 2 (withEscape false e)) t ≡ openOf (text e s)
   unfolding openOf
   open-law p = rw p
 
@@ -51,7 +51,7 @@ module _ (e r : Editor) (s t : List ℕ) where
 
 -- the act that the match found, with what its arm did
 module _ (act : Act) (b : ℕ) (e r : Editor) (s t : List ℕ) where
-  pub do-escape : act ≡ Escape → r ≡ plainly true e → text r s ≡ doing act b (text e s)
+  pub do-escape : act ≡ Escape → r ≡ withEscape true e → text r s ≡ doing act b (text e s)
   unfolding doing
   do-escape a q = rw (a, q)
 
@@ -91,6 +91,6 @@ module _ (act : Act) (b : ℕ) (e r : Editor) (s t : List ℕ) where
   unfolding doing
   do-data a q = q ∙ rw a
 
-  pub put-law : (plain : Editor) → act ≡ actOf (e .escape) b → plain ≡ plainly false e → text r t ≡ doing act b (text plain s) → answer Success (text r t) ≡ putOf b (text e s)
+  pub put-law : (plain : Editor) → act ≡ actOf (e .escape) b → plain ≡ withEscape false e → text r t ≡ doing act b (text plain s) → answer Success (text r t) ≡ putOf b (text e s)
   unfolding putOf
   put-law plain a p q = ap (answer Success) (q ∙ rw (a, p))

@@ -1,7 +1,6 @@
--- Document 01, Damaged: what is in range of the editor in mode 0.
+-- Document 01, Damaged: what is in range of the editor in mode 0; and with it the whole screen.
 -- Assumes nothing.
-use Prim.Native.Nat.{ℕ, _<_, _≤_}
-use mathlib.Core.List.{List}
+use Prim.Native.Nat.{_<_, _≤_}
 use Rattle.cells.specs.Cells.{Whole}
 use Rattle.editor.specs.Text.{Text}
 use Rattle.editor.specs.declared.ReadColumn.{ReadColumn}

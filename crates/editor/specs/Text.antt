@@ -23,7 +23,7 @@ pub record Text : Type 0 where
 abbrev pub text : Editor → List ℕ → Text
 text editor cells = record { editor = editor; cells = cells }
 
--- cell (row, column) of mode 0's rows of 40
+-- cell (row, column) of mode 0's rows of 40: where the modes' table has it
 abbrev pub cellAt : ℕ → ℕ → ℕ
 cellAt row column = row * 40 + column
 
@@ -40,8 +40,8 @@ abbrev pub unread : Editor → Editor
 unread e = record { row = e .row; column = e .column; last = e .last; escape = e .escape; reading = Dropped }
 
 -- read column dropped, and escape on or off
-abbrev pub plainly : Bool → Editor → Editor
-plainly escape e = record { row = e .row; column = e .column; last = e .last; escape = escape; reading = Dropped }
+abbrev pub withEscape : Bool → Editor → Editor
+withEscape escape e = record { row = e .row; column = e .column; last = e .last; escape = escape; reading = Dropped }
 
 abbrev pub moveTo : (row column : ℕ) → Text → Text
 moveTo row column t = text (placed row column (t .editor)) (t .cells)
@@ -51,9 +51,9 @@ unfoldable pub newRow : Text → Text
 newRow t =
     choose (leb 23 (t .editor .row)) (λ u. text (placed 23 2 (t .editor)) (scrolled (t .cells))) (λ u. moveTo (t .editor .row + 1) 2 t)
 
--- "OPEN: mode 0, 960 cells $20, cursor (0,2), escape off, no read column"
+-- "OPEN: .. 960 cells $20, cursor (0,2), escape off, no read column"; the console's mode becomes 0 with it
 unfoldable pub openOf : Text → Text
-openOf t = text (placed 0 2 (plainly false (t .editor))) (filled 0 0x20 (t .cells))
+openOf t = text (placed 0 2 (withEscape false (t .editor))) (filled 0 0x20 (t .cells))
 
 -- "wrapping": one less, and from low to high; one more, and from high to low
 unfoldable pub lessOf : (low high : ℕ) → ℕ → ℕ
@@ -82,7 +82,7 @@ unfoldable pub dataOf : ℕ → Text → Text
 dataOf byte t = onward (text (withLast byte (t .editor)) (set (t .cells) (cellAt (t .editor .row) (t .editor .column)) byte))
 
 unfoldable pub doing : Act → ℕ → Text → Text
-doing Escape byte t = text (plainly true (t .editor)) (t .cells)
+doing Escape byte t = text (withEscape true (t .editor)) (t .cells)
 doing Up byte t = moveTo (lessOf 0 23 (t .editor .row)) (t .editor .column) t
 doing Down byte t = moveTo (moreOf 0 23 (t .editor .row)) (t .editor .column) t
 doing Left byte t = moveTo (t .editor .row) (lessOf 2 39 (t .editor .column)) t
@@ -95,4 +95,4 @@ doing Data byte t = dataOf byte t
 
 -- "PUT drops the read column. After an escape: ..; escape ends." E refuses no byte.
 unfoldable pub putOf : ℕ → Text → Answer Done Text
-putOf byte t = answer Success (doing (actOf (t .editor .escape) byte) byte (text (plainly false (t .editor)) (t .cells)))
+putOf byte t = answer Success (doing (actOf (t .editor .escape) byte) byte (text (withEscape false (t .editor)) (t .cells)))

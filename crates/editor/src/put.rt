@@ -6,7 +6,7 @@ use handler::Done;
 ghost use mathlib.Core.Path.{_≡_};
 ghost use Rattle.handler.specs.Answer.{answer};
 ghost use Rattle.cells.specs.Cells.{Whole};
-ghost use Rattle.editor.specs.Text.{text, lessOf, moreOf, plainly, clearOf, backOf, dataOf, doing, putOf};
+ghost use Rattle.editor.specs.Text.{text, lessOf, moreOf, withEscape, clearOf, backOf, dataOf, doing, putOf};
 
 // What a PUT says, and the editor after it.
 pub struct Written {
@@ -36,7 +36,7 @@ fn more(x: u16, low: u16, high: u16) -> u16
 
 // No read column, and the escape as told.
 fn told(editor: Editor, escape: bool) -> Editor
-    ensures { λ r. ⌜ r ≡ plainly escape editor ⌝ }
+    ensures { λ r. ⌜ r ≡ withEscape escape editor ⌝ }
 {
     Editor {
         row: editor.row,

@@ -1,8 +1,8 @@
--- Document 01, Damaged: what is in range of the screen in modes 3 to 8.
+-- Document 01, Damaged: what is in range of the screen in modes 3 to 8; and with it the whole screen.
 -- Assumes nothing.
 use mathlib.Core.Path.{_≡_}
 use mathlib.Core.Bool.{true}
-use Prim.Native.Nat.{ℕ, _<_, _≤_}
+use Prim.Native.Nat.{_<_, _≤_}
 use Rattle.base.specs.Choice.{within}
 use Rattle.cells.specs.Modes.{shapeOf}
 use Rattle.cells.specs.Cells.{Whole}

@@ -48,7 +48,7 @@ openOf aux1 aux2 p =
     (λ u. answer (Refused 0x91) p)
     (λ u. answer Success (picture (inMode aux2 (p .graphics)) (startOf aux2 aux1 (p .cells))))
 
--- "At row = rows all but $7D give $8D."
+-- the cursor stands past the last row
 abbrev pub pastLastRow : Graphics → Bool
 pastLastRow g = leb (shapeOf (g .mode) .rows) (g .row)
 
@@ -69,7 +69,7 @@ dataOf byte p =
     picture (onward (withLast byte (p .graphics)))
     (withCell (p .graphics .mode) (p .graphics .row) (p .graphics .column) byte (p .cells))
 
--- "$9B: column 0, next row."
+-- "At row = rows all but $7D give $8D." "$9B: column 0, next row."
 unfoldable pub putOf : ℕ → Picture → Answer Done Picture
 putOf byte p =
     choose (eqb byte 0x7D) (λ u. answer Success (clearOf p)) (λ u.

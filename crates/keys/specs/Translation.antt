@@ -1,14 +1,22 @@
 -- What a key code means under a lock (0 none, 1 shift, 2 control) and inverse (0, 1).
 -- Assumes nothing.
 use Prim.Native.Nat.{ℕ, _+_, _-_, _*_}
-use mathlib.Core.Bool.{Bool}
-use lib.Dec.{ltb}
+use mathlib.Core.Bool.{Bool, true}
+use lib.Dec.{eqb, ltb}
 use Rattle.base.specs.Choice.{pick, and, or, within}
 use Rattle.keys.specs.Table.{keyAt}
 
 -- "a block 0 entry $61 to $7A"
 abbrev pub letter : ℕ → Bool
 letter entry = within 0x61 0x7A entry
+
+-- "a letter's block 1 entry is 32 less, its block 2 entry 96 less"
+abbrev pub less : (place entry : ℕ) → Bool
+less place entry = and (eqb (keyAt (place + 64)) (entry - 32)) (eqb (keyAt (place + 128)) (entry - 96))
+
+-- the same as a test of one place of the table, that the whole table passes
+unfoldable pub letterRule : (place entry : ℕ) → Bool
+letterRule place entry = pick (and (ltb place 64) (letter entry)) (less place entry) true
 
 -- "Under a lock, a block 0 entry $61 to $7A is read from block 1 (shift lock) or 2 (control lock)": a lock's number is its
 -- block's

@@ -1,0 +1,4 @@
+pub mod Messages
+pub mod Replies
+pub mod Fits
+pub mod Spelling
