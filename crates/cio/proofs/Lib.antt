@@ -1,0 +1,4 @@
+pub mod Plans
+pub mod Transfers
+pub mod Starts
+pub mod Decided

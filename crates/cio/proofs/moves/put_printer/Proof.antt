@@ -1,0 +1,41 @@
+use Rattle.cio.proofs.Starts.{put-law}
+use borrow.Author.Needs.{needs}
+use Rattle.cio.proofs.moves.put_printer.Statement.{statement}
+use Rattle.cio.proofs.moves.put_printer.Tie as tie
+
+byte-to-send-requires : tie.Need-byte-to-send-requires
+byte-to-send-requires c κs = search needs
+
+put-requires : tie.Need-put-requires
+put-requires c κs = search needs
+
+after-put-requires : tie.Need-after-put-requires
+after-put-requires c κs = search needs
+
+land-requires : tie.Need-land-requires
+land-requires c κs = search needs
+
+same-length : tie.Need-same-length
+same-length c = search needs
+
+same-length-2 : tie.Need-same-length-2
+same-length-2 c = search needs
+
+same-length-3 : tie.Need-same-length-3
+same-length-3 c = search needs
+
+returns : tie.Need-returns
+returns c = search put-law
+
+pub put-printer-spec : {M : Type 1} → statement M
+put-printer-spec =
+    tie.close
+    (tie.spec
+    byte-to-send-requires
+    put-requires
+    after-put-requires
+    land-requires
+    same-length
+    same-length-2
+    same-length-3
+    returns)

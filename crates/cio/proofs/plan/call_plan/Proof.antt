@@ -1,0 +1,23 @@
+use Rattle.cio.proofs.Plans.{call-high, call-low}
+use borrow.Author.Needs.{needs}
+use Rattle.cio.proofs.plan.call_plan.Statement.{statement}
+use Rattle.cio.proofs.plan.call_plan.Tie as tie
+
+returns : tie.Need-returns
+returns c = search call-high
+
+command-of-requires : tie.Need-command-of-requires
+command-of-requires c κs = search needs
+
+block-requires : tie.Need-block-requires
+block-requires c κs = search needs
+
+block-plan-requires : tie.Need-block-plan-requires
+block-plan-requires c κs = search needs
+
+returns-2 : tie.Need-returns-2
+returns-2 c = search call-low
+
+pub call-plan-spec : {M : Type 1} → statement M
+call-plan-spec =
+    tie.close (tie.spec returns command-of-requires block-requires block-plan-requires returns-2)

@@ -1,0 +1,12 @@
+use Rattle.cio.proofs.Plans.{kind-get, kind-put}
+use Rattle.cio.proofs.plan.kind_of.Statement.{statement}
+use Rattle.cio.proofs.plan.kind_of.Tie as tie
+
+returns : tie.Need-returns
+returns c = search kind-get
+
+returns-2 : tie.Need-returns-2
+returns-2 c = search kind-put
+
+pub kind-of-spec : {M : Type 1} → statement M
+kind-of-spec = tie.close (tie.spec returns returns-2)

@@ -1,0 +1,41 @@
+use Rattle.cio.proofs.Starts.{open-offered, open-not}
+use borrow.Author.Needs.{needs}
+use Rattle.cio.proofs.start.open_printer.Statement.{statement}
+use Rattle.cio.proofs.start.open_printer.Tie as tie
+
+offers-requires : tie.Need-offers-requires
+offers-requires c κs = search needs
+
+settle-requires : tie.Need-settle-requires
+settle-requires c κs = search needs
+
+over-requires : tie.Need-over-requires
+over-requires c κs = search needs
+
+same-length : tie.Need-same-length
+same-length c = search needs
+
+returns : tie.Need-returns
+returns c = search open-offered
+
+over-requires-2 : tie.Need-over-requires-2
+over-requires-2 c κs = search needs
+
+same-length-2 : tie.Need-same-length-2
+same-length-2 c = search needs
+
+returns-2 : tie.Need-returns-2
+returns-2 c = search open-not
+
+pub open-printer-spec : {M : Type 1} → statement M
+open-printer-spec =
+    tie.close
+    (tie.spec
+    offers-requires
+    settle-requires
+    over-requires
+    same-length
+    returns
+    over-requires-2
+    same-length-2
+    returns-2)

@@ -1,0 +1,16 @@
+use Rattle.cio.proofs.Transfers.{onward-end, onward-on}
+use borrow.Author.Needs.{needs}
+use Rattle.cio.proofs.transfer.onward.Statement.{statement}
+use Rattle.cio.proofs.transfer.onward.Tie as tie
+
+ended-requires : tie.Need-ended-requires
+ended-requires c κs = search needs
+
+returns : tie.Need-returns
+returns c = search onward-end
+
+returns-2 : tie.Need-returns-2
+returns-2 c = search onward-on
+
+pub onward-spec : {M : Type 1} → statement M
+onward-spec = tie.close (tie.spec ended-requires returns returns-2)

@@ -1,0 +1,16 @@
+use Rattle.cio.proofs.Transfers.{record-end, record-on}
+use borrow.Author.Needs.{needs}
+use Rattle.cio.proofs.transfer.record_next.Statement.{statement}
+use Rattle.cio.proofs.transfer.record_next.Tie as tie
+
+ended-requires : tie.Need-ended-requires
+ended-requires c κs = search needs
+
+returns : tie.Need-returns
+returns c = search record-end
+
+returns-2 : tie.Need-returns-2
+returns-2 c = search record-on
+
+pub record-next-spec : {M : Type 1} → statement M
+record-next-spec = tie.close (tie.spec ended-requires returns returns-2)
