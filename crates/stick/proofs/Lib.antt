@@ -1,0 +1,3 @@
+pub mod Guards
+pub mod Acts
+pub mod Decided

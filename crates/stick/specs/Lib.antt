@@ -1,0 +1,2 @@
+pub mod Stick
+pub mod Calls
