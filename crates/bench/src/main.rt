@@ -1,14 +1,23 @@
-// Runs document 01's bench cases 6 to 11 as far as they speak of the console's handlers, from a screen filled with $FF, and
-// prints what each gives: a line a case, bytes and statuses in hexadecimal.
-use console::Handler;
+// Runs document 01's bench cases 1 to 12 through the five calls, each from a damaged state and buffers filled with $FF before its
+// fresh start, and prints what they give: a line a case, bytes in hexadecimal, ticks and the cursor in decimal.
 use console::state::Console;
-use handler::Done;
-use handler::Got;
 use libc::STDOUT_FILENO;
-ghost use Rattle.cells.specs.Cells.{Whole};
+use state::Stick;
+
+mod talk;
 
 fn say(text: &[u8]) {
     io::write_all(STDOUT_FILENO, text);
+}
+
+// A character of a label; a bar ends the line.
+fn say_character(character: u8) {
+    if character == b'|' {
+        say(b"\n");
+        return;
+    }
+    let text = [character];
+    say(&text);
 }
 
 fn say_byte(byte: u8) {
@@ -16,138 +25,108 @@ fn say_byte(byte: u8) {
     io::print_hex(STDOUT_FILENO, byte as u64, 2);
 }
 
-fn say_number(number: u16) {
+fn say_number(number: usize) {
     say(b" ");
     io::print_decimal(STDOUT_FILENO, number as u64);
 }
 
-// A character as it is, a refusal by its status.
-fn say_got(got: Got) {
-    match got {
-        Got::Character(byte) => {
-            say(b" got");
-            say_byte(byte);
-        }
-        Got::Refused(status) => {
-            say(b" refused");
-            say_byte(status);
-        }
+// How many ticks there were after the start.
+fn say_ticks(ticks: usize) {
+    if 1 < ticks {
+        say(b" after");
+        say_number(ticks - 1);
     }
 }
 
-fn say_done(done: Done) {
-    match done {
-        Done::Success => say(b""),
-        Done::Refused(status) => {
-            say(b" refused");
-            say_byte(status);
-        }
-    }
-}
-
-fn put(handler: Handler, console: Console, screen: &mut [u8], byte: u8) -> Console
-    requires { ⌜ Whole (now screen) ⌝ }
-{
-    let w = console::write(handler, console, screen, byte);
-    let done = w.done;
-    say_done(done);
-    w.console
-}
-
-fn get(handler: Handler, console: Console, screen: &mut [u8]) -> Console
-    requires { ⌜ Whole (now screen) ⌝ }
-{
-    let r = console::read(handler, console, screen);
-    let got = r.got;
-    say_got(got);
-    r.console
-}
-
-// A key pressed, and a GET from K.
-fn key(console: Console, screen: &mut [u8], code: u8) -> Console
-    requires { ⌜ Whole (now screen) ⌝ }
-{
-    get(Handler::K, console.press(code), screen)
-}
-
-// AB and EOL on a fresh E.
-fn put_ab(screen: &mut [u8]) -> Console
-    requires { ⌜ Whole (now screen) ⌝ }
-{
-    let fresh = console::fresh(screen);
-    let a = put(Handler::E, fresh, screen, 0x41);
-    let ab = put(Handler::E, a, screen, 0x42);
-    put(Handler::E, ab, screen, 0x9B)
-}
-
-fn case_6(screen: &mut [u8]) -> Console
-    requires { ⌜ Whole (now screen) ⌝ }
-{
-    say(b"6");
-    let line = put_ab(screen);
-    say(b" cells");
-    say_byte(base::byte_at(screen, 2));
-    say_byte(base::byte_at(screen, 3));
+fn say_cursor(console: Console) {
     say(b" cursor");
-    say_number(line.row);
-    say_number(line.column);
-    say(b"\n");
-    line
+    say_number(console.row as usize);
+    say_number(console.column as usize);
 }
 
-fn case_7(console: Console, screen: &mut [u8])
-    requires { ⌜ Whole (now screen) ⌝ }
-{
-    say(b"7");
-    let up = put(Handler::E, console, screen, 0x1C);
-    let first = get(Handler::E, up, screen);
-    let second = get(Handler::E, first, screen);
-    get(Handler::E, second, screen);
-    say(b"\n");
+// A state that no call reaches: more paper is used than there is.
+fn damaged() -> Stick {
+    let fresh = stick::one::fresh_stick(Console::fresh());
+    let port0 = fresh.port0;
+    let port1 = fresh.port1;
+    let console = fresh.console;
+    Stick {
+        port0: port0,
+        port1: port1,
+        console: console,
+        printer: printer::Printer { used: 60000 },
+    }
 }
 
-fn case_8(screen: &mut [u8])
-    requires { ⌜ Whole (now screen) ⌝ }
-{
-    say(b"8");
-    let fresh = console::fresh(screen);
-    let capital = key(fresh, screen, 0x3F);
-    let unlocked = key(capital, screen, 0x3C);
-    key(unlocked, screen, 0x3F);
-    say(b"\n");
-}
-
-fn cases_9_and_10(screen: &mut [u8])
-    requires { ⌜ Whole (now screen) ⌝ }
-{
-    say(b"9");
-    let fresh = console::fresh(screen);
-    let control = key(fresh, screen, 0xBF);
-    say(b"\n10");
-    key(control, screen, 0x9A);
-    say(b"\n");
-}
-
-fn case_11(screen: &mut [u8])
-    requires { ⌜ Whole (now screen) ⌝ }
-{
-    say(b"11");
-    let fresh = console::fresh(screen);
-    let opened = console::open(Handler::S, fresh, screen, 0x08, 3);
-    let done = opened.done;
-    say_done(done);
-    put(Handler::S, opened.console, screen, 5);
-    say(b" cell");
-    say_byte(base::byte_at(screen, 0));
-    say(b"\n");
+// Plays a script of pairs, an op and its operand: F fresh start; T take a byte; R tick until the port replies, and say how many
+// ticks that took; Q the same, unsaid; G give the whole reply and show it; S the same, unshown; P press a key; C show a cell, A a
+// byte of the area, U the cursor; L say a character.
+fn play(script: &[u8]) {
+    let mut some_rooms = [0xFFu8; 520];
+    let mut some_area = [0xFFu8; 32768];
+    let mut some_screen = [0xFFu8; 61440];
+    let mut some_paper = [0xFFu8; 4096];
+    let rooms: &mut [u8] = &mut some_rooms;
+    let area: &mut [u8] = &mut some_area;
+    let screen: &mut [u8] = &mut some_screen;
+    let paper: &mut [u8] = &mut some_paper;
+    let mut stick = damaged();
+    let mut i: usize = 0;
+    while i < 1024 {
+        let op = base::byte_at(script, 2 * i);
+        let operand = base::byte_at(script, 2 * i + 1);
+        match op {
+            b'L' => say_character(operand),
+            b'C' => say_byte(base::byte_at(screen, operand as usize)),
+            b'A' => say_byte(base::byte_at(area, operand as usize)),
+            b'U' => say_cursor(stick.console),
+            _ => {
+                stick = talk::perform(op, operand, stick, rooms, area, screen, paper);
+            }
+        }
+        i += 1;
+    }
 }
 
 fn main() {
-    let mut cells = [0xFFu8; 61440];
-    let screen: &mut [u8] = &mut cells;
-    let console = case_6(screen);
-    case_7(console, screen);
-    case_8(screen);
-    cases_9_and_10(screen);
-    case_11(screen);
+    // Cases 1 to 4: a LOAD, an OPEN of E, IOCB 8, GET on a closed block.
+    play(
+        b"F L1T\x11T\x05T\x00T\x00T\x00T\x45T\x3AT\x9BR G L|L2T\x10T\x09T\x00T\x00T\x03T\x00T\x00T\x00T\x00T\x0DT\x00T\x00R G L|L3T\x10T\x09T\x00T\x08T\x03T\x00T\x00T\x00T\x00T\x0DT\x00T\x00R G L|L4T\x10T\x09T\x00T\x01T\x07T\x00T\x00T\x01T\x00T\x00T\x00T\x00R G L|",
+    );
+    // Case 5: PUT CHARACTERS at 16,383, of length 1 and 2.
+    play(
+        b"F T\x11T\x05T\x00T\x00T\x00T\x45T\x3AT\x9BQ S T\x10T\x09T\x00T\x00T\x03T\x00T\x00T\x00T\x00T\x0DT\x00T\x00Q S L5T\x10T\x09T\x00T\x00T\x0BT\xFFT\x3FT\x01T\x00T\x00T\x00T\x00R G T\x10T\x09T\x00T\x00T\x0BT\xFFT\x3FT\x02T\x00T\x00T\x00T\x00R G L|",
+    );
+    // Case 6: PUT RECORD of AB; cells (0,2) and (0,3), and the cursor.
+    play(
+        b"F L6T\x11T\x05T\x00T\x00T\x00T\x45T\x3AT\x9BQ S T\x10T\x09T\x00T\x00T\x03T\x00T\x00T\x00T\x00T\x0DT\x00T\x00Q S T\x11T\x05T\x00T\x10T\x00T\x41T\x42T\x1CQ S T\x10T\x09T\x00T\x00T\x09T\x10T\x00T\x02T\x00T\x00T\x00T\x00R G C\x02C\x03U L|",
+    );
+    // Case 7: then PUT CHARACTERS $1C and GET RECORD of length 10 at 32; the area there.
+    play(
+        b"F L7T\x11T\x05T\x00T\x00T\x00T\x45T\x3AT\x9BQ S T\x10T\x09T\x00T\x00T\x03T\x00T\x00T\x00T\x00T\x0DT\x00T\x00Q S T\x11T\x05T\x00T\x10T\x00T\x41T\x42T\x1CQ S T\x10T\x09T\x00T\x00T\x09T\x10T\x00T\x02T\x00T\x00T\x00T\x00R G T\x10T\x09T\x00T\x00T\x0BT\x12T\x00T\x01T\x00T\x00T\x00T\x00Q S T\x10T\x09T\x00T\x00T\x05T\x20T\x00T\x0AT\x00T\x00T\x00T\x00R G A\x20A\x21A\x22L|",
+    );
+    // Case 7: then PUT CHARACTERS $1C and GET RECORD of length 3 at 32; the area there.
+    play(
+        b"F L7T\x11T\x05T\x00T\x00T\x00T\x45T\x3AT\x9BQ S T\x10T\x09T\x00T\x00T\x03T\x00T\x00T\x00T\x00T\x0DT\x00T\x00Q S T\x11T\x05T\x00T\x10T\x00T\x41T\x42T\x1CQ S T\x10T\x09T\x00T\x00T\x09T\x10T\x00T\x02T\x00T\x00T\x00T\x00R G T\x10T\x09T\x00T\x00T\x0BT\x12T\x00T\x01T\x00T\x00T\x00T\x00Q S T\x10T\x09T\x00T\x00T\x05T\x20T\x00T\x03T\x00T\x00T\x00T\x00R G A\x20A\x21A\x22L|",
+    );
+    // Case 7: then PUT CHARACTERS $1C and GET RECORD of length 2 at 32; the area there.
+    play(
+        b"F L7T\x11T\x05T\x00T\x00T\x00T\x45T\x3AT\x9BQ S T\x10T\x09T\x00T\x00T\x03T\x00T\x00T\x00T\x00T\x0DT\x00T\x00Q S T\x11T\x05T\x00T\x10T\x00T\x41T\x42T\x1CQ S T\x10T\x09T\x00T\x00T\x09T\x10T\x00T\x02T\x00T\x00T\x00T\x00R G T\x10T\x09T\x00T\x00T\x0BT\x12T\x00T\x01T\x00T\x00T\x00T\x00Q S T\x10T\x09T\x00T\x00T\x05T\x20T\x00T\x02T\x00T\x00T\x00T\x00R G A\x20A\x21A\x22L|",
+    );
+    // Case 8: keys $3F, $3C and $3F, each with a GET of length 0.
+    play(
+        b"F L8T\x11T\x04T\x00T\x40T\x00T\x4BT\x3AQ S T\x10T\x09T\x00T\x01T\x03T\x40T\x00T\x00T\x00T\x04T\x00T\x00Q S P\x3FT\x10T\x09T\x00T\x01T\x07T\x00T\x00T\x00T\x00T\x00T\x00T\x00R G P\x3CT\x10T\x09T\x00T\x01T\x07T\x00T\x00T\x00T\x00T\x00T\x00T\x00R G P\x3FT\x10T\x09T\x00T\x01T\x07T\x00T\x00T\x00T\x00T\x00T\x00T\x00R G L|",
+    );
+    // Cases 9 and 10: keys $BF and $9A.
+    play(
+        b"F L9T\x11T\x04T\x00T\x40T\x00T\x4BT\x3AQ S T\x10T\x09T\x00T\x01T\x03T\x40T\x00T\x00T\x00T\x04T\x00T\x00Q S P\xBFT\x10T\x09T\x00T\x01T\x07T\x00T\x00T\x00T\x00T\x00T\x00T\x00R G L|L1L0P\x9AT\x10T\x09T\x00T\x01T\x07T\x00T\x00T\x00T\x00T\x00T\x00T\x00R G L|",
+    );
+    // Case 11: mode 3, PUT 5; cell (0,0).
+    play(
+        b"F L1L1T\x11T\x05T\x00T\x50T\x00T\x53T\x3AT\x05Q S T\x10T\x09T\x00T\x02T\x03T\x50T\x00T\x00T\x00T\x0CT\x03T\x00Q S T\x10T\x09T\x00T\x02T\x0BT\x52T\x00T\x01T\x00T\x00T\x00T\x00R G C\x00L|",
+    );
+    // Case 12: mode 8, GET RECORD of length 1.
+    play(
+        b"F L1L2T\x11T\x05T\x00T\x50T\x00T\x53T\x3AT\x05Q S T\x10T\x09T\x00T\x02T\x03T\x50T\x00T\x00T\x00T\x0CT\x08T\x00Q S T\x10T\x09T\x00T\x02T\x05T\x00T\x01T\x01T\x00T\x00T\x00T\x00R G L|",
+    );
 }

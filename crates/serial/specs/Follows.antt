@@ -1,0 +1,25 @@
+-- A core follows the machine when each of its calls, as it is seen, does and answers what the machine's does. This is what is
+-- asked of the code: its world is the state with the lent buffers. Assumes nothing.
+use mathlib.Core.Path.{_≡_}
+use Rattle.serial.specs.Machine.{Machine}
+use Rattle.serial.specs.Core.{Call, Core}
+use Rattle.serial.specs.Calls.{FreshView, callOf}
+use Rattle.serial.specs.Run.{OkCall, Begun, Reached}
+use Rattle.serial.specs.Undamaged.{Undamaged}
+use Rattle.serial.specs.Demand1.{Refused, RefusedRule}
+
+module _ (M : Machine) (C : Core M) where
+  pub record Follows : Type 0 where
+    pub fresh-is : (w : C .World) → Begun M C w → FreshView M (C .see w)
+    pub world-is : (w : C .World) → Reached M C w → (c : Call M) → OkCall M c → C .see (C .call c w .world) ≡ callOf M c (C .see w) .world
+    pub answer-is : (w : C .World) → Reached M C w → (c : Call M) → OkCall M c → C .call c w .answer ≡ callOf M c (C .see w) .answer
+    pub refused : RefusedRule M C
+
+  -- so much is enough for it: from a world that is sound, and seen not to be damaged, each call does what the machine's does
+  -- and leaves a sound one. Sound is what is not seen: numbers of the state that stand for no more than their place.
+  pub record Steps (Sound : C .World → Type 0) : Type 0 where
+    pub begins : (w : C .World) → Begun M C w → FreshView M (C .see w) × Sound w
+    pub world-is : (w : C .World) → Sound w → Undamaged M (C .see w) → (c : Call M) → OkCall M c → C .see (C .call c w .world) ≡ callOf M c (C .see w) .world
+    pub answer-is : (w : C .World) → Sound w → Undamaged M (C .see w) → (c : Call M) → OkCall M c → C .call c w .answer ≡ callOf M c (C .see w) .answer
+    pub sound : (w : C .World) → Sound w → Undamaged M (C .see w) → (c : Call M) → OkCall M c → Sound (C .call c w .world)
+    pub refused : (w : C .World) → Sound w → Undamaged M (C .see w) → (c : Call M) → OkCall M c → Refused M (C .call c w .answer) → C .call c w .world ≡ w

@@ -1,0 +1,11 @@
+pub mod Machine
+pub mod Core
+pub mod Calls
+pub mod Run
+pub mod Reading
+pub mod Undamaged
+pub mod Demand1
+pub mod Demand2
+pub mod Demand3
+pub mod Laws
+pub mod Follows
