@@ -46,7 +46,7 @@ fn say_cursor(console: Console) {
 
 // A state that no call reaches: more paper is used than there is.
 fn damaged() -> Stick {
-    let fresh = stick::one::fresh_stick(Console::fresh());
+    let fresh = stick::fresh_stick(Console::fresh());
     let port0 = fresh.port0;
     let port1 = fresh.port1;
     let console = fresh.console;

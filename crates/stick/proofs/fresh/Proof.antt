@@ -7,8 +7,8 @@ use Rattle.stick.proofs.fresh.Tie as tie
 lengths-fit-requires : tie.Need-lengths-fit-requires
 lengths-fit-requires c κs = search needs
 
-fresh-requires : tie.Need-fresh-requires
-fresh-requires c κs = lengths-fit _ _ (c .before .before .before .before .before .lengths-fit .ensures) (c .before .before .before .before .if1 .taken)
+fresh-all-requires : tie.Need-fresh-all-requires
+fresh-all-requires c κs = lengths-fit _ _ (c .before .before .before .before .before .lengths-fit .ensures) (c .before .before .before .before .if1 .taken)
 
 same-length : tie.Need-same-length
 same-length c = search needs
@@ -45,7 +45,7 @@ fresh-spec =
     tie.close
     (tie.spec
     lengths-fit-requires
-    fresh-requires
+    fresh-all-requires
     same-length
     same-length-2
     same-length-3

@@ -6,8 +6,8 @@ use Rattle.stick.proofs.press.Tie as tie
 refusal-requires : tie.Need-refusal-requires
 refusal-requires c κs = search needs
 
-press-requires : tie.Need-press-requires
-press-requires c κs = search needs
+press-key-requires : tie.Need-press-key-requires
+press-key-requires c κs = search needs
 
 same-length : tie.Need-same-length
 same-length c = search needs
@@ -44,7 +44,7 @@ press-spec =
     tie.close
     (tie.spec
     refusal-requires
-    press-requires
+    press-key-requires
     same-length
     same-length-2
     same-length-3

@@ -1,0 +1,45 @@
+use Prim.Native.Nat.{_≤_, _-_}
+use borrow.Author.Needs.{needs}
+use Rattle.play.proofs.dump.write_table.Statement.{statement}
+use Rattle.play.proofs.dump.write_table.Tie as tie
+
+abbrev Inv-loop : tie.InvT-loop
+Inv-loop table i₀ i = i ≤ 8
+
+abbrev μ-loop : tie.MeasureT-loop
+μ-loop table i₀ i = 8 - i
+
+loop-holds : tie.Need-loop-holds Inv-loop μ-loop
+loop-holds c = search needs
+
+block-requires : tie.Need-block-requires Inv-loop μ-loop
+block-requires c κs = search needs
+
+write-block-requires : tie.Need-write-block-requires Inv-loop μ-loop
+write-block-requires c κs = search needs
+
+add-i : tie.Need-add-i Inv-loop μ-loop
+add-i c = search needs
+
+loop-less : tie.Need-loop-less Inv-loop μ-loop
+loop-less c = search needs
+
+loop-again : tie.Need-loop-again Inv-loop μ-loop
+loop-again c = search needs
+
+returns : tie.Need-returns Inv-loop μ-loop
+returns c = search needs
+
+pub write-table-spec : {M : Type 1} → statement M
+write-table-spec =
+    tie.close
+    (tie.spec
+    Inv-loop
+    μ-loop
+    loop-holds
+    block-requires
+    write-block-requires
+    add-i
+    loop-less
+    loop-again
+    returns)

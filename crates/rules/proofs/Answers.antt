@@ -1,0 +1,601 @@
+-- Document 01, Calls: "Numbers 1 to 8 change nothing, and each is given exactly then. Order: 2, 3, 1, the rest; fresh start gives
+-- 0 or 2 only." Of each call: what a refusal leaves, when each number is given, and that there is no other.
+-- Assumes nothing.
+use mathlib.Core.Path.{_≡_, _∙_, refl, sym, ap, subst}
+use mathlib.Core.Logic.{_↔_, _⊎_, inl, inr, ⊎-elim}
+use mathlib.Core.Bool.{Bool, true, false}
+use mathlib.Core.List.{List, [], _∷_, _++_}
+use Prim.Native.Nat.{ℕ, _<_, _≤_}
+use native.Mathlib.Omega.{arith}
+use lib.Dec.{T, eqb, ltb, leb}
+use lib.ListN.{take, drop, take-append-drop}
+use borrow.Author.Tests.{eqb-true, ltb-true, ltb-false, leb-true}
+use Rattle.base.specs.Choice.{pick, choose, and, or}
+use Rattle.base.proofs.Choices.{choose-go, and-left, and-right, by-test}
+use Rattle.blocks.specs.declared.Device.{Device}
+use Rattle.blocks.specs.declared.Device.the-variants.{E, S, K, P}
+use Rattle.blocks.specs.declared.Header.{Header}
+use Rattle.blocks.specs.declared.Phase.{Phase}
+use Rattle.blocks.specs.declared.Phase.the-variants.{Gathering, Ready, Running, Replying}
+use Rattle.blocks.specs.declared.Port.{Port}
+use Rattle.wire.specs.Messages.{messageOf}
+use Rattle.cio.specs.declared.plan.Group.{Group}
+use Rattle.cio.specs.declared.plan.Group.the-variants as groups
+use Rattle.cio.specs.Plan.{needOf}
+use Rattle.state.specs.declared.Stick.{Stick}
+use Rattle.state.specs.Fits.{deviceGroup, heldOf, clash, stickFits}
+use Rattle.port.specs.declared.PortCall.{PortCall}
+use Rattle.port.specs.Port.{Reach, Ticked, ticked, readyTick, tickPort, Offered, offered, takePort, gives, givePort}
+use Rattle.stick.specs.Stick.{Lent, lent, Outcome, outcome, refused, lengthsFit, refusalOf, LengthsFit, Guarded, portAt, otherAt, withPort, withPart, areaAt, roomAt, withRoom, reachAt, withReach, lentReach}
+use Rattle.stick.specs.Calls.{freshOf, guarded, takeAt, takeOf, tickAt, tickOf, giveAt, giveOf, consoleHeld, pressAt, pressOf}
+use Rattle.stick.proofs.Guards.{lengths-all, lengths-of}
+
+-- "2 a lent buffer has another length", shorter or longer
+abbrev pub OtherLength : Lent → Type 0
+OtherLength l = LengthsFit l → ⊥
+
+-- "3 damaged state", where the lengths fit
+pub record Damaged (s : Stick) (l : Lent) : Type 0 where
+  pub lengths : LengthsFit l
+  pub damaged : stickFits s ≡ false
+
+-- "1 port above 1", where the lengths fit and the state is undamaged
+pub record Above (s : Stick) (l : Lent) (port : ℕ) : Type 0 where
+  pub sound : Guarded s l
+  pub above : 1 < port
+
+-- "the rest": none of the three
+pub record Called (s : Stick) (l : Lent) (port : ℕ) : Type 0 where
+  pub sound : Guarded s l
+  pub has : port ≤ 1
+
+-- "the rest" by what the port does: "A port gathers, is ready, runs, replies"
+pub record PortIs (Is : Phase → Type 0) (s : Stick) (l : Lent) (port : ℕ) : Type 0 where
+  pub called : Called s l port
+  pub phase : Is (portAt port s .phase)
+
+abbrev pub Gathers : Phase → Type 0
+Gathers (Gathering gather) = Unit {0}
+Gathers (Ready header) = ⊥
+Gathers (Running run) = ⊥
+Gathers (Replying reply) = ⊥
+
+abbrev pub IsReady : Phase → Type 0
+IsReady (Gathering gather) = ⊥
+IsReady (Ready header) = Unit {0}
+IsReady (Running run) = ⊥
+IsReady (Replying reply) = ⊥
+
+abbrev pub Runs : Phase → Type 0
+Runs (Gathering gather) = ⊥
+Runs (Ready header) = ⊥
+Runs (Running run) = Unit {0}
+Runs (Replying reply) = ⊥
+
+abbrev pub Replies : Phase → Type 0
+Replies (Gathering gather) = ⊥
+Replies (Ready header) = ⊥
+Replies (Running run) = ⊥
+Replies (Replying reply) = Unit {0}
+
+-- "4 byte offered while not gathering"
+abbrev pub NotGathers : Phase → Type 0
+NotGathers phase = Gathers phase → ⊥
+
+-- "5 no reply byte to give"
+abbrev pub NotReplies : Phase → Type 0
+NotReplies phase = Replies phase → ⊥
+
+-- "7 tick, nothing ready or running"
+abbrev pub Idle : Phase → Type 0
+Idle phase = (IsReady phase → ⊥) × (Runs phase → ⊥)
+
+-- "A request holds only the group it needs, from its start tick through its last."
+abbrev pub Holds : Phase → Group → Type 0
+Holds (Gathering gather) group = ⊥
+Holds (Ready header) group = ⊥
+Holds (Running run) group = deviceGroup (run .device) ≡ group
+Holds (Replying reply) group = ⊥
+
+-- "6 key pressed while a request holds the console"
+pub record ConsoleHeld (s : Stick) (l : Lent) : Type 0 where
+  pub sound : Guarded s l
+  pub held : Holds (s .port0 .phase) groups.Console ⊎ Holds (s .port1 .phase) groups.Console
+
+-- no request does
+pub record ConsoleFree (s : Stick) (l : Lent) : Type 0 where
+  pub sound : Guarded s l
+  pub free : (Holds (s .port0 .phase) groups.Console ⊎ Holds (s .port1 .phase) groups.Console) → ⊥
+
+-- the group that a port's ready message needs: "A CALL past the $82 check needs its device's group; CLOSE of a closed block, LOAD,
+-- FETCH and refused messages need none"
+abbrev pub needAt : Header → (port : ℕ) → Stick → Lent → Group
+needAt header port s l = needOf (messageOf header (roomAt port l)) (portAt port s .table) (areaAt port l)
+
+-- "8 tick, ready, group held by the other port"
+abbrev pub Waits : Stick → Lent → (port : ℕ) → Phase → Type 0
+Waits s l port (Gathering gather) = ⊥
+Waits s l port (Ready header) = Holds (otherAt port s .phase) (needAt header port s l)
+Waits s l port (Running run) = ⊥
+Waits s l port (Replying reply) = ⊥
+
+-- a tick that is done: the port runs, or is ready and the other port does not hold the group
+abbrev pub Goes : Stick → Lent → (port : ℕ) → Phase → Type 0
+Goes s l port (Gathering gather) = ⊥
+Goes s l port (Ready header) = Holds (otherAt port s .phase) (needAt header port s l) → ⊥
+Goes s l port (Running run) = Unit {0}
+Goes s l port (Replying reply) = ⊥
+
+-- one of these numbers
+abbrev pub oneOf : List ℕ → ℕ → Bool
+oneOf [] answer = false
+oneOf (n ∷ ns) answer = or (eqb answer n) (oneOf ns answer)
+
+-- "fresh start gives 0 or 2 only"
+pub record FreshAnswers (l : Lent) (answer : ℕ) : Type 0 where
+  -- "2 a lent buffer has another length"
+  pub lengths : (answer ≡ 2) ↔ OtherLength l
+  pub done : (answer ≡ 0) ↔ LengthsFit l
+  pub numbers : oneOf (0 ∷ 2 ∷ []) answer ≡ true
+
+-- "Order: 2, 3, 1, the rest"
+pub record FirstAnswers (s : Stick) (l : Lent) (port answer : ℕ) : Type 0 where
+  -- "2 a lent buffer has another length"
+  pub lengths : (answer ≡ 2) ↔ OtherLength l
+  -- "3 damaged state"
+  pub damaged : (answer ≡ 3) ↔ Damaged s l
+  -- "1 port above 1"
+  pub above : (answer ≡ 1) ↔ Above s l port
+
+pub record TakeAnswers (s : Stick) (l : Lent) (port answer : ℕ) : Type 0 where
+  pub first : FirstAnswers s l port answer
+  -- "4 byte offered while not gathering"
+  pub offered : (answer ≡ 4) ↔ PortIs NotGathers s l port
+  pub done : (answer ≡ 0) ↔ PortIs Gathers s l port
+  pub numbers : oneOf (0 ∷ 1 ∷ 2 ∷ 3 ∷ 4 ∷ []) answer ≡ true
+
+pub record TickAnswers (s : Stick) (l : Lent) (port answer : ℕ) : Type 0 where
+  pub first : FirstAnswers s l port answer
+  -- "7 tick, nothing ready or running"
+  pub idle : (answer ≡ 7) ↔ PortIs Idle s l port
+  -- "8 tick, ready, group held by the other port"
+  pub waits : (answer ≡ 8) ↔ PortIs (Waits s l port) s l port
+  pub done : (answer ≡ 0) ↔ PortIs (Goes s l port) s l port
+  pub numbers : oneOf (0 ∷ 1 ∷ 2 ∷ 3 ∷ 7 ∷ 8 ∷ []) answer ≡ true
+
+pub record GiveAnswers (s : Stick) (l : Lent) (port answer : ℕ) : Type 0 where
+  pub first : FirstAnswers s l port answer
+  -- "5 no reply byte to give"
+  pub none : (answer ≡ 5) ↔ PortIs NotReplies s l port
+  pub done : (answer ≡ 0) ↔ PortIs Replies s l port
+  pub numbers : oneOf (0 ∷ 1 ∷ 2 ∷ 3 ∷ 5 ∷ []) answer ≡ true
+
+-- a key has no port
+pub record PressAnswers (s : Stick) (l : Lent) (answer : ℕ) : Type 0 where
+  -- "2 a lent buffer has another length"
+  pub lengths : (answer ≡ 2) ↔ OtherLength l
+  -- "3 damaged state"
+  pub damaged : (answer ≡ 3) ↔ Damaged s l
+  -- "6 key pressed while a request holds the console"
+  pub held : (answer ≡ 6) ↔ ConsoleHeld s l
+  pub done : (answer ≡ 0) ↔ ConsoleFree s l
+  pub numbers : oneOf (0 ∷ 2 ∷ 3 ∷ 6 ∷ []) answer ≡ true
+
+-- none above 8
+abbrev low : List ℕ → Bool
+low [] = true
+low (n ∷ ns) = and (leb n 8) (low ns)
+
+pub never : {b : Bool} → b ≡ true → b ≡ false → ⊥
+never t f = subst T (sym t ∙ f) tt
+
+most : (ns : List ℕ) (n : ℕ) → low ns ≡ true → oneOf ns n ≡ true → n ≤ 8
+most [] n a e = absurd (never e refl)
+most (m ∷ ns) n a e =
+    by-test (eqb n m)
+    (λ t. let h = leb-true m 8 (and-left (leb m 8) (low ns) a) in let q = eqb-true n m t in omega arith)
+    (λ t. most ns n (and-right (leb m 8) (low ns) a) (rw t at e))
+
+pub fit-of : (l : Lent) → LengthsFit l → lengthsFit l ≡ true
+fit-of l w = sym (lengths-all l (w .rooms) (w .area) (w .whole .all) (w .paper))
+
+other-of : (l : Lent) → lengthsFit l ≡ false → OtherLength l
+other-of l f w = never (fit-of l w) f
+
+-- "Order: 2, 3, 1, the rest"
+module _ (s : Stick) (l : Lent) (call : Unit {0} → Outcome) (C : Outcome → Type 0) where
+  by-tests : (a b c : Bool) → (a ≡ false → C (refused 2 s l)) → (a ≡ true → b ≡ false → C (refused 3 s l))
+      → (a ≡ true → b ≡ true → c ≡ false → C (refused 1 s l)) → (a ≡ true → b ≡ true → c ≡ true → C (call tt))
+      → C (guarded (pick a (pick b (pick c 0 1) 3) 2) s l call)
+  by-tests true true true two three one rest = rest refl refl refl
+  by-tests true true false two three one rest = one refl refl refl
+  by-tests true false c two three one rest = three refl refl
+  by-tests false b c two three one rest = two refl
+
+  pub by-order : (port : ℕ) → (OtherLength l → C (refused 2 s l)) → (Damaged s l → C (refused 3 s l)) → (Above s l port → C (refused 1 s l)) → (Called s l port → C (call tt))
+      → C (guarded (refusalOf s l port) s l call)
+  unfolding refusalOf
+  by-order port two three one rest =
+      by-tests (lengthsFit l) (stickFits s) (ltb port 2)
+      (λ a. two (other-of l a))
+      (λ a b. three (record { lengths = lengths-of l a; damaged = b }))
+      (λ a b c. one (record { sound = record { lengths = lengths-of l a; fits = b }; above = ltb-false port 2 c }))
+      (λ a b c. rest (record { sound = record { lengths = lengths-of l a; fits = b }; has = let h = ltb-true port 2 c in omega arith }))
+
+-- of any call that a port's own part `call` follows, whose numbers are 0 or above 3
+abbrev Own : ℕ → Type 0
+Own n = (n ≡ 0 → ⊥) → 3 < n
+
+module _ (s : Stick) (l : Lent) (port : ℕ) (call : Unit {0} → Outcome) (own : Own (call tt .answer)) where
+  first-2 : (guarded (refusalOf s l port) s l call .answer ≡ 2) ↔ OtherLength l
+  first-2 = (
+    by-order s l call (λ (o : Outcome). o .answer ≡ 2 → OtherLength l) port
+        (λ w e. w) (λ d e. absurd (omega arith)) (λ a e. absurd (omega arith)) (λ c e. let h = own (λ z. omega arith) in absurd (omega arith)),
+    λ w. by-order s l call (λ (o : Outcome). o .answer ≡ 2) port
+        (λ v. refl) (λ d. absurd (w (d .lengths))) (λ a. absurd (w (a .sound .lengths))) (λ c. absurd (w (c .sound .lengths))),
+  )
+
+  first-3 : (guarded (refusalOf s l port) s l call .answer ≡ 3) ↔ Damaged s l
+  first-3 = (
+    by-order s l call (λ (o : Outcome). o .answer ≡ 3 → Damaged s l) port
+        (λ w e. absurd (omega arith)) (λ d e. d) (λ a e. absurd (omega arith)) (λ c e. let h = own (λ z. omega arith) in absurd (omega arith)),
+    λ w. by-order s l call (λ (o : Outcome). o .answer ≡ 3) port
+        (λ v. absurd (v (w .lengths))) (λ d. refl) (λ a. absurd (never (a .sound .fits) (w .damaged))) (λ c. absurd (never (c .sound .fits) (w .damaged))),
+  )
+
+  first-1 : (guarded (refusalOf s l port) s l call .answer ≡ 1) ↔ Above s l port
+  first-1 = (
+    by-order s l call (λ (o : Outcome). o .answer ≡ 1 → Above s l port) port
+        (λ w e. absurd (omega arith)) (λ d e. absurd (omega arith)) (λ a e. a) (λ c e. let h = own (λ z. omega arith) in absurd (omega arith)),
+    λ w. by-order s l call (λ (o : Outcome). o .answer ≡ 1) port
+        (λ v. absurd (v (w .sound .lengths))) (λ d. absurd (never (w .sound .fits) (d .damaged))) (λ a. refl) (λ c. absurd (omega (arith, c .has, w .above))),
+  )
+
+  module _ (n : ℕ) (m : Own n) where
+    rest-of : (W : Type 0) → (W → Called s l port) → (Called s l port → (call tt .answer ≡ n) ↔ W) → (guarded (refusalOf s l port) s l call .answer ≡ n) ↔ W
+    rest-of W k q = (
+      by-order s l call (λ (o : Outcome). o .answer ≡ n → W) port
+          (λ w e. let h = m (λ z. omega arith) in absurd (omega arith)) (λ w e. let h = m (λ z. omega arith) in absurd (omega arith)) (λ w e. let h = m (λ z. omega arith) in absurd (omega arith)) (λ c e. q c .0 e),
+      λ w. by-order s l call (λ (o : Outcome). o .answer ≡ n) port
+          (λ v. absurd (v (k w .sound .lengths))) (λ d. absurd (never (k w .sound .fits) (d .damaged))) (λ a. absurd (omega (arith, k w .has, a .above))) (λ c. q c .1 w),
+    )
+
+    phase-of : (Is : Phase → Type 0) → (call tt .answer ≡ n) ↔ Is (portAt port s .phase) → (guarded (refusalOf s l port) s l call .answer ≡ n) ↔ PortIs Is s l port
+    phase-of Is q = rest-of (PortIs Is s l port) (λ w. w .called) (λ c. (λ e. record { called = c; phase = q .0 e }, λ w. q .1 (w .phase)))
+
+  still : ((call tt .answer ≡ 0 → ⊥) → call tt ≡ refused (call tt .answer) s l)
+      → (guarded (refusalOf s l port) s l call .answer ≡ 0 → ⊥) → guarded (refusalOf s l port) s l call ≡ refused (guarded (refusalOf s l port) s l call .answer) s l
+  still q = by-order s l call (λ (o : Outcome). (o .answer ≡ 0 → ⊥) → o ≡ refused (o .answer) s l) port (λ w z. refl) (λ d z. refl) (λ a z. refl) (λ c z. q z)
+
+  first : FirstAnswers s l port (guarded (refusalOf s l port) s l call .answer)
+  first = record { lengths = first-2; damaged = first-3; above = first-1 }
+
+  numbers-of : (ns : List ℕ) → oneOf ns 1 ≡ true → oneOf ns 2 ≡ true → oneOf ns 3 ≡ true → oneOf ns (call tt .answer) ≡ true → oneOf ns (guarded (refusalOf s l port) s l call .answer) ≡ true
+  numbers-of ns one two three q = by-order s l call (λ (o : Outcome). oneOf ns (o .answer) ≡ true) port (λ w. two) (λ d. three) (λ a. one) (λ c. q)
+
+-- a call's own part goes one of two ways: it leaves all and answers a number, or it is done
+data Ways {A : Type 0} (answer : A → ℕ) (stay : A) (No Yes : Type 0) : A → Type 0 where
+  stays : No → (Yes → ⊥) → Ways answer stay No Yes stay
+  goes : (a : A) → answer a ≡ 0 → Yes → (No → ⊥) → Ways answer stay No Yes a
+
+module _ {A : Type 0} (answer : A → ℕ) (stay : A) where
+  by-choice : {No : Type 0} (b : Bool) (a : A) → answer a ≡ 0 → (b ≡ true) ↔ No → Ways answer stay No (No → ⊥) (choose b (λ u. stay) (λ u. a))
+  by-choice true a z q = stays (q .0 refl) (λ n. n (q .0 refl))
+  by-choice false a z q = goes a z (λ w. never (q .1 w) refl) (λ w. never (q .1 w) refl)
+
+  ways-own : {No Yes : Type 0} {a : A} → Ways answer stay No Yes a → 3 < answer stay → Own (answer a)
+  ways-own (stays n y) h z = h
+  ways-own (goes a e y n) h z = absurd (z e)
+
+  ways-no : {No Yes : Type 0} {a : A} → Ways answer stay No Yes a → (answer stay ≡ 0 → ⊥) → (answer a ≡ answer stay) ↔ No
+  ways-no (stays n y) h = (λ e. n, λ w. refl)
+  ways-no (goes a e y n) h = (λ q. absurd (h (sym q ∙ e)), λ w. absurd (n w))
+
+  ways-yes : {No Yes : Type 0} {a : A} → Ways answer stay No Yes a → (answer stay ≡ 0 → ⊥) → (answer a ≡ 0) ↔ Yes
+  ways-yes (stays n y) h = (λ e. absurd (h e), λ w. absurd (y w))
+  ways-yes (goes a e y n) h = (λ q. y, λ w. e)
+
+  ways-number : {No Yes : Type 0} {a : A} (ns : List ℕ) → Ways answer stay No Yes a → oneOf ns 0 ≡ true → oneOf ns (answer stay) ≡ true → oneOf ns (answer a) ≡ true
+  ways-number ns (stays n y) zero own = own
+  ways-number ns (goes a e y n) zero own = ap (oneOf ns) e ∙ zero
+
+  ways-back : {No Yes : Type 0} {a : A} → Ways answer stay No Yes a → (answer a ≡ 0 → ⊥) → a ≡ stay
+  ways-back (stays n y) z = refl
+  ways-back (goes a e y n) z = absurd (z e)
+
+named : (s : Stick) (l : Lent) (n : ℕ) (o : Outcome) → o ≡ refused n s l → o ≡ refused (o .answer) s l
+named s l n o q = q ∙ ap (λ (x : Outcome). refused (x .answer) s l) (sym q)
+
+-- what a call puts back as it was is as it was
+part-back : (n : ℕ) (xs : List ℕ) (b : Bool) → pick b (pick b (take n xs) (drop n xs) ++ drop n xs) (take n xs ++ pick b (take n xs) (drop n xs)) ≡ xs
+part-back n xs true = take-append-drop n xs
+part-back n xs false = take-append-drop n xs
+
+room-back : (port : ℕ) (l : Lent) → withRoom port (roomAt port l) l ≡ l
+room-back port l = ap (λ (xs : List ℕ). lent xs (l .area) (l .screen) (l .paper)) (part-back 260 (l .rooms) (eqb port 0))
+
+reach-back : (port : ℕ) (s : Stick) (l : Lent) → lentReach port (reachAt port s l) l ≡ l
+reach-back port s l =
+    ap (λ (xs : List ℕ). lent xs (withPart 16384 port (areaAt port l) (l .area)) (l .screen) (l .paper)) (part-back 260 (l .rooms) (eqb port 0))
+    ∙ ap (λ (xs : List ℕ). lent (l .rooms) xs (l .screen) (l .paper)) (part-back 16384 (l .area) (eqb port 0))
+
+port-back : (port : ℕ) (s : Stick) → withPort port (portAt port s) s ≡ s
+port-back port s = go (eqb port 0)
+  where
+    go : (b : Bool) → pick b (record { port0 = pick b (s .port0) (s .port1); port1 = s .port1; console = s .console; printer = s .printer }) (record { port0 = s .port0; port1 = pick b (s .port0) (s .port1); console = s .console; printer = s .printer }) ≡ s
+    go true = refl
+    go false = refl
+
+-- take
+take-ways : (phase : Phase) (port : Port) (room : List ℕ) (byte : ℕ) → Ways (λ (t : Offered). t .answer) (offered 4 0 port room) (NotGathers phase) (Gathers phase) (takePort phase port room byte)
+unfolding takePort
+take-ways (Gathering gather) port room byte = goes _ refl tt (λ w. w tt)
+take-ways (Ready header) port room byte = stays (λ w. w) (λ w. w)
+take-ways (Running run) port room byte = stays (λ w. w) (λ w. w)
+take-ways (Replying reply) port room byte = stays (λ w. w) (λ w. w)
+
+module _ (s : Stick) (l : Lent) (port byte : ℕ) where
+  -- "each is given exactly then"
+  pub take-answers : TakeAnswers s l port (takeOf s l port byte .answer)
+  unfolding takeOf takeAt
+  take-answers =
+      let call : Unit {0} → Outcome = (λ u. takeAt port s l byte) in
+      let w = take-ways (portAt port s .phase) (portAt port s) (roomAt port l) byte in
+      let own = ways-own _ _ w (omega arith) in
+      record {
+        first = first s l port call own;
+        offered = phase-of s l port call own 4 (λ z. omega arith) NotGathers (ways-no _ _ w (λ z. omega arith));
+        done = phase-of s l port call own 0 (λ z. absurd (z refl)) Gathers (ways-yes _ _ w (λ z. omega arith));
+        numbers = numbers-of s l port call own (0 ∷ 1 ∷ 2 ∷ 3 ∷ 4 ∷ []) refl refl refl (ways-number _ _ (0 ∷ 1 ∷ 2 ∷ 3 ∷ 4 ∷ []) w refl refl);
+      }
+
+  -- "Numbers 1 to 8 change nothing"; "A byte beside a refusal is 0."
+  pub take-still : (takeOf s l port byte .answer ≡ 0 → ⊥) → takeOf s l port byte ≡ refused (takeOf s l port byte .answer) s l
+  unfolding takeOf takeAt
+  take-still =
+      let w = take-ways (portAt port s .phase) (portAt port s) (roomAt port l) byte in
+      still s l port (λ u. takeAt port s l byte) (ways-own _ _ w (omega arith))
+      (λ z. named s l 4 (takeAt port s l byte)
+      (ap (λ (x : Offered). outcome (x .answer) (x .byte) (withPort port (x .port) s) (withRoom port (x .room) l)) (ways-back _ _ w z)
+      ∙ rw (port-back port s, room-back port l)))
+
+-- a group is held: by a running request on a device of it
+clash-none : (g : Group) → clash g groups.Nobody ≡ false
+clash-none groups.Nobody = refl
+clash-none groups.Console = refl
+clash-none groups.Printer = refl
+
+clash-same : (d : Device) (g : Group) → clash g (deviceGroup d) ≡ true → deviceGroup d ≡ g
+clash-same E groups.Nobody e = absurd (never e refl)
+clash-same E groups.Console e = refl
+clash-same E groups.Printer e = absurd (never e refl)
+clash-same S groups.Nobody e = absurd (never e refl)
+clash-same S groups.Console e = refl
+clash-same S groups.Printer e = absurd (never e refl)
+clash-same K groups.Nobody e = absurd (never e refl)
+clash-same K groups.Console e = refl
+clash-same K groups.Printer e = absurd (never e refl)
+clash-same P groups.Nobody e = absurd (never e refl)
+clash-same P groups.Console e = absurd (never e refl)
+clash-same P groups.Printer e = refl
+
+clash-self : (d : Device) → clash (deviceGroup d) (deviceGroup d) ≡ true
+clash-self E = refl
+clash-self S = refl
+clash-self K = refl
+clash-self P = refl
+
+pub clash-holds : (g : Group) (phase : Phase) → (clash g (heldOf phase) ≡ true) ↔ Holds phase g
+clash-holds g (Gathering gather) = (λ e. never e (clash-none g), λ w. absurd w)
+clash-holds g (Ready header) = (λ e. never e (clash-none g), λ w. absurd w)
+clash-holds g (Running run) = (clash-same (run .device) g, λ w. subst (λ (x : Group). clash x (deviceGroup (run .device)) ≡ true) w (clash-self (run .device)))
+clash-holds g (Replying reply) = (λ e. never e (clash-none g), λ w. absurd w)
+
+-- tick
+ready-ways : (s : Stick) (l : Lent) (port : ℕ) (header : Header)
+    → Ways (λ (t : Ticked). t .answer) (ticked 8 (reachAt port s l)) (Waits s l port (Ready header)) (Goes s l port (Ready header)) (readyTick header (heldOf (otherAt port s .phase)) (reachAt port s l))
+unfolding readyTick
+ready-ways s l port header = by-choice _ _ (clash (needAt header port s l) (heldOf (otherAt port s .phase))) _ refl (clash-holds (needAt header port s l) (otherAt port s .phase))
+
+module _ (s : Stick) (l : Lent) (port : ℕ) where
+  abbrev tickIn : Phase → Ticked
+  tickIn phase = tickPort phase (heldOf (otherAt port s .phase)) (reachAt port s l)
+
+  tick-own : (phase : Phase) → Own (tickIn phase .answer)
+  unfolding tickPort
+  tick-own (Gathering gather) z = omega arith
+  tick-own (Ready header) z = ways-own _ _ (ready-ways s l port header) (omega arith) z
+  tick-own (Running run) z = absurd (z refl)
+  tick-own (Replying reply) z = omega arith
+
+  tick-idle : (phase : Phase) → (tickIn phase .answer ≡ 7) ↔ Idle phase
+  unfolding tickPort
+  tick-idle (Gathering gather) = (λ e. (λ w. w, λ w. w), λ w. refl)
+  tick-idle (Ready header) =
+      let n = ways-number _ _ (0 ∷ 8 ∷ []) (ready-ways s l port header) refl refl in
+      (λ e. absurd (never n (ap (oneOf (0 ∷ 8 ∷ [])) e)), λ w. absurd (w .0 tt))
+  tick-idle (Running run) = (λ e. absurd (omega arith), λ w. absurd (w .1 tt))
+  tick-idle (Replying reply) = (λ e. (λ w. w, λ w. w), λ w. refl)
+
+  tick-waits : (phase : Phase) → (tickIn phase .answer ≡ 8) ↔ Waits s l port phase
+  unfolding tickPort
+  tick-waits (Gathering gather) = (λ e. absurd (omega arith), λ w. absurd w)
+  tick-waits (Ready header) = ways-no _ _ (ready-ways s l port header) (λ z. omega arith)
+  tick-waits (Running run) = (λ e. absurd (omega arith), λ w. absurd w)
+  tick-waits (Replying reply) = (λ e. absurd (omega arith), λ w. absurd w)
+
+  tick-goes : (phase : Phase) → (tickIn phase .answer ≡ 0) ↔ Goes s l port phase
+  unfolding tickPort
+  tick-goes (Gathering gather) = (λ e. absurd (omega arith), λ w. absurd w)
+  tick-goes (Ready header) = ways-yes _ _ (ready-ways s l port header) (λ z. omega arith)
+  tick-goes (Running run) = (λ e. tt, λ w. refl)
+  tick-goes (Replying reply) = (λ e. absurd (omega arith), λ w. absurd w)
+
+  tick-number : (phase : Phase) → oneOf (0 ∷ 1 ∷ 2 ∷ 3 ∷ 7 ∷ 8 ∷ []) (tickIn phase .answer) ≡ true
+  unfolding tickPort
+  tick-number (Gathering gather) = refl
+  tick-number (Ready header) = ways-number _ _ (0 ∷ 1 ∷ 2 ∷ 3 ∷ 7 ∷ 8 ∷ []) (ready-ways s l port header) refl refl
+  tick-number (Running run) = refl
+  tick-number (Replying reply) = refl
+
+  tick-back : (phase : Phase) → (tickIn phase .answer ≡ 0 → ⊥) → tickIn phase .reach ≡ reachAt port s l
+  unfolding tickPort
+  tick-back (Gathering gather) z = refl
+  tick-back (Ready header) z = ap (λ (t : Ticked). t .reach) (ways-back _ _ (ready-ways s l port header) z)
+  tick-back (Running run) z = absurd (z refl)
+  tick-back (Replying reply) z = refl
+
+  -- "each is given exactly then"
+  pub tick-answers : TickAnswers s l port (tickOf s l port .answer)
+  unfolding tickOf tickAt
+  tick-answers =
+      let call : Unit {0} → Outcome = (λ u. tickAt port s l) in
+      let phase = portAt port s .phase in
+      let own = tick-own phase in
+      record {
+        first = first s l port call own;
+        idle = phase-of s l port call own 7 (λ z. omega arith) Idle (tick-idle phase);
+        waits = phase-of s l port call own 8 (λ z. omega arith) (Waits s l port) (tick-waits phase);
+        done = phase-of s l port call own 0 (λ z. absurd (z refl)) (Goes s l port) (tick-goes phase);
+        numbers = numbers-of s l port call own (0 ∷ 1 ∷ 2 ∷ 3 ∷ 7 ∷ 8 ∷ []) refl refl refl (tick-number phase);
+      }
+
+  -- "Numbers 1 to 8 change nothing"; "A byte beside a refusal is 0."
+  pub tick-still : (tickOf s l port .answer ≡ 0 → ⊥) → tickOf s l port ≡ refused (tickOf s l port .answer) s l
+  unfolding tickOf tickAt
+  tick-still =
+      let phase = portAt port s .phase in
+      still s l port (λ u. tickAt port s l) (tick-own phase)
+      (λ z. ap (λ (x : Reach). outcome (tickIn phase .answer) 0 (withReach port x s) (lentReach port x l)) (tick-back phase z)
+      ∙ rw (port-back port s, reach-back port s l))
+
+-- give
+give-ways : (phase : Phase) (port : Port) (room : List ℕ) → Ways (λ (g : PortCall). g .answer) (gives 5 0 port) (NotReplies phase) (Replies phase) (givePort phase port room)
+unfolding givePort
+give-ways (Gathering gather) port room = stays (λ w. w) (λ w. w)
+give-ways (Ready header) port room = stays (λ w. w) (λ w. w)
+give-ways (Running run) port room = stays (λ w. w) (λ w. w)
+give-ways (Replying reply) port room = goes _ refl tt (λ w. w tt)
+
+module _ (s : Stick) (l : Lent) (port : ℕ) where
+  -- "each is given exactly then"
+  pub give-answers : GiveAnswers s l port (giveOf s l port .answer)
+  unfolding giveOf giveAt
+  give-answers =
+      let call : Unit {0} → Outcome = (λ u. giveAt port s l) in
+      let w = give-ways (portAt port s .phase) (portAt port s) (roomAt port l) in
+      let own = ways-own _ _ w (omega arith) in
+      record {
+        first = first s l port call own;
+        none = phase-of s l port call own 5 (λ z. omega arith) NotReplies (ways-no _ _ w (λ z. omega arith));
+        done = phase-of s l port call own 0 (λ z. absurd (z refl)) Replies (ways-yes _ _ w (λ z. omega arith));
+        numbers = numbers-of s l port call own (0 ∷ 1 ∷ 2 ∷ 3 ∷ 5 ∷ []) refl refl refl (ways-number _ _ (0 ∷ 1 ∷ 2 ∷ 3 ∷ 5 ∷ []) w refl refl);
+      }
+
+  -- "Numbers 1 to 8 change nothing"; "A byte beside a refusal is 0."
+  pub give-still : (giveOf s l port .answer ≡ 0 → ⊥) → giveOf s l port ≡ refused (giveOf s l port .answer) s l
+  unfolding giveOf giveAt
+  give-still =
+      let w = give-ways (portAt port s .phase) (portAt port s) (roomAt port l) in
+      still s l port (λ u. giveAt port s l) (ways-own _ _ w (omega arith))
+      (λ z. named s l 5 (giveAt port s l)
+      (ap (λ (x : PortCall). outcome (x .answer) (x .byte) (withPort port (x .port) s) l) (ways-back _ _ w z)
+      ∙ rw (port-back port s)))
+
+-- press
+module _ (s : Stick) where
+  held-of : (consoleHeld s ≡ true) ↔ (Holds (s .port0 .phase) groups.Console ⊎ Holds (s .port1 .phase) groups.Console)
+  held-of = (
+    λ e. by-or (clash groups.Console (heldOf (s .port0 .phase))) (clash groups.Console (heldOf (s .port1 .phase))) e
+        (λ t. inl (clash-holds groups.Console (s .port0 .phase) .0 t)) (λ t. inr (clash-holds groups.Console (s .port1 .phase) .0 t)),
+    ⊎-elim
+        (λ w. or-left (clash groups.Console (heldOf (s .port0 .phase))) (clash groups.Console (heldOf (s .port1 .phase))) (clash-holds groups.Console (s .port0 .phase) .1 w))
+        (λ w. or-right (clash groups.Console (heldOf (s .port0 .phase))) (clash groups.Console (heldOf (s .port1 .phase))) (clash-holds groups.Console (s .port1 .phase) .1 w)),
+  )
+    where
+      by-or : {W : Type 0} (a b : Bool) → or a b ≡ true → (a ≡ true → W) → (b ≡ true → W) → W
+      by-or true b e p q = p refl
+      by-or false b e p q = q e
+
+      or-left : (a b : Bool) → a ≡ true → or a b ≡ true
+      or-left true b e = refl
+      or-left false b e = absurd (never e refl)
+
+      or-right : (a b : Bool) → b ≡ true → or a b ≡ true
+      or-right true b e = refl
+      or-right false b e = e
+
+  -- a request holds the console
+  abbrev ConsoleRuns : Type 0
+  ConsoleRuns = Holds (s .port0 .phase) groups.Console ⊎ Holds (s .port1 .phase) groups.Console
+
+  press-ways : (l : Lent) (code : ℕ) → Ways (λ (o : Outcome). o .answer) (refused 6 s l) ConsoleRuns (ConsoleRuns → ⊥) (pressAt s l code)
+  unfolding pressAt
+  press-ways l code = by-choice _ _ (consoleHeld s) _ refl held-of
+
+module _ (s : Stick) (l : Lent) (code : ℕ) where
+  -- "each is given exactly then"
+  pub press-answers : PressAnswers s l (pressOf s l code .answer)
+  unfolding pressOf
+  press-answers =
+      let call : Unit {0} → Outcome = (λ u. pressAt s l code) in
+      let w = press-ways s l code in
+      let own = ways-own _ _ w (omega arith) in
+      let no = ways-no _ _ w (λ z. omega arith) in
+      let yes = ways-yes _ _ w (λ z. omega arith) in
+      record {
+        lengths = first-2 s l 0 call own;
+        damaged = first-3 s l 0 call own;
+        held =
+            rest-of s l 0 call own 6 (λ z. omega arith) (ConsoleHeld s l) (λ v. record { sound = v .sound; has = omega arith })
+            (λ c. (λ e. record { sound = c .sound; held = no .0 e }, λ v. no .1 (v .held)));
+        done =
+            rest-of s l 0 call own 0 (λ z. absurd (z refl)) (ConsoleFree s l) (λ v. record { sound = v .sound; has = omega arith })
+            (λ c. (λ e. record { sound = c .sound; free = yes .0 e }, λ v. yes .1 (v .free)));
+        numbers =
+            by-order s l call (λ (o : Outcome). oneOf (0 ∷ 2 ∷ 3 ∷ 6 ∷ []) (o .answer) ≡ true) 0
+            (λ v. refl) (λ d. refl) (λ a. absurd (omega (arith, a .above))) (λ c. ways-number _ _ (0 ∷ 2 ∷ 3 ∷ 6 ∷ []) w refl refl);
+      }
+
+  -- "Numbers 1 to 8 change nothing"; "A byte beside a refusal is 0."
+  pub press-still : (pressOf s l code .answer ≡ 0 → ⊥) → pressOf s l code ≡ refused (pressOf s l code .answer) s l
+  unfolding pressOf
+  press-still =
+      let w = press-ways s l code in
+      still s l 0 (λ u. pressAt s l code) (ways-own _ _ w (omega arith)) (λ z. named s l 6 (pressAt s l code) (ways-back _ _ w z))
+
+-- fresh start
+module _ (s : Stick) (l : Lent) where
+  fresh-ways : Ways (λ (o : Outcome). o .answer) (refused 2 s l) (OtherLength l) (LengthsFit l) (freshOf s l)
+  unfolding freshOf
+  fresh-ways =
+      choose-go (Ways (λ (o : Outcome). o .answer) (refused 2 s l) (OtherLength l) (LengthsFit l)) (lengthsFit l) _ _
+      (λ t. goes _ refl (lengths-of l t) (λ w. w (lengths-of l t))) (λ t. stays (other-of l t) (other-of l t))
+
+  -- "fresh start gives 0 or 2 only", each exactly then
+  pub fresh-answers : FreshAnswers l (freshOf s l .answer)
+  fresh-answers = record {
+    lengths = ways-no _ _ fresh-ways (λ z. omega arith);
+    done = ways-yes _ _ fresh-ways (λ z. omega arith);
+    numbers = ways-number _ _ (0 ∷ 2 ∷ []) fresh-ways refl refl;
+  }
+
+  -- "Numbers 1 to 8 change nothing"; "A byte beside a refusal is 0."
+  pub fresh-still : (freshOf s l .answer ≡ 0 → ⊥) → freshOf s l ≡ refused (freshOf s l .answer) s l
+  fresh-still z = named s l 2 (freshOf s l) (ways-back _ _ fresh-ways z)
+
+-- no call gives a number above 8
+pub fresh-most : (s : Stick) (l : Lent) → freshOf s l .answer ≤ 8
+fresh-most s l = most (0 ∷ 2 ∷ []) (freshOf s l .answer) refl (fresh-answers s l .numbers)
+
+pub take-most : (s : Stick) (l : Lent) (port byte : ℕ) → takeOf s l port byte .answer ≤ 8
+take-most s l port byte = most (0 ∷ 1 ∷ 2 ∷ 3 ∷ 4 ∷ []) (takeOf s l port byte .answer) refl (take-answers s l port byte .numbers)
+
+pub tick-most : (s : Stick) (l : Lent) (port : ℕ) → tickOf s l port .answer ≤ 8
+tick-most s l port = most (0 ∷ 1 ∷ 2 ∷ 3 ∷ 7 ∷ 8 ∷ []) (tickOf s l port .answer) refl (tick-answers s l port .numbers)
+
+pub give-most : (s : Stick) (l : Lent) (port : ℕ) → giveOf s l port .answer ≤ 8
+give-most s l port = most (0 ∷ 1 ∷ 2 ∷ 3 ∷ 5 ∷ []) (giveOf s l port .answer) refl (give-answers s l port .numbers)
+
+pub press-most : (s : Stick) (l : Lent) (code : ℕ) → pressOf s l code .answer ≤ 8
+press-most s l code = most (0 ∷ 2 ∷ 3 ∷ 6 ∷ []) (pressOf s l code .answer) refl (press-answers s l code .numbers)

@@ -1,0 +1,9 @@
+pub mod Statuses
+pub mod Refusals
+pub mod Answers
+pub mod Ports
+pub mod Waits
+pub mod FreshStart
+pub mod RequestKeeps
+pub mod PortKeeps
+pub mod NeverDamaged
