@@ -1,0 +1,11 @@
+pub mod Rest
+pub mod Span
+pub mod Finish
+pub mod Bound
+pub mod Lines
+pub mod Planned
+pub mod AloneIs
+pub mod Keeps
+pub mod Said
+pub mod Case12
+pub mod Cases

@@ -1,0 +1,223 @@
+-- What the theorems ask of a handler, shown of E, S, K and P.
+-- Assumes nothing.
+use mathlib.Core.Path.{_≡_, _∙_, refl, sym, ap}
+use mathlib.Core.Bool.{Bool, true, false, not}
+use mathlib.Core.List.{List}
+use Prim.Native.Nat.{ℕ, zero, suc, _+_, _-_, _*_, _≤_, _<_}
+use native.Mathlib.Nat.{suc-mul, mul-le-mul-right, mul-comm, le-trans}
+use native.Mathlib.Omega.{arith}
+use lib.Dec.{leb, ltb}
+use lib.ListN.{getD}
+use borrow.Author.Tests.{eq-eqb, ne-eqb, ltb-true, leb-true}
+use Rattle.base.specs.Choice.{and, or, within, bit}
+use Rattle.base.proofs.Choices.{pick-eq, pick-lt, choose-go, choose-eq, choose-lt, choose-le, by-eq, and-left, and-right}
+use Rattle.handler.specs.declared.Got.{Got}
+use Rattle.handler.specs.declared.Got.the-variants as got
+use Rattle.handler.specs.declared.Done.{Done}
+use Rattle.handler.specs.declared.Done.the-variants.{Success, Refused}
+use Rattle.handler.specs.Answer.{Answer}
+use Rattle.cells.specs.Modes.{shapeOf}
+use Rattle.cells.proofs.Shapes.{shape-good}
+use Rattle.keys.specs.declared.keyboard.Keyboard.{Keyboard}
+use Rattle.keys.specs.Keyboard as keys
+use Rattle.keys.proofs.Keeps as keys-keeps
+use Rattle.editor.specs.Text.{Text, cellAt}
+use Rattle.editor.specs.Get.{columnOf, heldOf, endOf, getAt}
+use Rattle.editor.specs.Get as editor
+use Rattle.graphics.specs.declared.Graphics.{Graphics}
+use Rattle.graphics.specs.Picture.{onward, withLast, placed}
+use Rattle.graphics.specs.Picture as graphics
+use Rattle.console.specs.declared.Handler.{Handler}
+use Rattle.console.specs.declared.Handler.the-variants.{E, S, K}
+use Rattle.console.specs.declared.state.Console.{Console}
+use Rattle.console.specs.Group.{ConsoleGroup, graphicsOf}
+use Rattle.console.specs.Handlers.{textOf, openS, openOf, readE, readS, readK, readOf}
+use Rattle.console.specs.Fit.{cursorFits, FitGroup}
+use Rattle.console.proofs.Keeps.{fits-of, InUse, open-fit, prepare-fit, prepare-use, read-fit, read-use, write-fit, write-use}
+use Rattle.blocks.specs.declared.Device.{Device}
+use Rattle.blocks.specs.declared.Device.the-variants as device
+use Rattle.blocks.specs.Made.{splits}
+use Rattle.printer.specs.Fit.{FitPrinter}
+use Rattle.printer.proofs.Keeps as printer-keeps
+use Rattle.cio.specs.Transfer.{eol}
+use Rattle.cio.specs.Handlers.{consoleHandler, printerHandler}
+use Rattle.cio.specs.Handlers as cio
+use Rattle.alone.specs.Left.{leftE, leftS, leftK, consoleLeft, printerLeft}
+use Rattle.alone.specs.Moves.{Lines, Starts}
+
+-- what an answer tells of the characters left: m before it, and so many after
+abbrev Falls : {D : Type 0} → (D → ℕ) → ℕ → Answer Got D → Type 0
+Falls left m y = (byte : ℕ) → y .says ≡ got.Character byte → (byte ≡ eol → ⊥) → m ≡ left (y .leaves) + 1
+
+character-is : (b byte : ℕ) → got.Character b ≡ got.Character byte → b ≡ byte
+character-is b byte e = cc
+
+no-character : (status byte : ℕ) → got.Refused status ≡ got.Character byte → ⊥
+no-character status byte e = let z : _≡_ {A = ℕ} 0 1 = cc in omega arith
+
+-- ---- E
+held-le : (cells : List ℕ) (place n : ℕ) → heldOf cells place n ≤ n
+unfolding heldOf
+held-le cells place zero = omega arith
+held-le cells place (suc n) =
+    choose-eq (λ (m : ℕ). m ≤ suc n) (getD cells (place + n) 0) 0x20 (λ u. heldOf cells place n) (λ u. suc n)
+    (λ e. le-trans (held-le cells place n) (omega arith)) (λ e. omega arith)
+
+abbrev leftText : Text → ℕ
+leftText t = endOf (t .editor .row) (t .cells) - columnOf (t .editor .reading)
+
+text-falls : (t : Text) → Falls leftText (leftText t) (editor.getOf t)
+unfolding editor.getOf getAt
+text-falls t =
+    let column = columnOf (t .editor .reading) in
+    choose-lt (Falls leftText (leftText t)) column (endOf (t .editor .row) (t .cells)) _ _
+    (λ h byte e n. omega arith)
+    (λ h byte e n. absurd (n (sym (character-is 0x9B byte e))))
+
+few-E : (g : ConsoleGroup) → leftE g ≤ 61440
+unfolding leftE endOf
+few-E g = omega (arith, held-le (g .screen) (cellAt (g .console .row) 2) 38)
+
+-- ---- S
+left-right : (R r C c : ℕ) → r < R → c + 1 < C → (R - r) * C - c ≡ (R - r) * C - (c + 1) + 1
+left-right R r C c h k =
+    let e : R - r ≡ suc (R - suc r) = omega arith in
+    rw e (omega (arith, suc-mul (R - suc r) C))
+
+left-down : (R r C c : ℕ) → r < R → c + 1 ≡ C → (R - r) * C - c ≡ (R - (r + 1)) * C - 0 + 1
+left-down R r C c h k =
+    let e : R - r ≡ suc (R - (r + 1)) = omega arith in
+    rw e (omega (arith, suc-mul (R - (r + 1)) C))
+
+abbrev leftPicture : Graphics → ℕ
+leftPicture g = (shapeOf (g .mode) .rows - g .row) * shapeOf (g .mode) .columns - g .column
+
+onward-falls : (g : Graphics) → g .row < shapeOf (g .mode) .rows → g .column < shapeOf (g .mode) .columns → leftPicture g ≡ leftPicture (onward g) + 1
+unfolding onward
+onward-falls g h k =
+    pick-lt (λ (y : Graphics). leftPicture g ≡ leftPicture y + 1) (g .column + 1) (shapeOf (g .mode) .columns) (placed (g .row) (g .column + 1) g) (placed (g .row + 1) 0 g)
+    (λ l. left-right (shapeOf (g .mode) .rows) (g .row) (shapeOf (g .mode) .columns) (g .column) h l)
+    (λ l. left-down (shapeOf (g .mode) .rows) (g .row) (shapeOf (g .mode) .columns) (g .column) h (omega arith))
+
+picture-falls : (cells : List ℕ) (g : Graphics) → g .column < shapeOf (g .mode) .columns → Falls leftPicture (leftPicture g) (graphics.getOf cells g)
+unfolding graphics.getOf
+picture-falls cells g k =
+    choose-le (Falls leftPicture (leftPicture g)) (shapeOf (g .mode) .rows) (g .row) _ _
+    (λ h byte e n. absurd (no-character 0x8D byte e))
+    (λ h byte e n. onward-falls (withLast _ g) h k)
+
+few-S : (c : Console) → leftS c ≤ 61440
+unfolding leftS
+few-S c =
+    let s = shapeOf (c .mode) in
+    let l : s .rows - c .row ≤ s .rows = omega arith in
+    omega (arith, mul-le-mul-right (s .columns) l, mul-comm (s .columns) (s .rows), shape-good (c .mode) .fit)
+
+-- in one of S's modes the cursor's column is one of its columns
+nonzero : (mode : ℕ) → within 3 8 mode ≡ true → mode ≡ 0 → ⊥
+nonzero mode e z = let h = leb-true 3 mode (and-left (leb 3 mode) (leb mode 8) e) in omega arith
+
+column-in : (mode row column : ℕ) → within 3 8 mode ≡ true → cursorFits mode row column ≡ true → column < shapeOf mode .columns
+unfolding cursorFits
+column-in mode row column z e =
+    let f : and (leb row (shapeOf mode .rows)) (ltb column (shapeOf mode .columns)) ≡ true = rw (ne-eqb mode 0 (nonzero mode z)) at e in
+    ltb-true column (shapeOf mode .columns) (and-right (leb row (shapeOf mode .rows)) _ f)
+
+-- ---- K
+few-K : (c : Console) → leftK c ≤ 61440
+unfolding leftK
+few-K c = pick-eq (λ (n : ℕ). n ≤ 61440) (c .keyboard .code) 0xFF 0 1 (λ e. omega arith) (λ e. omega arith)
+
+-- a character comes only from a stored key
+stored : (k : Keyboard) (byte : ℕ) → keys.getOf k .says ≡ got.Character byte → k .code ≡ 0xFF → ⊥
+stored k byte e z =
+    let same : k ≡ keys.emptied k = ap (λ (code : ℕ). keys.pressOf code k) z in
+    no-character 0x88 byte (sym (ap (λ (y : Answer Got Keyboard). y .says) (ap keys.getOf same ∙ keys-keeps.get-empty k)) ∙ e)
+
+keys-falls : (c : Console) (byte : ℕ) → readK c .says ≡ got.Character byte → leftK c ≡ leftK (readK c .leaves) + 1
+unfolding readK leftK
+keys-falls c byte e =
+    let k = c .keyboard in
+    rw (ne-eqb (k .code) 0xFF (stored k byte e), eq-eqb (keys.getOf k .leaves .code) 0xFF (keys-keeps.get-empties k))
+
+-- undamaged, and in use by this handler
+abbrev pub ConsoleFit : Handler → ConsoleGroup → Type 0
+ConsoleFit h g = FitGroup g × InUse h (g .console)
+
+console-falls : (h : Handler) (g : ConsoleGroup) (byte : ℕ) → ConsoleFit h g → readOf h g .says ≡ got.Character byte → (byte ≡ eol → ⊥)
+    → consoleLeft h g ≡ consoleLeft h (readOf h g .leaves) + 1
+unfolding consoleLeft readOf readE readS leftE leftS
+console-falls E g byte f e n = text-falls (textOf g) byte e n
+console-falls S g byte f e n =
+    let c = g .console in
+    let fits = fits-of c (f .0 .fit) in
+    picture-falls (g .screen) (graphicsOf c) (column-in (c .mode) (c .row) (c .column) (f .1) (fits .cursor)) byte e n
+console-falls K g byte f e n = keys-falls (g .console) byte e
+
+console-few : (h : Handler) (g : ConsoleGroup) → consoleLeft h g ≤ 61440
+unfolding consoleLeft
+console-few E g = few-E g
+console-few S g = few-S (g .console)
+console-few K g = few-K (g .console)
+
+pub console-lines : (h : Handler) → Lines (consoleHandler h) (consoleLeft h) (ConsoleFit h)
+console-lines h = record {
+  read-fit = λ g f. (read-fit g (f .0) h (f .1), read-use g (f .0) h (f .1));
+  write-fit = λ byte g f. (write-fit g (f .0) h byte (f .1), write-use g (f .0) h byte (f .1));
+  falls = console-falls h;
+  few = λ g f. console-few h g;
+}
+
+pub printer-lines : Lines printerHandler printerLeft FitPrinter
+unfolding printerLeft
+printer-lines = record {
+  read-fit = λ g f. f;
+  write-fit = λ byte g f. printer-keeps.put-fit byte g f;
+  falls = λ g byte f e n. absurd (no-character 0x83 byte e);
+  few = λ g f. omega arith;
+}
+
+-- the device of a handler
+abbrev pub deviceFor : Handler → Device
+deviceFor E = device.E
+deviceFor S = device.S
+deviceFor K = device.K
+
+refused-success : {A : Type 0} (status : ℕ) → Refused status ≡ Success → A
+refused-success status e = let z : _≡_ {A = ℕ} 0 1 = cc in absurd (omega arith)
+
+or-left : (a b : Bool) → or a b ≡ false → a ≡ false
+or-left true b e = e
+or-left false b e = refl
+
+-- "AUX1 bit 4 is $91"
+console-unsplit : (h : Handler) (aux1 aux2 : ℕ) (g : ConsoleGroup) → consoleHandler h .opens aux1 aux2 g .says ≡ Success → splits (deviceFor h) aux1 ≡ false
+unfolding openOf openS graphics.openOf
+console-unsplit E aux1 aux2 g = λ e. refl
+console-unsplit S aux1 aux2 g =
+    choose-go (λ (y : Answer Done graphics.Picture). y .says ≡ Success → bit 16 aux1 ≡ false) (or (bit 16 aux1) (not (within 3 8 aux2))) _ _
+    (λ t e. refused-success 0x91 e) (λ t e. or-left (bit 16 aux1) (not (within 3 8 aux2)) t)
+console-unsplit K aux1 aux2 g = λ e. refl
+
+pub console-starts : (h : Handler) → Starts (consoleHandler h) FitGroup (ConsoleFit h) (deviceFor h)
+console-starts h = record {
+  open-fit = λ aux1 aux2 g f. open-fit g f h aux1 aux2;
+  unsplit = console-unsplit h;
+  prepare-fit = λ g f. prepare-fit g f h;
+  prepare-use = λ g f e. (prepare-fit g f h, prepare-use g f h e);
+  used = λ g f. f .0;
+}
+
+pub printer-starts : Starts printerHandler FitPrinter FitPrinter device.P
+printer-starts = record {
+  open-fit = λ aux1 aux2 g f. f;
+  unsplit = λ aux1 aux2 g e. refl;
+  prepare-fit = λ g f. f;
+  prepare-use = λ g f e. f;
+  used = λ g f. f;
+}
+
+-- with no character left, the next one read is the EOL, or is refused
+pub none-left : {D : Type 0} (H : cio.Handler D) (left : D → ℕ) (Fit : D → Type 0) → Lines H left Fit → (x : D) (byte : ℕ) → Fit x → left x ≡ 0
+    → H .reads x .says ≡ got.Character byte → byte ≡ eol
+none-left H left Fit Z x byte f z e = by-eq byte eol (λ q. q) (λ n. absurd (omega (arith, z, Z .falls x byte f e n)))

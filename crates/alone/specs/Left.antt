@@ -1,0 +1,33 @@
+-- For each device, the characters that its record has, where the device stands, before its EOL or a refusal.
+-- Assumes nothing.
+use Prim.Native.Nat.{ℕ, _-_, _*_}
+use lib.Dec.{eqb}
+use Rattle.base.specs.Choice.{pick}
+use Rattle.cells.specs.Modes.{shapeOf}
+use Rattle.editor.specs.Get.{columnOf, endOf}
+use Rattle.console.specs.declared.Handler.{Handler}
+use Rattle.console.specs.declared.Handler.the-variants.{E, S, K}
+use Rattle.console.specs.declared.state.Console.{Console}
+use Rattle.console.specs.Group.{ConsoleGroup}
+use Rattle.printer.specs.Printer.{PrinterGroup}
+
+-- E: what is left of the row, from the read column to "the row's last column of 2 to 39 not holding $20"
+unfoldable pub leftE : ConsoleGroup → ℕ
+leftE g = endOf (g .console .row) (g .screen) - columnOf (g .console .reading)
+
+-- S: the mode's cells from the cursor on
+unfoldable pub leftS : Console → ℕ
+leftS c = (shapeOf (c .mode) .rows - c .row) * shapeOf (c .mode) .columns - c .column
+
+-- K: one where a key is stored; "$FF is empty"
+unfoldable pub leftK : Console → ℕ
+leftK c = pick (eqb (c .keyboard .code) 0xFF) 0 1
+
+unfoldable pub consoleLeft : Handler → ConsoleGroup → ℕ
+consoleLeft E g = leftE g
+consoleLeft S g = leftS (g .console)
+consoleLeft K g = leftK (g .console)
+
+-- P: it has nothing to read
+unfoldable pub printerLeft : PrinterGroup → ℕ
+printerLeft g = 0

@@ -1,0 +1,5 @@
+pub mod Transfer
+pub mod Left
+pub mod Alone
+pub mod Fit
+pub mod Moves
