@@ -13,7 +13,7 @@ use Rattle.printer.specs.Printer.{PrinterGroup}
 use Rattle.printer.specs.Printer as printer
 
 pub record Handler (D : Type 0) : Type 0 where
-  -- OPEN with AUX1 and AUX2, which the device offers
+  -- OPEN with an AUX1 that the device offers, and AUX2
   pub opens : (aux1 aux2 : ℕ) → D → Answer Done D
   -- before the first character of a transfer
   pub prepares : D → Answer Done D
@@ -23,7 +23,8 @@ pub record Handler (D : Type 0) : Type 0 where
 abbrev pub consoleHandler : console.Handler → Handler ConsoleGroup
 consoleHandler h = record { opens = openOf h; prepares = prepareOf h; reads = readOf h; writes = writeOf h }
 
--- "Opening K or P changes no device." P offers no reading: "$83 .. reading without R"
+-- "Opening K or P changes no device." A GET from P never gets here: P offers no R, and "$83 .. reading without R" comes before
+-- the group; the same status stands here
 abbrev pub printerHandler : Handler PrinterGroup
 printerHandler = record {
   opens = λ aux1 aux2 g. answer Success g;

@@ -83,6 +83,7 @@ runOf device kind call = record { kind = kind; device = device; iocb = call .ioc
 abbrev pub settles : Table → ℕ → Settled
 settles table status = record { table = table; status = status }
 
+-- "A refusal at the start changes no block, area or device, count 0 (a SPECIAL on a closed block keeps its open's effects)."
 -- OPEN: the block is open; GET STATUS, SPECIAL: "opened as OPEN does, then $01 or $84, then closed; a failed open's status
 -- stands"; "A failed open leaves the block closed"
 abbrev pub settledOf : Done → After → Device → (number : ℕ) → Call → Table → Settled

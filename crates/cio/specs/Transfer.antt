@@ -58,7 +58,7 @@ eol = 0x9B
 unfoldable pub recordOf : Run → ℕ → Next
 recordOf run byte = pick (eqb byte eol) (endedOf 0x01 run) (On run)
 
--- One: "one character by A". GET CHARACTERS: "n characters". GET RECORD: "up to and with EOL. With n stored and no EOL,
+-- One: "one character by A": "The reply's A is the request's except after a successful read of length 0." GET CHARACTERS: "n characters". GET RECORD: "up to and with EOL. With n stored and no EOL,
 -- characters are dropped through the EOL, then $89, count n."
 unfoldable pub gotCharacter : Way → Run → ℕ → List ℕ → Progress
 gotCharacter One run byte area = progress (Off 0x01 (run .count) byte) area

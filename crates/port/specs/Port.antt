@@ -28,7 +28,7 @@ use Rattle.cio.specs.Plan.{planOf, groupOf}
 use Rattle.cio.specs.Transfer.{Spans}
 use Rattle.cio.specs.Handlers.{consoleHandler, printerHandler}
 use Rattle.cio.specs.Start.{errandOf, startOf}
-use Rattle.cio.specs.Move.{moveOf, wayIn, Goes}
+use Rattle.cio.specs.Move.{moveOf, wayIn}
 use Rattle.state.specs.Fits.{clash}
 use Rattle.port.specs.declared.PortCall.{PortCall}
 

@@ -1,7 +1,8 @@
 -- Document 01, "Damaged: a stored number outside its range here, an open block that no OPEN makes, both ports holding one group, a
 -- group held by a port that runs no request needing it, a mode 0 cursor off rows 0 to 23 or columns 2 to 39, or a running request
 -- whose block, group, mode or buffer does not fit it." A port holds the group of the device that its running request is on, and
--- no other, so that a group held without need has no state.
+-- no other, so that a group held without need has no state. How wide a number is, and that a table has eight blocks, the types
+-- say.
 -- Assumes nothing.
 use mathlib.Core.Bool.{Bool, true, false, not}
 use Prim.Native.Nat.{ℕ}

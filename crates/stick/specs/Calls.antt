@@ -24,7 +24,8 @@ freshWith console = record { port0 = freshPort; port1 = freshPort; console = con
 abbrev pub freshStick : Stick
 freshStick = freshWith freshConsole
 
--- "areas zero, paper used 0 (its bytes as lent), screen as after opening E with cells past 960 zero"; the rooms are zero too
+-- "areas zero, paper used 0 (its bytes as lent), screen as after opening E with cells past 960 zero"; the rooms, which are no word of 01,
+-- are zero too
 abbrev pub freshLent : Lent → Lent
 freshLent l = lent (replicate 520 0) (replicate 32768 0) (freshGroup .screen) (l .paper)
 

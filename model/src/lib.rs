@@ -1,0 +1,12 @@
+//! An independent model of document 01, written from the paper and not from
+//! the core, so that the two can be compared call by call.
+//!
+//! - `stick`: the stick itself: fresh, take, tick, give, press.
+//! - `script`: the call script of `play`, as bytes and as readable text.
+//! - `random`: whole conversations on both ports, made from a seed.
+//! - `compare`: plays a script on both sides and shortens one that differs.
+
+pub mod compare;
+pub mod random;
+pub mod script;
+pub mod stick;

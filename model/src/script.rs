@@ -1,0 +1,468 @@
+//! The call script of `play`: its ops as bytes and as readable text, and an
+//! interpreter that plays them on the model.
+//!
+//! The readable form has one op a line; `#` begins a comment:
+//!
+//! ```text
+//! fresh                    F
+//! take 0 11 05 00          T, once for each byte (hexadecimal)
+//! tick 0                   K
+//! tick 0 x 300             X: up to 300 ticks
+//! give 0                   G
+//! give 0 x 4               G, four times
+//! press 3F                 P (hexadecimal)
+//! lend area 100            L: area, screen, paper, rooms, or a number
+//! dump                     D
+//! raw 54 00                bytes as they are (no op, or one that is cut)
+//! ```
+
+use crate::stick::{Phase, Stick, AREA, PAPER, SCREEN, WHOLE};
+
+#[derive(Clone, Debug, PartialEq, Eq)]
+pub enum Op {
+    Fresh,
+    Take {
+        port: u8,
+        byte: u8,
+    },
+    Tick {
+        port: u8,
+    },
+    Give {
+        port: u8,
+    },
+    Press {
+        code: u8,
+    },
+    /// Tick up to `count` times, while the port runs on.
+    Ticks {
+        port: u8,
+        count: u16,
+    },
+    /// Lend a buffer cut to `length` (three bytes in a script).
+    Lend {
+        buffer: u8,
+        length: u32,
+    },
+    Dump,
+    /// Bytes that are no op, or a cut one: the run ends here.
+    Raw(Vec<u8>),
+}
+
+/// The names of the lent buffers 0 to 3.
+const BUFFERS: [&str; 4] = ["area", "screen", "paper", "rooms"];
+
+/// What the answers 0 to 8 mean.
+pub const ANSWERS: [&str; 9] = [
+    "done",
+    "port above 1",
+    "a lent buffer has another length",
+    "damaged state",
+    "byte offered while not gathering",
+    "no reply byte to give",
+    "key pressed while a request holds the console",
+    "tick, nothing ready or running",
+    "tick, ready, group held by the other port",
+];
+
+/// The numbers of a dump after area, screen and paper, in order: name, bytes.
+const NUMBERS: [(&str, usize); 10] = [
+    ("used", 2),
+    ("mode", 1),
+    ("row", 1),
+    ("column", 2),
+    ("last", 1),
+    ("escape", 1),
+    ("read column", 1),
+    ("key", 1),
+    ("lock", 1),
+    ("inverse", 1),
+];
+
+/// The bytes of a dump.
+pub const DUMP: usize = 2 * AREA + SCREEN + PAPER + 12 + 2 * 8 * 4 + 2;
+
+impl Op {
+    /// The op as bytes of a script.
+    pub fn bytes(&self) -> Vec<u8> {
+        match self {
+            Op::Fresh => vec![b'F'],
+            Op::Take { port, byte } => vec![b'T', *port, *byte],
+            Op::Tick { port } => vec![b'K', *port],
+            Op::Give { port } => vec![b'G', *port],
+            Op::Press { code } => vec![b'P', *code],
+            Op::Ticks { port, count } => vec![b'X', *port, *count as u8, (*count >> 8) as u8],
+            Op::Lend { buffer, length } => {
+                vec![b'L', *buffer, *length as u8, (*length >> 8) as u8, (*length >> 16) as u8]
+            }
+            Op::Dump => vec![b'D'],
+            Op::Raw(bytes) => bytes.clone(),
+        }
+    }
+
+    /// How many bytes `play` writes for the op.
+    pub fn output(&self) -> usize {
+        match self {
+            Op::Fresh | Op::Take { .. } | Op::Tick { .. } | Op::Press { .. } => 1,
+            Op::Give { .. } => 2,
+            Op::Ticks { .. } => 3,
+            Op::Lend { .. } | Op::Raw(_) => 0,
+            Op::Dump => DUMP,
+        }
+    }
+
+    /// The port that the op is about.
+    pub fn port(&self) -> Option<u8> {
+        match self {
+            Op::Take { port, .. } | Op::Tick { port } | Op::Give { port } | Op::Ticks { port, .. } => Some(*port),
+            _ => None,
+        }
+    }
+}
+
+/// The script of some ops.
+pub fn bytes_of(ops: &[Op]) -> Vec<u8> {
+    ops.iter().flat_map(Op::bytes).collect()
+}
+
+/// The ops of a script; what ends its run is the last, as `Raw`.
+pub fn ops_of(script: &[u8]) -> Vec<Op> {
+    let mut ops = Vec::new();
+    let mut rest = script;
+    while !rest.is_empty() {
+        let (op, length) = match *rest {
+            [b'F', ..] => (Op::Fresh, 1),
+            [b'T', port, byte, ..] => (Op::Take { port, byte }, 3),
+            [b'K', port, ..] => (Op::Tick { port }, 2),
+            [b'G', port, ..] => (Op::Give { port }, 2),
+            [b'P', code, ..] => (Op::Press { code }, 2),
+            [b'X', port, low, high, ..] => (Op::Ticks { port, count: u16::from_le_bytes([low, high]) }, 4),
+            [b'L', buffer, a, b, c, ..] => (Op::Lend { buffer, length: u32::from_le_bytes([a, b, c, 0]) }, 5),
+            [b'D', ..] => (Op::Dump, 1),
+            _ => (Op::Raw(rest.to_vec()), rest.len()),
+        };
+        ops.push(op);
+        rest = &rest[length..];
+    }
+    ops
+}
+
+/// How much has been played.
+#[derive(Clone, Debug, Default, PartialEq, Eq)]
+pub struct Figures {
+    pub scripts: u64,
+    pub calls: u64,
+    pub ticks: u64,
+    /// Calls by answer.
+    pub answers: [u64; 9],
+    /// Replies made, by tag and status.
+    pub replies: std::collections::BTreeMap<(u8, u8), u64>,
+}
+
+impl Figures {
+    pub fn add(&mut self, other: &Figures) {
+        self.scripts += other.scripts;
+        self.calls += other.calls;
+        self.ticks += other.ticks;
+        for (mine, theirs) in self.answers.iter_mut().zip(other.answers) {
+            *mine += theirs;
+        }
+        for (reply, count) in &other.replies {
+            *self.replies.entry(*reply).or_default() += count;
+        }
+    }
+}
+
+/// `play` over the model.
+#[derive(Default)]
+pub struct Player {
+    pub stick: Stick,
+    pub figures: Figures,
+}
+
+impl Player {
+    pub fn new() -> Player {
+        Player::default()
+    }
+
+    /// Plays an op and writes what `play` would; false ends the run.
+    pub fn play(&mut self, op: &Op, output: &mut Vec<u8>) -> bool {
+        match *op {
+            Op::Fresh => {
+                let answer = self.stick.fresh();
+                output.push(self.called(answer));
+            }
+            Op::Take { port, byte } => {
+                let answer = self.stick.take(port, byte);
+                output.push(self.called(answer));
+            }
+            Op::Tick { port } => {
+                let answer = self.tick(port);
+                output.push(answer);
+            }
+            Op::Give { port } => {
+                let (answer, byte) = self.stick.give(port);
+                output.extend([self.called(answer), byte]);
+            }
+            Op::Press { code } => {
+                let answer = self.stick.press(code);
+                output.push(self.called(answer));
+            }
+            Op::Ticks { port, count } => {
+                let (mut done, mut answer) = (0u16, 0);
+                while done < count {
+                    answer = self.tick(port);
+                    done += 1;
+                    if answer != 0 || !self.runs(port) {
+                        break;
+                    }
+                }
+                output.extend(done.to_le_bytes());
+                output.push(answer);
+            }
+            Op::Lend { buffer, length } => {
+                let buffer = usize::from(buffer);
+                if buffer < 4 {
+                    self.stick.lent[buffer] = WHOLE[buffer].min(length as usize);
+                }
+            }
+            Op::Dump => dump(&self.stick, output),
+            Op::Raw(_) => return false,
+        }
+        true
+    }
+
+    fn runs(&self, port: u8) -> bool {
+        matches!(self.stick.ports[usize::from(port)].phase, Phase::Running(_))
+    }
+
+    fn tick(&mut self, port: u8) -> u8 {
+        let answer = self.stick.tick(port);
+        self.figures.ticks += 1;
+        if answer == 0 {
+            if let Phase::Replying(reply, _) = &self.stick.ports[usize::from(port)].phase {
+                *self.figures.replies.entry((reply[0], reply[3])).or_default() += 1;
+            }
+        }
+        self.called(answer)
+    }
+
+    fn called(&mut self, answer: u8) -> u8 {
+        self.figures.calls += 1;
+        self.figures.answers[usize::from(answer)] += 1;
+        answer
+    }
+}
+
+/// Plays a whole script on a new model: the bytes that `play` writes.
+pub fn play(script: &[u8]) -> Vec<u8> {
+    let mut player = Player::new();
+    let mut output = Vec::new();
+    for op in ops_of(script) {
+        if !player.play(&op, &mut output) {
+            break;
+        }
+    }
+    output
+}
+
+/// Writes a dump, field by field.
+pub fn dump(stick: &Stick, output: &mut Vec<u8>) {
+    let console = &stick.console;
+    output.extend(&stick.area);
+    output.extend(&stick.screen);
+    output.extend(&stick.paper);
+    output.extend((stick.used as u16).to_le_bytes());
+    output.extend([console.mode, console.row as u8]);
+    output.extend((console.column as u16).to_le_bytes());
+    output.extend([console.last, u8::from(console.escape)]);
+    output.push(console.read_column.map_or(255, |column| column as u8));
+    output.extend([console.key, console.lock, console.inverse]);
+    for port in &stick.ports {
+        for block in &port.blocks {
+            output.extend(match block {
+                Some(file) => [1, file.device.letter(), file.number, file.aux1],
+                None => [0; 4],
+            });
+        }
+    }
+    output.extend(stick.ports.iter().map(|port| port.phase.number()));
+}
+
+/// The name of the place in a dump.
+pub fn dump_place(at: usize) -> String {
+    let mut at = at;
+    for port in 0..2 {
+        if at < AREA {
+            return format!("area of port {port}, address {at}");
+        }
+        at -= AREA;
+    }
+    if at < SCREEN {
+        return format!("screen cell {at}");
+    }
+    at -= SCREEN;
+    if at < PAPER {
+        return format!("paper byte {at}");
+    }
+    at -= PAPER;
+    for (name, length) in NUMBERS {
+        if at < length {
+            return name.to_string();
+        }
+        at -= length;
+    }
+    if at < 64 {
+        let part = ["open", "device", "number", "AUX1"][at % 4];
+        return format!("port {}, block {}, {part}", at / 32, at / 4 % 8);
+    }
+    format!("phase of port {}", at - 64)
+}
+
+// ---- readable text ----
+
+/// The most bytes of a take on one line.
+const TAKES: usize = 16;
+
+fn hexadecimal(bytes: &[u8]) -> String {
+    bytes.iter().map(|byte| format!(" {byte:02X}")).collect()
+}
+
+/// Ops in readable form.
+pub fn to_text(ops: &[Op]) -> String {
+    let mut text = String::new();
+    let mut at = 0;
+    while at < ops.len() {
+        let mut next = at + 1;
+        let line = match &ops[at] {
+            Op::Fresh => "fresh".to_string(),
+            Op::Take { port, .. } => {
+                let mut bytes = Vec::new();
+                while let Some(Op::Take { port: same, byte }) = ops.get(at + bytes.len()) {
+                    if same != port || bytes.len() == TAKES {
+                        break;
+                    }
+                    bytes.push(*byte);
+                }
+                next = at + bytes.len();
+                format!("take {port}{}", hexadecimal(&bytes))
+            }
+            Op::Tick { port } => format!("tick {port}"),
+            Op::Give { port } => {
+                let times = ops[at..].iter().take_while(|op| *op == &ops[at]).count();
+                next = at + times;
+                match times {
+                    1 => format!("give {port}"),
+                    _ => format!("give {port} x {times}"),
+                }
+            }
+            Op::Press { code } => format!("press {code:02X}"),
+            Op::Ticks { port, count } => format!("tick {port} x {count}"),
+            Op::Lend { buffer, length } => match BUFFERS.get(usize::from(*buffer)) {
+                Some(name) => format!("lend {name} {length}"),
+                None => format!("lend {buffer} {length}"),
+            },
+            Op::Dump => "dump".to_string(),
+            Op::Raw(bytes) => format!("raw{}", hexadecimal(bytes)),
+        };
+        text.push_str(&line);
+        text.push('\n');
+        at = next;
+    }
+    text
+}
+
+/// Reads the readable form; the error names the line.
+pub fn from_text(text: &str) -> Result<Vec<Op>, String> {
+    let mut script = Vec::new();
+    for (number, line) in text.lines().enumerate() {
+        let line = line.split('#').next().unwrap_or("");
+        let words: Vec<&str> = line.split_whitespace().collect();
+        if words.is_empty() {
+            continue;
+        }
+        let bytes = line_bytes(&words).ok_or_else(|| format!("line {}: not an op: {}", number + 1, line.trim()))?;
+        script.extend(bytes);
+    }
+    Ok(ops_of(&script))
+}
+
+fn line_bytes(words: &[&str]) -> Option<Vec<u8>> {
+    let byte = |word: &str| u8::from_str_radix(word, 16).ok().filter(|_| word.len() <= 2);
+    let ops = match *words {
+        ["fresh"] => vec![Op::Fresh],
+        ["take", port, ref bytes @ ..] if !bytes.is_empty() => {
+            let port = port.parse().ok()?;
+            let take = |word: &&str| Some(Op::Take { port, byte: byte(word)? });
+            bytes.iter().map(take).collect::<Option<Vec<Op>>>()?
+        }
+        ["tick", port] => vec![Op::Tick { port: port.parse().ok()? }],
+        ["tick", port, "x", count] => vec![Op::Ticks { port: port.parse().ok()?, count: count.parse().ok()? }],
+        ["give", port] => vec![Op::Give { port: port.parse().ok()? }],
+        ["give", port, "x", times] => {
+            let times: u16 = times.parse().ok()?;
+            vec![Op::Give { port: port.parse().ok()? }; usize::from(times)]
+        }
+        ["press", code] => vec![Op::Press { code: byte(code)? }],
+        ["lend", buffer, length] => {
+            let named = BUFFERS.iter().position(|name| *name == buffer).map(|place| place as u8);
+            let buffer = named.or_else(|| buffer.parse().ok())?;
+            let length = length.parse().ok().filter(|length| *length < 1 << 24)?;
+            vec![Op::Lend { buffer, length }]
+        }
+        ["dump"] => vec![Op::Dump],
+        ["raw", ref bytes @ ..] if !bytes.is_empty() => {
+            vec![Op::Raw(bytes.iter().map(|word| byte(word)).collect::<Option<Vec<u8>>>()?)]
+        }
+        _ => return None,
+    };
+    Some(bytes_of(&ops))
+}
+
+fn answer_text(answer: u8) -> String {
+    let meaning = ANSWERS.get(usize::from(answer)).unwrap_or(&"no such answer");
+    format!("{answer} {meaning}")
+}
+
+/// What was written for one op, in words. Output that is cut short says so.
+pub fn describe(op: &Op, output: &[u8]) -> String {
+    if output.len() < op.output() {
+        return format!(
+            "the output ends{}",
+            if output.is_empty() { String::new() } else { " after".to_string() + &hexadecimal(output) }
+        );
+    }
+    match op {
+        Op::Fresh | Op::Take { .. } | Op::Tick { .. } | Op::Press { .. } => answer_text(output[0]),
+        Op::Give { .. } => format!("{}, byte {:02X}", answer_text(output[0]), output[1]),
+        Op::Ticks { .. } => {
+            format!("ticks {}, last {}", u16::from_le_bytes([output[0], output[1]]), answer_text(output[2]))
+        }
+        Op::Lend { .. } | Op::Raw(_) => "nothing".to_string(),
+        Op::Dump => describe_dump(output),
+    }
+}
+
+/// A dump's numbers and open blocks on one line; its buffers are left out.
+fn describe_dump(output: &[u8]) -> String {
+    let phases = ["gathering", "ready", "running", "replying"];
+    let mut at = 2 * AREA + SCREEN + PAPER;
+    let mut parts = Vec::new();
+    for (name, length) in NUMBERS {
+        let value = output[at..at + length].iter().rev().fold(0, |sum, byte| 256 * sum + usize::from(*byte));
+        parts.push(format!("{name} {value}"));
+        at += length;
+    }
+    for place in 0..16 {
+        let block = &output[at + 4 * place..at + 4 * place + 4];
+        if block != [0; 4] {
+            let (port, iocb, device) = (place / 8, place % 8, char::from(block[1]));
+            parts.push(format!("port {port} block {iocb} {device}{}: AUX1 {:02X}", block[2], block[3]));
+        }
+    }
+    for port in 0..2 {
+        let phase = phases.get(usize::from(output[at + 64 + port])).unwrap_or(&"in no phase");
+        parts.push(format!("port {port} {phase}"));
+    }
+    parts.join(", ")
+}

@@ -1,0 +1,830 @@
+//! The stick as document 01 tells it: two ports, a console, a printer.
+//!
+//! Clear before fast: messages are kept whole, and each rule stands where the
+//! paper has it. States handed in damaged are not modelled (answer 3 never
+//! comes): every run begins with a fresh start.
+
+/// One port's area.
+pub const AREA: usize = 16_384;
+/// The screen's cells.
+pub const SCREEN: usize = 61_440;
+/// The paper's bytes.
+pub const PAPER: usize = 4_096;
+/// The whole lengths of the lent buffers: areas, screen, paper, rooms.
+pub const WHOLE: [usize; 4] = [2 * AREA, SCREEN, PAPER, 520];
+
+/// The end of a record.
+pub const EOL: u8 = 0x9B;
+/// The key place with no key in it.
+pub const NO_KEY: u8 = 0xFF;
+
+/// Answers of the calls.
+pub const DONE: u8 = 0;
+pub const NO_PORT: u8 = 1;
+pub const LENT_LENGTH: u8 = 2;
+pub const NOT_GATHERING: u8 = 4;
+pub const NO_REPLY: u8 = 5;
+pub const CONSOLE_HELD: u8 = 6;
+pub const NOTHING_TO_DO: u8 = 7;
+pub const GROUP_HELD: u8 = 8;
+
+/// Statuses of the replies.
+pub const SUCCESS: u8 = 0x01;
+pub const ALREADY_OPEN: u8 = 0x81;
+pub const NO_DEVICE: u8 = 0x82;
+pub const NOT_READABLE: u8 = 0x83;
+pub const BAD_COMMAND: u8 = 0x84;
+pub const NOT_OPEN: u8 = 0x85;
+pub const BAD_IOCB: u8 = 0x86;
+pub const NOT_WRITABLE: u8 = 0x87;
+pub const END_OF_FILE: u8 = 0x88;
+pub const RECORD_CUT: u8 = 0x89;
+pub const CURSOR_RANGE: u8 = 0x8D;
+pub const PAPER_FULL: u8 = 0x90;
+pub const SCREEN_MODE: u8 = 0x91;
+pub const UNKNOWN_TAG: u8 = 0x92;
+pub const PAST_AREA: u8 = 0xB0;
+
+/// Commands of CALL.
+pub const OPEN: u8 = 0x03;
+pub const GET_RECORD: u8 = 0x05;
+pub const GET_CHARACTERS: u8 = 0x07;
+pub const PUT_RECORD: u8 = 0x09;
+pub const PUT_CHARACTERS: u8 = 0x0B;
+pub const CLOSE: u8 = 0x0C;
+pub const GET_STATUS: u8 = 0x0D;
+
+/// AUX1's direction bits, and the ones a handler looks at.
+pub const R: u8 = 4;
+pub const W: u8 = 8;
+pub const FORCED: u8 = 1;
+pub const SPLIT: u8 = 16;
+pub const KEEP: u8 = 32;
+
+/// E's margins and last row.
+const LEFT: usize = 2;
+const RIGHT: usize = 39;
+const BOTTOM: usize = 23;
+const TEXT_CELLS: usize = 960;
+
+/// Columns, rows and colours of a mode.
+pub fn shape(mode: u8) -> (usize, usize, u16) {
+    match mode {
+        0 => (40, 24, 256),
+        3 => (40, 24, 4),
+        4 => (80, 48, 2),
+        5 => (80, 48, 4),
+        6 => (160, 96, 2),
+        7 => (160, 96, 4),
+        8 => (320, 192, 2),
+        _ => unreachable!("no such mode: {mode}"),
+    }
+}
+
+/// The key table: a row of each half block as the paper prints it.
+const KEYS: [&str; 6] = [
+    "6C6A3B80806B2B2A6F8070759B692D3D768063808062787A348033361B353231",
+    "2C202E6E806D2F81728065797F747771398030377E383C3E6668648082677361",
+    "4C4A3A80804B5C5E4F8050559B495F7C568043808042585A248023261B252221",
+    "5B205D4E804D3F81528045599F545751288029279C407D9D4648448083475341",
+    "0C0A7B80800B1E1F0F8010159B091C1D168003808002181A808085801B80FD80",
+    "0020600E800D8081128005199E14171180808080FE807DFF0608048084071301",
+];
+
+/// The table's entry for a code of at most $BF.
+fn key_entry(code: u8) -> u8 {
+    let (row, place) = (usize::from(code) / 32, usize::from(code) % 32);
+    u8::from_str_radix(&KEYS[row][2 * place..2 * place + 2], 16).expect("two digits")
+}
+
+/// Key translation: the character, or 256 to 261 for the entries $80 to $85,
+/// 256 for a code above $BF, 262 for another lock or inverse.
+pub fn translate(code: u32, lock: u32, inverse: u32) -> u32 {
+    if lock > 2 || inverse > 1 {
+        return 262;
+    }
+    if code > 0xBF {
+        return 256;
+    }
+    let mut entry = key_entry(code as u8);
+    if code < 64 && (0x61..=0x7A).contains(&entry) {
+        entry = key_entry(code as u8 + 64 * lock as u8);
+    }
+    match entry {
+        0x80..=0x85 => 256 + u32::from(entry - 0x80),
+        0x1B..=0x1F | 0x7D..=0x7F | 0x9B..=0x9F | 0xFD..=0xFF => u32::from(entry),
+        _ => u32::from(entry) + 0x80 * inverse,
+    }
+}
+
+#[derive(Clone, Copy, Debug, PartialEq, Eq)]
+pub enum Device {
+    E,
+    S,
+    K,
+    P,
+}
+
+impl Device {
+    fn of_letter(letter: u8) -> Option<Device> {
+        match letter {
+            b'E' => Some(Device::E),
+            b'S' => Some(Device::S),
+            b'K' => Some(Device::K),
+            b'P' => Some(Device::P),
+            _ => None,
+        }
+    }
+
+    pub fn letter(self) -> u8 {
+        match self {
+            Device::E => b'E',
+            Device::S => b'S',
+            Device::K => b'K',
+            Device::P => b'P',
+        }
+    }
+
+    /// E, S and K share the console; P is the printer's only device.
+    pub fn is_console(self) -> bool {
+        self != Device::P
+    }
+}
+
+/// What an open control block knows; a closed one is `None`.
+#[derive(Clone, Copy, Debug, PartialEq, Eq)]
+pub struct File {
+    pub device: Device,
+    pub number: u8,
+    pub aux1: u8,
+}
+
+/// The nine bytes of a CALL.
+#[derive(Clone, Copy, Debug, PartialEq, Eq)]
+pub struct Call {
+    pub iocb: u8,
+    pub command: u8,
+    pub address: usize,
+    pub length: usize,
+    pub aux1: u8,
+    pub aux2: u8,
+    pub a: u8,
+}
+
+impl Call {
+    fn of(value: &[u8]) -> Call {
+        Call {
+            iocb: value[0],
+            command: value[1],
+            address: word(&value[2..]),
+            length: word(&value[4..]),
+            aux1: value[6],
+            aux2: value[7],
+            a: value[8],
+        }
+    }
+
+    fn reads(&self) -> bool {
+        matches!(self.command, GET_RECORD | GET_CHARACTERS)
+    }
+
+    fn writes(&self) -> bool {
+        matches!(self.command, PUT_RECORD | PUT_CHARACTERS)
+    }
+
+    fn by_record(&self) -> bool {
+        matches!(self.command, GET_RECORD | PUT_RECORD)
+    }
+}
+
+/// A transfer under way: its request, its file, and the bytes counted so far.
+#[derive(Clone, Debug, PartialEq, Eq)]
+pub struct Run {
+    pub call: Call,
+    pub file: File,
+    pub count: usize,
+}
+
+#[derive(Clone, Debug, PartialEq, Eq)]
+pub enum Phase {
+    /// The bytes of the message so far.
+    Gathering(Vec<u8>),
+    /// The whole message.
+    Ready(Vec<u8>),
+    Running(Run),
+    /// The whole reply, and how much of it is given.
+    Replying(Vec<u8>, usize),
+}
+
+impl Phase {
+    /// The number of the phase in a dump.
+    pub fn number(&self) -> u8 {
+        match self {
+            Phase::Gathering(_) => 0,
+            Phase::Ready(_) => 1,
+            Phase::Running(_) => 2,
+            Phase::Replying(..) => 3,
+        }
+    }
+}
+
+#[derive(Clone, Debug, PartialEq, Eq)]
+pub struct Port {
+    pub blocks: [Option<File>; 8],
+    pub phase: Phase,
+}
+
+impl Port {
+    fn fresh() -> Port {
+        Port { blocks: [None; 8], phase: Phase::Gathering(Vec::new()) }
+    }
+}
+
+/// The console but for its cells.
+#[derive(Clone, Debug, PartialEq, Eq)]
+pub struct Console {
+    pub mode: u8,
+    pub row: usize,
+    pub column: usize,
+    pub last: u8,
+    pub escape: bool,
+    pub read_column: Option<usize>,
+    pub key: u8,
+    pub lock: u8,
+    pub inverse: u8,
+}
+
+#[derive(Clone, Debug, PartialEq, Eq)]
+pub struct Stick {
+    pub area: Vec<u8>,
+    pub screen: Vec<u8>,
+    pub paper: Vec<u8>,
+    pub used: usize,
+    pub console: Console,
+    pub ports: [Port; 2],
+    /// The lengths at which area, screen, paper and rooms are lent now.
+    pub lent: [usize; 4],
+}
+
+/// A two-byte number, low byte first.
+fn word(bytes: &[u8]) -> usize {
+    usize::from(bytes[0]) + 256 * usize::from(bytes[1])
+}
+
+impl Default for Stick {
+    fn default() -> Stick {
+        Stick::new()
+    }
+}
+
+impl Stick {
+    /// A stick as after a fresh start over buffers of zeros.
+    pub fn new() -> Stick {
+        let mut stick = Stick {
+            area: vec![0; 2 * AREA],
+            screen: vec![0; SCREEN],
+            paper: vec![0; PAPER],
+            used: 0,
+            console: Console {
+                mode: 0,
+                row: 0,
+                column: LEFT,
+                last: 0,
+                escape: false,
+                read_column: None,
+                key: NO_KEY,
+                lock: 1,
+                inverse: 0,
+            },
+            ports: [Port::fresh(), Port::fresh()],
+            lent: WHOLE,
+        };
+        stick.fresh();
+        stick
+    }
+
+    // ---- the five calls ----
+
+    /// Fresh start. The paper's bytes stay as they are lent.
+    pub fn fresh(&mut self) -> u8 {
+        if self.lent != WHOLE {
+            return LENT_LENGTH;
+        }
+        self.area.fill(0);
+        self.screen.fill(0);
+        self.used = 0;
+        self.open_editor();
+        self.console.last = 0;
+        self.console.key = NO_KEY;
+        self.console.lock = 1;
+        self.console.inverse = 0;
+        self.ports = [Port::fresh(), Port::fresh()];
+        DONE
+    }
+
+    /// Take a byte of a message.
+    pub fn take(&mut self, port: u8, byte: u8) -> u8 {
+        let port = match self.port(port) {
+            Ok(port) => port,
+            Err(answer) => return answer,
+        };
+        let Phase::Gathering(message) = &mut self.ports[port].phase else {
+            return NOT_GATHERING;
+        };
+        message.push(byte);
+        if message.len() >= 3 && message.len() == 3 + word(&message[1..]) {
+            let message = std::mem::take(message);
+            self.ports[port].phase = Phase::Ready(message);
+        }
+        DONE
+    }
+
+    /// Tick a port: start what is ready, or move one character of what runs.
+    pub fn tick(&mut self, port: u8) -> u8 {
+        let port = match self.port(port) {
+            Ok(port) => port,
+            Err(answer) => return answer,
+        };
+        match &self.ports[port].phase {
+            Phase::Gathering(_) | Phase::Replying(..) => NOTHING_TO_DO,
+            Phase::Ready(message) => {
+                let message = message.clone();
+                self.start(port, &message)
+            }
+            Phase::Running(run) => {
+                let run = run.clone();
+                self.step(port, run);
+                DONE
+            }
+        }
+    }
+
+    /// Give the next byte of the reply; the byte beside a refusal is 0.
+    pub fn give(&mut self, port: u8) -> (u8, u8) {
+        let port = match self.port(port) {
+            Ok(port) => port,
+            Err(answer) => return (answer, 0),
+        };
+        let Phase::Replying(reply, given) = &mut self.ports[port].phase else {
+            return (NO_REPLY, 0);
+        };
+        let byte = reply[*given];
+        *given += 1;
+        if *given == reply.len() {
+            self.ports[port].phase = Phase::Gathering(Vec::new());
+        }
+        (DONE, byte)
+    }
+
+    /// Press a key.
+    pub fn press(&mut self, code: u8) -> u8 {
+        if self.lent != WHOLE {
+            return LENT_LENGTH;
+        }
+        if self.holds(0, true) || self.holds(1, true) {
+            return CONSOLE_HELD;
+        }
+        self.console.key = code;
+        DONE
+    }
+
+    /// The checks that every call with a port makes first.
+    fn port(&self, port: u8) -> Result<usize, u8> {
+        if self.lent != WHOLE {
+            Err(LENT_LENGTH)
+        } else if port > 1 {
+            Err(NO_PORT)
+        } else {
+            Ok(usize::from(port))
+        }
+    }
+
+    /// Whether the port holds the console, or else the printer.
+    fn holds(&self, port: usize, console: bool) -> bool {
+        match &self.ports[port].phase {
+            Phase::Running(run) => run.file.device.is_console() == console,
+            _ => false,
+        }
+    }
+
+    // ---- messages ----
+
+    /// The start tick of a ready message.
+    fn start(&mut self, port: usize, message: &[u8]) -> u8 {
+        let value = &message[3..];
+        let reply = match (message[0], value.len()) {
+            (0x10, 9) => return self.start_call(port, Call::of(value)),
+            (0x11, 3..=258) => vec![0x91, 1, 0, self.load(port, value)],
+            (0x12, 4) => self.fetch(port, word(value), word(&value[2..])),
+            (0x10..=0x12, _) => vec![0xFF, 1, 0, BAD_COMMAND],
+            _ => vec![0xFF, 1, 0, UNKNOWN_TAG],
+        };
+        self.reply(port, reply);
+        DONE
+    }
+
+    fn load(&mut self, port: usize, value: &[u8]) -> u8 {
+        let (address, data) = (word(value), &value[2..]);
+        if address + data.len() > AREA {
+            return PAST_AREA;
+        }
+        let from = port * AREA + address;
+        self.area[from..from + data.len()].copy_from_slice(data);
+        SUCCESS
+    }
+
+    fn fetch(&self, port: usize, address: usize, count: usize) -> Vec<u8> {
+        if count == 0 || count > 256 {
+            return vec![0x92, 1, 0, BAD_COMMAND];
+        }
+        if address + count > AREA {
+            return vec![0x92, 1, 0, PAST_AREA];
+        }
+        let length = 1 + count;
+        let from = port * AREA + address;
+        let mut reply = vec![0x92, (length % 256) as u8, (length / 256) as u8, SUCCESS];
+        reply.extend_from_slice(&self.area[from..from + count]);
+        reply
+    }
+
+    fn reply(&mut self, port: usize, reply: Vec<u8>) {
+        self.ports[port].phase = Phase::Replying(reply, 0);
+    }
+
+    fn reply_call(&mut self, port: usize, status: u8, count: usize, a: u8) {
+        let reply = vec![0x90, 4, 0, status, (count % 256) as u8, (count / 256) as u8, a];
+        self.reply(port, reply);
+    }
+
+    // ---- CALL ----
+
+    /// The start tick of a CALL: all but transfers.
+    fn start_call(&mut self, port: usize, call: Call) -> u8 {
+        let file = match self.judge(port, &call) {
+            Ok(Some(file)) => file,
+            Ok(None) => {
+                self.reply_call(port, SUCCESS, 0, call.a);
+                return DONE;
+            }
+            Err(status) => {
+                self.reply_call(port, status, 0, call.a);
+                return DONE;
+            }
+        };
+        if self.holds(1 - port, file.device.is_console()) {
+            return GROUP_HELD;
+        }
+        if call.reads() || call.writes() {
+            match self.ready_device(file.device) {
+                Ok(()) => self.ports[port].phase = Phase::Running(Run { call, file, count: 0 }),
+                Err(status) => self.reply_call(port, status, 0, call.a),
+            }
+            return DONE;
+        }
+        let status = self.without_transfer(port, &call, file).err().unwrap_or(SUCCESS);
+        self.reply_call(port, status, 0, call.a);
+        DONE
+    }
+
+    /// The checks before the group: the file that the CALL is about, `None`
+    /// for CLOSE of a closed block, or the status that refuses it.
+    fn judge(&self, port: usize, call: &Call) -> Result<Option<File>, u8> {
+        if call.iocb > 7 {
+            return Err(BAD_IOCB);
+        }
+        if matches!(call.command, 0 | 1 | 2 | 4 | 6 | 8 | 0x0A) {
+            return Err(BAD_COMMAND);
+        }
+        let block = self.ports[port].blocks[usize::from(call.iocb)];
+        if call.command == CLOSE {
+            return Ok(block);
+        }
+        if call.reads() || call.writes() {
+            let file = block.ok_or(NOT_OPEN)?;
+            if call.reads() && file.aux1 & R == 0 {
+                return Err(NOT_READABLE);
+            }
+            if call.writes() && file.aux1 & W == 0 {
+                return Err(NOT_WRITABLE);
+            }
+            if call.length > 0 && call.address + call.length > AREA {
+                return Err(PAST_AREA);
+            }
+            return Ok(Some(file));
+        }
+        // OPEN, GET STATUS and SPECIAL
+        if call.command == OPEN && block.is_some() {
+            return Err(ALREADY_OPEN);
+        }
+        if block.is_some() {
+            return Ok(block);
+        }
+        let (device, number) = self.specification(port, call.address)?;
+        Ok(Some(File { device, number, aux1: call.aux1 }))
+    }
+
+    /// Device and number of the specification at an address.
+    fn specification(&self, port: usize, address: usize) -> Result<(Device, u8), u8> {
+        let byte = |at: usize| {
+            if at < AREA {
+                Ok(self.area[port * AREA + at])
+            } else {
+                Err(PAST_AREA)
+            }
+        };
+        let device = Device::of_letter(byte(address)?).ok_or(NO_DEVICE)?;
+        match byte(address + 1)? {
+            b':' => Ok((device, 1)),
+            digit @ b'1'..=b'8' => match byte(address + 2)? {
+                b':' => Ok((device, digit - b'0')),
+                _ => Err(NO_DEVICE),
+            },
+            _ => Err(NO_DEVICE),
+        }
+    }
+
+    /// OPEN, CLOSE, GET STATUS and SPECIAL, with the group held.
+    fn without_transfer(&mut self, port: usize, call: &Call, file: File) -> Result<(), u8> {
+        let iocb = usize::from(call.iocb);
+        match call.command {
+            OPEN => {
+                self.open(file, call.aux2)?;
+                self.ports[port].blocks[iocb] = Some(file);
+                Ok(())
+            }
+            CLOSE => {
+                self.ports[port].blocks[iocb] = None;
+                Ok(())
+            }
+            command => {
+                if self.ports[port].blocks[iocb].is_none() {
+                    self.open(file, call.aux2)?;
+                }
+                if command == GET_STATUS {
+                    Ok(())
+                } else {
+                    Err(BAD_COMMAND)
+                }
+            }
+        }
+    }
+
+    /// What a transfer does to its device in the start tick.
+    fn ready_device(&mut self, device: Device) -> Result<(), u8> {
+        match device {
+            Device::S if self.console.mode == 0 => return Err(SCREEN_MODE),
+            Device::E if self.console.mode != 0 => self.open_editor(),
+            _ => {}
+        }
+        Ok(())
+    }
+
+    /// A later tick of a transfer: one character, or one refusal.
+    fn step(&mut self, port: usize, mut run: Run) {
+        let Call { length: n, address, a, .. } = run.call;
+        let place = port * AREA + address + run.count;
+        let end = if run.call.reads() {
+            match self.get(run.file.device) {
+                Err(status) => Some((status, a)),
+                Ok(character) if n == 0 => Some((SUCCESS, character)),
+                Ok(character) if run.count < n => {
+                    self.area[place] = character;
+                    run.count += 1;
+                    run.is_over(character).then_some((SUCCESS, a))
+                }
+                // n are stored: the rest of the record is dropped
+                Ok(character) => (character == EOL).then_some((RECORD_CUT, a)),
+            }
+        } else {
+            let added = n > 0 && run.count == n;
+            let character = match n {
+                0 => a,
+                _ if added => EOL,
+                _ => self.area[place],
+            };
+            match self.put(run.file.device, character) {
+                Err(status) => Some((status, a)),
+                Ok(()) if n == 0 || added => Some((SUCCESS, a)),
+                Ok(()) => {
+                    run.count += 1;
+                    run.is_over(character).then_some((SUCCESS, a))
+                }
+            }
+        };
+        match end {
+            Some((status, a)) => self.reply_call(port, status, run.count, a),
+            None => self.ports[port].phase = Phase::Running(run),
+        }
+    }
+
+    // ---- the devices ----
+
+    /// A device's open: AUX1, mode, and what it does to the device.
+    fn open(&mut self, file: File, aux2: u8) -> Result<(), u8> {
+        let bit = |bits: u8| file.aux1 & bits != 0;
+        match file.device {
+            Device::K if bit(W) => Err(BAD_COMMAND),
+            Device::P if bit(R) => Err(BAD_COMMAND),
+            Device::E if bit(R) && !bit(FORCED) => Err(BAD_COMMAND),
+            Device::S if bit(SPLIT) || !(3..=8).contains(&aux2) => Err(SCREEN_MODE),
+            Device::K | Device::P => Ok(()),
+            Device::E => {
+                self.open_editor();
+                Ok(())
+            }
+            Device::S => {
+                self.open_screen(aux2, bit(KEEP));
+                Ok(())
+            }
+        }
+    }
+
+    fn open_editor(&mut self) {
+        self.console.mode = 0;
+        self.clear_text();
+        self.console.escape = false;
+        self.console.read_column = None;
+    }
+
+    fn open_screen(&mut self, mode: u8, keep: bool) {
+        let (columns, rows, colours) = shape(mode);
+        self.console.mode = mode;
+        self.console.row = 0;
+        self.console.column = 0;
+        for cell in &mut self.screen[..columns * rows] {
+            *cell = if keep { (u16::from(*cell) % colours) as u8 } else { 0 };
+        }
+    }
+
+    fn get(&mut self, device: Device) -> Result<u8, u8> {
+        match device {
+            Device::E => Ok(self.editor_get()),
+            Device::S => self.screen_get(),
+            Device::K => self.key_get(),
+            Device::P => unreachable!("P offers no R"),
+        }
+    }
+
+    fn put(&mut self, device: Device, byte: u8) -> Result<(), u8> {
+        match device {
+            Device::E => self.editor_put(byte),
+            Device::S => return self.screen_put(byte),
+            Device::K => unreachable!("K offers no W"),
+            Device::P => {
+                if self.used == PAPER {
+                    return Err(PAPER_FULL);
+                }
+                self.paper[self.used] = byte;
+                self.used += 1;
+            }
+        }
+        Ok(())
+    }
+
+    // S
+
+    fn screen_put(&mut self, byte: u8) -> Result<(), u8> {
+        let (columns, rows, colours) = shape(self.console.mode);
+        if byte == 0x7D {
+            self.screen[..columns * rows].fill(0);
+            self.console.row = 0;
+            self.console.column = 0;
+            return Ok(());
+        }
+        if self.console.row == rows {
+            return Err(CURSOR_RANGE);
+        }
+        if byte == EOL {
+            self.console.row += 1;
+            self.console.column = 0;
+            return Ok(());
+        }
+        self.screen[self.console.row * columns + self.console.column] = (u16::from(byte) % colours) as u8;
+        self.console.last = byte;
+        self.screen_move_on();
+        Ok(())
+    }
+
+    fn screen_get(&mut self) -> Result<u8, u8> {
+        let (columns, rows, colours) = shape(self.console.mode);
+        if self.console.row == rows {
+            return Err(CURSOR_RANGE);
+        }
+        let cell = self.screen[self.console.row * columns + self.console.column];
+        let character = (u16::from(cell) % colours) as u8;
+        self.console.last = character;
+        self.screen_move_on();
+        Ok(character)
+    }
+
+    fn screen_move_on(&mut self) {
+        let (columns, ..) = shape(self.console.mode);
+        self.console.column += 1;
+        if self.console.column == columns {
+            self.console.column = 0;
+            self.console.row += 1;
+        }
+    }
+
+    // E
+
+    /// All cells blank, cursor home.
+    fn clear_text(&mut self) {
+        self.screen[..TEXT_CELLS].fill(0x20);
+        self.console.row = 0;
+        self.console.column = LEFT;
+    }
+
+    fn new_row(&mut self) {
+        self.console.column = LEFT;
+        if self.console.row < BOTTOM {
+            self.console.row += 1;
+        } else {
+            self.screen.copy_within(40..TEXT_CELLS, 0);
+            self.screen[TEXT_CELLS - 40..TEXT_CELLS].fill(0x20);
+        }
+    }
+
+    fn editor_put(&mut self, byte: u8) {
+        self.console.read_column = None;
+        if self.console.escape {
+            self.console.escape = false;
+            if byte == EOL {
+                self.new_row();
+            } else {
+                self.editor_data(byte);
+            }
+            return;
+        }
+        let (row, column) = (self.console.row, self.console.column);
+        match byte {
+            0x1B => self.console.escape = true,
+            0x1C => self.console.row = if row == 0 { BOTTOM } else { row - 1 },
+            0x1D => self.console.row = if row == BOTTOM { 0 } else { row + 1 },
+            0x1E => self.console.column = if column == LEFT { RIGHT } else { column - 1 },
+            0x1F => self.console.column = if column == RIGHT { LEFT } else { column + 1 },
+            0x7D => self.clear_text(),
+            0x7E if column > LEFT => {
+                self.console.column = column - 1;
+                self.screen[40 * row + column - 1] = 0x20;
+            }
+            EOL => self.new_row(),
+            0x7E | 0x7F | 0x9C..=0x9F | 0xFD..=0xFF => {}
+            data => self.editor_data(data),
+        }
+    }
+
+    fn editor_data(&mut self, byte: u8) {
+        self.screen[40 * self.console.row + self.console.column] = byte;
+        self.console.last = byte;
+        if self.console.column == RIGHT {
+            self.new_row();
+        } else {
+            self.console.column += 1;
+        }
+    }
+
+    fn editor_get(&mut self) -> u8 {
+        let at = self.console.read_column.unwrap_or(LEFT);
+        let row = &self.screen[40 * self.console.row..40 * self.console.row + 40];
+        let last = (LEFT..=RIGHT).rev().find(|&column| row[column] != 0x20);
+        if last.is_some_and(|last| at <= last) {
+            let character = row[at];
+            self.console.last = character;
+            self.console.read_column = Some(at + 1);
+            character
+        } else {
+            self.new_row();
+            self.console.read_column = None;
+            EOL
+        }
+    }
+
+    // K
+
+    fn key_get(&mut self) -> Result<u8, u8> {
+        let code = std::mem::replace(&mut self.console.key, NO_KEY);
+        let lock = u32::from(self.console.lock);
+        match translate(u32::from(code), lock, u32::from(self.console.inverse)) {
+            character @ 0..=255 => return Ok(character as u8),
+            257 => self.console.inverse = 1 - self.console.inverse,
+            258 => self.console.lock = 0,
+            259 => self.console.lock = 1,
+            260 => self.console.lock = 2,
+            _ => {}
+        }
+        Err(END_OF_FILE)
+    }
+}
+
+impl Run {
+    /// Whether the request ends with success after this counted character.
+    /// A record goes on without an EOL, to add one or to drop up to one.
+    fn is_over(&self, character: u8) -> bool {
+        if self.call.by_record() {
+            character == EOL
+        } else {
+            self.count == self.call.length
+        }
+    }
+}
