@@ -1,0 +1,219 @@
+"""The command for people: its words, and one line for what goes wrong."""
+
+from __future__ import annotations
+
+import os
+import subprocess
+import sys
+from collections.abc import Callable
+from pathlib import Path
+
+from . import demo, picture, screen, script, toolchain
+from .errors import StickError
+from .play import Player
+from .toolchain import Missing
+
+HELP = f"""\
+stick: the I/O half of an Atari 400/800 between a laptop and a phone
+
+  stick [demo]         two hosts at work at once, then one that waits
+  stick live           the stick in this terminal, with a pseudo-terminal for
+                       each host; --speed N ticks each port N times a second
+  stick play SCRIPT    plays a call script in readable form and shows the
+                       answers; - is standard input
+  stick picture FILE   writes the screen as a PNG: of a drawing, or after the
+                       call script of --script SCRIPT; - is standard output
+  stick --help         this text
+
+A call script has one op a line; # begins a comment:
+  fresh | take PORT BYTES | tick PORT [x N] | give PORT [x N] | press CODE
+  lend BUFFER N | dump | raw BYTES         (BYTES and CODE are hexadecimal)
+
+What is needed is proved and built first; {toolchain.OVERRIDE} names another
+program in its place. The end status is 0; 1 if a run went wrong; 2 for a bad
+word or something missing.
+"""
+
+
+class Usage(StickError):
+    """Words that make no sense."""
+
+
+def main(words: list[str]) -> int:
+    """Runs the command; its end status."""
+    if sys.stdout is None:  # closed by who started this
+        return _say_or_not("there is no standard output", 2)
+    try:
+        sys.stdout.reconfigure(errors="replace")  # type: ignore[union-attr]
+        status = _run(words)
+        sys.stdout.flush()
+        return status
+    except (Usage, Missing, script.ScriptError) as error:
+        return _fail(str(error), 2)
+    except BrokenPipeError:
+        return _fail("standard output was closed before the end", 1)
+    except StickError as error:
+        return _fail(str(error), 1)
+    except OSError as error:
+        return _fail(error.strerror or str(error), 1)
+    except KeyboardInterrupt:
+        return _fail("interrupted", 130)
+
+
+def say(text: str) -> None:
+    """A line on what is done, beside the output."""
+    print(f"stick: {text}", file=sys.stderr, flush=True)
+
+
+def _fail(text: str, status: int) -> int:
+    """Says what went wrong. What is already written stays; what cannot be
+    written any more is not tried again when the program ends."""
+    try:
+        sys.stdout.flush()
+    except OSError:
+        os.dup2(os.open(os.devnull, os.O_WRONLY), sys.stdout.fileno())
+    return _say_or_not(text, status)
+
+
+def _say_or_not(text: str, status: int) -> int:
+    try:
+        say(text)
+    except OSError:
+        pass  # nobody is left to hear it
+    return status
+
+
+def _run(words: list[str]) -> int:
+    word, rest = (words[0], words[1:]) if words else ("demo", [])
+    if word in ("-h", "--help", "help"):
+        print(HELP, end="")
+        return 0
+    commands: dict[str, Callable[[list[str]], int]] = {
+        "demo": _demo,
+        "live": _live,
+        "play": _play,
+        "picture": _picture,
+    }
+    if word not in commands:
+        raise Usage(f"unknown word '{word}' (try ./stick --help)")
+    return commands[word](rest)
+
+
+def _demo(words: list[str]) -> int:
+    _operands("demo", words, 0)
+    with Player(toolchain.play_command(say)) as player:
+        demo.show(player)
+    return 0
+
+
+def _live(words: list[str]) -> int:
+    words, speed = _option(words, "--speed")
+    _operands("live", words, 0)
+    if speed is not None and not (speed.isascii() and speed.isdigit() and 0 < int(speed) <= 1_000_000):
+        raise Usage(f"--speed takes a number from 1 to 1000000, not '{speed}'")
+    if not (sys.stdin.isatty() and sys.stdout.isatty()):
+        raise Missing("live needs a terminal")
+    try:
+        import curses
+
+        from . import live
+    except ImportError as error:
+        raise Missing(f"live needs Python's curses module: {error}") from error
+    with Player(toolchain.play_command(say)) as player:
+        try:
+            live.run(player, int(speed) if speed else live.SPEED, lambda text: print(text, flush=True))
+        except curses.error as error:
+            raise Missing(f"live cannot use this terminal: {error}") from error
+        state = player.state()
+    for line in screen.paper_lines(state):
+        print(line)
+    say(f"the stick is unplugged; its paper has {state.used} bytes")
+    return 0
+
+
+def _play(words: list[str]) -> int:
+    _operands("play", words, 1, "a SCRIPT")
+    ops = _read_script(words[0])
+    # Not a conversation: what is written before an early end is kept.
+    done = subprocess.run(
+        toolchain.play_command(say), input=script.to_bytes(ops), stdout=subprocess.PIPE, check=False
+    )
+    for line in script.format_answers(ops, done.stdout):
+        print(line)
+    if len(done.stdout) < sum(op.output for op in ops):
+        raise StickError("play ended before the script did")
+    return 0
+
+
+def _picture(words: list[str]) -> int:
+    words, script_name = _option(words, "--script")
+    _operands("picture", words, 1, "a FILE")
+    ops = None if script_name is None else _read_script(script_name)
+    if ops and isinstance(ops[-1], script.Raw):
+        raise Usage(f"{script_name}: the script ends the run, so that there is no picture after it")
+    _check_directory(words[0])
+    with Player(toolchain.play_command(say)) as player:
+        if ops is None:
+            picture.draw(player)
+        else:
+            player.do(*ops)
+        state = player.state()
+    _write(words[0], picture.png(state))
+    return 0
+
+
+# words and files
+
+
+def _operands(word: str, words: list[str], count: int, what: str = "no more words") -> None:
+    wrong = [each for each in words if each.startswith("-") and each != "-"]
+    if wrong:
+        raise Usage(f"{word} has no option '{wrong[0]}' (try ./stick --help)")
+    if len(words) != count:
+        raise Usage(f"{word} takes {what}{' and no more words' if count else ''} (try ./stick --help)")
+
+
+def _option(words: list[str], name: str) -> tuple[list[str], str | None]:
+    """The words without an option, and its operand."""
+    if name not in words:
+        return words, None
+    at = words.index(name)
+    if at + 1 == len(words):
+        raise Usage(f"{name} needs a word after it")
+    return words[:at] + words[at + 2 :], words[at + 1]
+
+
+def _read_script(file: str) -> list[script.Op]:
+    try:
+        data = sys.stdin.buffer.read() if file == "-" else Path(file).read_bytes()
+        return script.parse(data.decode("utf-8"))
+    except OSError as error:
+        raise Missing(f"{file}: {error.strerror}") from error
+    except UnicodeDecodeError:
+        raise Usage(f"{file}: a call script is text") from None
+    except script.ScriptError as error:
+        raise Usage(f"{file}: {error}") from None
+
+
+def _check_directory(file: str) -> None:
+    """Before anything runs: can the file be written where it is to be?"""
+    if file != "-" and (Path(file).is_dir() or not Path(file).absolute().parent.is_dir()):
+        raise Missing(f"{file}: no file can be written there")
+
+
+def _write(file: str, data: bytes) -> None:
+    """Writes a file whole or not at all: an older one stays until then."""
+    if file == "-":
+        sys.stdout.buffer.write(data)
+        return
+    path = Path(file)
+    if path.exists() and not path.is_file():
+        path.write_bytes(data)  # a device or a pipe
+        return
+    part = path.with_name(f".{path.name}.part")
+    try:
+        part.write_bytes(data)
+        part.replace(path)
+    except OSError as error:
+        part.unlink(missing_ok=True)
+        raise StickError(f"{file}: {error.strerror}") from error

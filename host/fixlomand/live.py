@@ -1,0 +1,194 @@
+"""The stick in a terminal: two pseudo-terminals for hosts, screen and keys."""
+
+from __future__ import annotations
+
+import curses
+import locale
+import os
+import select
+import signal
+import sys
+import time
+import tty
+from collections import deque
+from collections.abc import Callable
+from types import FrameType
+
+from . import keys, script
+from .play import Player
+from .ports import Port
+from .view import View
+
+NAMES = ("laptop", "phone")
+SPEED = 20_000
+"""Ticks a second of each port, unless another number is asked for."""
+PACE = 0.01
+"""The longest rest between two looks at hosts and keys, in seconds."""
+FRESH = 0.1
+"""The shortest time between two drawings, in seconds."""
+SLICE = 64
+"""The most ticks of one port before the other has its turn."""
+PIECE = 4096
+CONSOLE_HELD = 6
+QUIT = (3, curses.KEY_F10)
+"""Control-C, F10."""
+
+PRESSED = {
+    curses.KEY_ENTER: keys.RETURN,
+    curses.KEY_BACKSPACE: keys.BACKSPACE,
+    curses.KEY_UP: keys.UP,
+    curses.KEY_DOWN: keys.DOWN,
+    curses.KEY_LEFT: keys.LEFT,
+    curses.KEY_RIGHT: keys.RIGHT,
+    curses.KEY_F1: keys.INVERSE,
+    curses.KEY_F2: keys.UNLOCK,
+    curses.KEY_F3: keys.SHIFT_LOCK,
+    curses.KEY_F4: keys.CONTROL_LOCK,
+    curses.KEY_F5: keys.END_OF_FILE,
+    curses.KEY_F6: keys.CLEAR,
+}
+"""Keys of the terminal that are no characters; they are on the last line."""
+
+
+class Plug:
+    """A pseudo-terminal at a port. The host opens ``path``."""
+
+    def __init__(self, port: Port) -> None:
+        self.port = port
+        self.master, self._slave = os.openpty()
+        # The host's end stays open here, so that hosts may come and go.
+        tty.setraw(self._slave)
+        os.set_blocking(self.master, False)
+        self.path = os.ttyname(self._slave)
+
+    def move(self) -> bool:
+        """Moves bytes between host and port; false if there are none."""
+        moved = False
+        if len(self.port.inbox) < PIECE:
+            try:
+                data = os.read(self.master, PIECE)
+                self.port.inbox += data
+                moved = bool(data)
+            except BlockingIOError:
+                pass
+        if self.port.outbox:
+            try:
+                del self.port.outbox[: os.write(self.master, self.port.outbox)]
+                moved = True
+            except BlockingIOError:
+                pass
+        return moved
+
+    def close(self) -> None:
+        """Takes the pseudo-terminal away."""
+        os.close(self.master)
+        os.close(self._slave)
+
+
+class Live:
+    """What goes on between the terminal, the two plugs and the stick."""
+
+    def __init__(self, player: Player, speed: int) -> None:
+        self._player = player
+        self._speed = speed
+        self.plugs = [Plug(Port(player, number)) for number in (0, 1)]
+        self._typed: deque[int] = deque()
+        self._stopped = False
+
+    def run(self, window: curses.window) -> None:
+        """Until somebody quits."""
+        window.nodelay(True)
+        view = View(window, [plug.path for plug in self.plugs])
+        ports = [plug.port for plug in self.plugs]
+        last = time.monotonic()
+        drawn, cost, changed = 0.0, 0.0, True
+        while not self._stopped:
+            now = time.monotonic()
+            moved = self._ticks(int(min(now - last, FRESH) * self._speed))
+            if moved is not None:
+                last = now
+                changed |= moved
+            changed |= self._keys(window)
+            # A dump may be slow; most of the time is for the hosts.
+            if changed and now - drawn >= max(FRESH, 3 * cost):
+                view.draw(self._player.state(), ports)
+                drawn, changed = now, any(port.under_way for port in ports)
+                cost = time.monotonic() - now
+            self._rest(changed)
+
+    def stop(self) -> None:
+        """Ends ``run``."""
+        self._stopped = True
+
+    def close(self) -> None:
+        """Takes the plugs away."""
+        for plug in self.plugs:
+            plug.close()
+
+    def _ticks(self, ticks: int) -> bool | None:
+        """Both ports in turn, so many ticks each; none if it is too early."""
+        if ticks == 0:
+            return None
+        moved = False
+        end = time.monotonic() + FRESH / 2  # a slow play must not hold up the keys
+        for done in range(0, ticks, SLICE):
+            busy = [plug.move() | plug.port.step(min(SLICE, ticks - done)) for plug in self.plugs]
+            moved |= any(busy)
+            if not any(busy) or time.monotonic() > end:
+                break
+        return moved
+
+    def _keys(self, window: curses.window) -> bool:
+        """Presses what was typed; a refused key is pressed again later."""
+        changed = False
+        while (key := window.getch()) != curses.ERR:
+            code = PRESSED.get(key, keys.code_of(key))
+            if key in QUIT:
+                self.stop()
+            elif code is not None:
+                self._typed.append(code)
+            changed |= key == curses.KEY_RESIZE
+        while self._typed and self._player.do(script.Press(self._typed[0]))[0][0] != CONSOLE_HELD:
+            self._typed.popleft()
+            changed = True
+        return changed
+
+    def _rest(self, changed: bool) -> None:
+        """Until a host or a key comes, but not long. A terminal that has
+        gone ends the run."""
+        under_way = any(plug.port.under_way or plug.port.outbox for plug in self.plugs)
+        poll = select.poll()
+        poll.register(sys.stdin, select.POLLIN)
+        for plug in self.plugs:
+            if not plug.port.inbox:
+                poll.register(plug.master, select.POLLIN)
+        rest = PACE / 10 if under_way else PACE if changed else 10 * PACE
+        for file, events in poll.poll(1000 * rest):
+            if file == sys.stdin.fileno() and events & (select.POLLHUP | select.POLLERR):
+                self.stop()
+
+
+def run(player: Player, speed: int, say: Callable[[str], None]) -> None:
+    """Runs the stick in this terminal until somebody quits."""
+    live = Live(player, speed)
+
+    def stop(number: int, frame: FrameType | None) -> None:
+        live.stop()
+
+    before = {number: signal.signal(number, stop) for number in (signal.SIGINT, signal.SIGTERM, signal.SIGHUP)}
+    try:
+        for name, plug in zip(NAMES, live.plugs):
+            say(f"{name}: {plug.path}")
+        locale.setlocale(locale.LC_ALL, "")
+        os.environ.setdefault("ESCDELAY", "25")
+        curses.wrapper(_in_window, live)
+    finally:
+        live.close()
+        for number, handler in before.items():
+            signal.signal(number, handler)
+
+
+def _in_window(window: curses.window, live: Live) -> None:
+    curses.raw()
+    curses.nonl()
+    live.run(window)

@@ -1,0 +1,96 @@
+"""A running ``play``: calls made one by one, its ports as byte streams."""
+
+from __future__ import annotations
+
+import subprocess
+from collections.abc import Sequence
+from types import TracebackType
+
+from . import script
+from .errors import StickError
+
+GROUP_HELD = 8
+
+
+class Player:
+    """The program ``play``, started with a command and its words."""
+
+    def __init__(self, command: Sequence[str]) -> None:
+        # In a session of its own: the keys and the end of a terminal are for
+        # its user here, and play ends when its input does.
+        self._process = subprocess.Popen(
+            command, stdin=subprocess.PIPE, stdout=subprocess.PIPE, start_new_session=True
+        )
+        assert self._process.stdin is not None and self._process.stdout is not None
+        self._input, self._output = self._process.stdin, self._process.stdout
+
+    def do(self, *ops: script.Op) -> list[bytes]:
+        """Plays ops; what was written for each."""
+        outputs: list[bytes] = []
+        # In pieces that a pipe holds: play writes while it reads.
+        for at in range(0, len(ops), 500):
+            piece = ops[at : at + 500]
+            try:
+                self._input.write(script.to_bytes(piece))
+                self._input.flush()
+            except OSError as error:
+                raise StickError("play has ended") from error
+            outputs += [self._output.read(op.output) for op in piece]
+        if any(len(output) < op.output for op, output in zip(ops, outputs)):
+            raise StickError("play has ended")
+        return outputs
+
+    def state(self) -> script.State:
+        """What a dump tells."""
+        return script.read_dump(self.do(script.Dump())[0])
+
+    def close(self) -> None:
+        """Ends the program."""
+        try:
+            self._input.close()
+        except OSError:
+            pass
+        self._output.close()
+        self._process.wait()
+
+    def __enter__(self) -> Player:
+        return self
+
+    def __exit__(
+        self, kind: type[BaseException] | None, error: BaseException | None, trace: TracebackType | None
+    ) -> None:
+        self.close()
+
+
+class PlayPort:
+    """A port of ``play`` as a byte stream. Reading ticks the port; while its
+    group is held, the other port is ticked instead."""
+
+    def __init__(self, player: Player, port: int) -> None:
+        self._player = player
+        self._port = port
+
+    def write(self, data: bytes) -> int:
+        """Offers the bytes. Bytes before the last reply was read are refused."""
+        for output in self._player.do(*(script.Take(self._port, byte) for byte in data)):
+            if output[0] != 0:
+                raise StickError(script.answer_text(output[0]))
+        return len(data)
+
+    def read(self, size: int) -> bytes:
+        """Up to ``size`` bytes of the reply; none if nothing is under way."""
+        data = b""
+        while len(data) < size:
+            answer, byte = self._player.do(script.Give(self._port))[0]
+            if answer == 0:
+                data += bytes([byte])
+            elif data or not self._tick():
+                break
+        return data
+
+    def _tick(self) -> bool:
+        """Moves on what is under way; false if nothing is."""
+        answer = self._player.do(script.Ticks(self._port, 0xFFFF))[0][2]
+        if answer == GROUP_HELD:
+            answer = self._player.do(script.Ticks(1 - self._port, 0xFFFF))[0][2]
+        return answer == 0

@@ -1,0 +1,440 @@
+"""The call script of ``play``: its ops as bytes and as readable text.
+
+The readable form has one op a line; ``#`` begins a comment::
+
+    fresh                    F
+    take 0 11 05 00          T, once for each byte (hexadecimal)
+    tick 0                   K
+    tick 0 x 300             X: up to 300 ticks
+    give 0                   G
+    give 0 x 4               G, four times
+    press 3F                 P (hexadecimal)
+    lend area 100            L: area, screen, paper, rooms, or a number
+    dump                     D
+    raw 54 00                bytes as they are (no op, or one that is cut)
+"""
+
+from __future__ import annotations
+
+from collections.abc import Iterator, Sequence
+from dataclasses import dataclass
+from itertools import groupby
+from typing import Union
+
+AREA = 16_384
+SCREEN = 61_440
+PAPER = 4_096
+BUFFERS = ("area", "screen", "paper", "rooms")
+PHASES = ("gathering", "ready", "running", "replying")
+ANSWERS = (
+    "done",
+    "port above 1",
+    "a lent buffer has another length",
+    "damaged state",
+    "byte offered while not gathering",
+    "no reply byte to give",
+    "key pressed while a request holds the console",
+    "tick, nothing ready or running",
+    "tick, ready, group held by the other port",
+)
+NUMBERS = (
+    ("used", 2),
+    ("mode", 1),
+    ("row", 1),
+    ("column", 2),
+    ("last", 1),
+    ("escape", 1),
+    ("read column", 1),
+    ("key", 1),
+    ("lock", 1),
+    ("inverse", 1),
+)
+"""The numbers of a dump after area, screen and paper: name, bytes."""
+DUMP = 2 * AREA + SCREEN + PAPER + sum(length for _, length in NUMBERS) + 2 * 8 * 4 + 2
+"""The bytes of a dump."""
+TAKES = 16
+"""The most bytes of a take on one line."""
+
+
+class ScriptError(ValueError):
+    """A line that is no op."""
+
+
+@dataclass(frozen=True)
+class Fresh:
+    """Fresh start."""
+
+    output = 1
+
+    def encode(self) -> bytes:
+        return b"F"
+
+
+@dataclass(frozen=True)
+class Take:
+    """Take a byte."""
+
+    port: int
+    byte: int
+    output = 1
+
+    def encode(self) -> bytes:
+        return bytes([ord("T"), self.port, self.byte])
+
+
+@dataclass(frozen=True)
+class Tick:
+    """Tick a port."""
+
+    port: int
+    output = 1
+
+    def encode(self) -> bytes:
+        return bytes([ord("K"), self.port])
+
+
+@dataclass(frozen=True)
+class Give:
+    """Give the next reply byte."""
+
+    port: int
+    output = 2
+
+    def encode(self) -> bytes:
+        return bytes([ord("G"), self.port])
+
+
+@dataclass(frozen=True)
+class Press:
+    """Press a key."""
+
+    code: int
+    output = 1
+
+    def encode(self) -> bytes:
+        return bytes([ord("P"), self.code])
+
+
+@dataclass(frozen=True)
+class Ticks:
+    """Tick up to ``count`` times, while the port runs on."""
+
+    port: int
+    count: int
+    output = 3
+
+    def encode(self) -> bytes:
+        return bytes([ord("X"), self.port]) + self.count.to_bytes(2, "little")
+
+
+@dataclass(frozen=True)
+class Lend:
+    """Lend a buffer cut to ``length`` from now on."""
+
+    buffer: int
+    length: int
+    output = 0
+
+    def encode(self) -> bytes:
+        return bytes([ord("L"), self.buffer]) + self.length.to_bytes(3, "little")
+
+
+@dataclass(frozen=True)
+class Dump:
+    """Dump all."""
+
+    output = DUMP
+
+    def encode(self) -> bytes:
+        return b"D"
+
+
+@dataclass(frozen=True)
+class Raw:
+    """Bytes that are no op, or a cut one: the run ends here."""
+
+    data: bytes
+    output = 0
+
+    def encode(self) -> bytes:
+        return self.data
+
+
+Op = Union[Fresh, Take, Tick, Give, Press, Ticks, Lend, Dump, Raw]
+
+
+def to_bytes(ops: Sequence[Op]) -> bytes:
+    """The script of some ops."""
+    return b"".join(op.encode() for op in ops)
+
+
+def from_bytes(script: bytes) -> list[Op]:
+    """The ops of a script; what ends its run is the last, as ``Raw``."""
+    lengths = {b"F": 1, b"T": 3, b"K": 2, b"G": 2, b"P": 2, b"X": 4, b"L": 5, b"D": 1}
+    ops: list[Op] = []
+    at = 0
+    while at < len(script):
+        letter = script[at : at + 1]
+        length = lengths.get(letter, 0)
+        if length == 0 or at + length > len(script):
+            ops.append(Raw(script[at:]))
+            break
+        ops.append(_op(letter, script[at + 1 : at + length]))
+        at += length
+    return ops
+
+
+def _op(letter: bytes, operands: bytes) -> Op:
+    if letter == b"F":
+        return Fresh()
+    if letter == b"D":
+        return Dump()
+    first, rest = operands[0], int.from_bytes(operands[1:], "little")
+    if letter == b"T":
+        return Take(first, rest)
+    if letter == b"K":
+        return Tick(first)
+    if letter == b"G":
+        return Give(first)
+    if letter == b"P":
+        return Press(first)
+    if letter == b"X":
+        return Ticks(first, rest)
+    return Lend(first, rest)
+
+
+# readable text
+
+
+def parse(text: str) -> list[Op]:
+    """Reads the readable form; the error names the line."""
+    script = b""
+    for number, line in enumerate(text.splitlines(), 1):
+        words = line.split("#")[0].split()
+        if words:
+            try:
+                script += to_bytes(_line_ops(words))
+            except ValueError:
+                raise ScriptError(f"line {number}: not an op: {line.split('#')[0].strip()}") from None
+    return from_bytes(script)
+
+
+def _number(word: str, end: int) -> int:
+    if not (word.isascii() and word.isdigit()) or int(word) >= end:
+        raise ValueError(word)
+    return int(word)
+
+
+def _byte(word: str) -> int:
+    if not 1 <= len(word) <= 2 or any(digit not in "0123456789abcdefABCDEF" for digit in word):
+        raise ValueError(word)
+    return int(word, 16)
+
+
+def _line_ops(words: list[str]) -> list[Op]:
+    name, operands = words[0], words[1:]
+    if name == "fresh" and not operands:
+        return [Fresh()]
+    if name == "dump" and not operands:
+        return [Dump()]
+    if name == "take" and len(operands) > 1:
+        port = _number(operands[0], 256)
+        return [Take(port, _byte(word)) for word in operands[1:]]
+    if name in ("tick", "give") and operands:
+        port = _number(operands[0], 256)
+        if len(operands) == 1:
+            return [Tick(port) if name == "tick" else Give(port)]
+        if len(operands) == 3 and operands[1] == "x":
+            count = _number(operands[2], 1 << 16)
+            return [Ticks(port, count)] if name == "tick" else [Give(port)] * count
+    if name == "press" and len(operands) == 1:
+        return [Press(_byte(operands[0]))]
+    if name == "lend" and len(operands) == 2:
+        buffer = BUFFERS.index(operands[0]) if operands[0] in BUFFERS else _number(operands[0], 256)
+        return [Lend(buffer, _number(operands[1], 1 << 24))]
+    if name == "raw" and operands:
+        return [Raw(bytes(_byte(word) for word in operands))]
+    raise ValueError(name)
+
+
+def to_text(ops: Sequence[Op]) -> str:
+    """Ops in readable form."""
+    return "".join(f"{line}\n" for line, _ in _lines(ops))
+
+
+def _lines(ops: Sequence[Op]) -> Iterator[tuple[str, Sequence[Op]]]:
+    """The lines of a text, each with its ops."""
+    at = 0
+    while at < len(ops):
+        op = ops[at]
+        end = at + 1
+        if isinstance(op, Take):
+            taken = [op.byte]
+            while end < len(ops) and end - at < TAKES:
+                other = ops[end]
+                if not isinstance(other, Take) or other.port != op.port:
+                    break
+                taken.append(other.byte)
+                end += 1
+            line = f"take {op.port} {_hexadecimal(bytes(taken))}"
+        elif isinstance(op, Give):
+            while end < len(ops) and ops[end] == op:
+                end += 1
+            line = f"give {op.port}" if end == at + 1 else f"give {op.port} x {end - at}"
+        else:
+            line = _line(op)
+        yield line, ops[at:end]
+        at = end
+
+
+def _line(op: Op) -> str:
+    if isinstance(op, Fresh):
+        return "fresh"
+    if isinstance(op, Take):
+        return f"take {op.port} {op.byte:02X}"
+    if isinstance(op, Tick):
+        return f"tick {op.port}"
+    if isinstance(op, Give):
+        return f"give {op.port}"
+    if isinstance(op, Press):
+        return f"press {op.code:02X}"
+    if isinstance(op, Ticks):
+        return f"tick {op.port} x {op.count}"
+    if isinstance(op, Lend):
+        name = BUFFERS[op.buffer] if op.buffer < len(BUFFERS) else op.buffer
+        return f"lend {name} {op.length}"
+    if isinstance(op, Dump):
+        return "dump"
+    return f"raw {_hexadecimal(op.data)}"
+
+
+def _hexadecimal(data: bytes) -> str:
+    return data.hex(" ").upper()
+
+
+# answers
+
+
+@dataclass(frozen=True)
+class Block:
+    """A control block of a dump."""
+
+    is_open: bool
+    device: str
+    number: int
+    aux1: int
+
+
+@dataclass(frozen=True)
+class State:
+    """What a dump tells."""
+
+    areas: tuple[bytes, bytes]
+    screen: bytes
+    paper: bytes
+    """The whole paper; ``used`` bytes of it are printed."""
+    used: int
+    mode: int
+    row: int
+    column: int
+    last: int
+    escape: bool
+    read_column: int | None
+    key: int
+    lock: int
+    inverse: int
+    blocks: tuple[tuple[Block, ...], tuple[Block, ...]]
+    phases: tuple[int, int]
+
+
+def read_dump(output: bytes) -> State:
+    """Reads what ``dump`` wrote."""
+    if len(output) != DUMP:
+        raise ValueError(f"a dump has {DUMP} bytes, not {len(output)}")
+    places = (AREA, 2 * AREA, 2 * AREA + SCREEN, 2 * AREA + SCREEN + PAPER)
+    number, at = _numbers(output, places[3])
+    blocks = [
+        Block(output[place] == 1, chr(output[place + 1]) if output[place + 1] else "", *output[place + 2 : place + 4])
+        for place in range(at, at + 64, 4)
+    ]
+    return State(
+        areas=(output[: places[0]], output[places[0] : places[1]]),
+        screen=output[places[1] : places[2]],
+        paper=output[places[2] : places[3]],
+        used=number["used"],
+        mode=number["mode"],
+        row=number["row"],
+        column=number["column"],
+        last=number["last"],
+        escape=number["escape"] == 1,
+        read_column=None if number["read column"] == 255 else number["read column"],
+        key=number["key"],
+        lock=number["lock"],
+        inverse=number["inverse"],
+        blocks=(tuple(blocks[:8]), tuple(blocks[8:])),
+        phases=(output[at + 64], output[at + 65]),
+    )
+
+
+def _numbers(output: bytes, at: int) -> tuple[dict[str, int], int]:
+    numbers = {}
+    for name, length in NUMBERS:
+        numbers[name] = int.from_bytes(output[at : at + length], "little")
+        at += length
+    return numbers, at
+
+
+def answer_text(answer: int) -> str:
+    """An answer with its meaning."""
+    return f"{answer} {ANSWERS[answer] if answer < len(ANSWERS) else 'no such answer'}"
+
+
+def describe(op: Op, output: bytes) -> str:
+    """What was written for one op, in words. Cut output says so."""
+    if len(output) < op.output:
+        return f"the output ends after {_hexadecimal(output)}" if output else "the output ends"
+    if isinstance(op, Give):
+        return f"{answer_text(output[0])}, byte {output[1]:02X}"
+    if isinstance(op, Ticks):
+        return f"ticks {int.from_bytes(output[:2], 'little')}, last {answer_text(output[2])}"
+    if isinstance(op, (Lend, Raw)):
+        return "nothing"
+    if isinstance(op, Dump):
+        return _describe_dump(output)
+    return answer_text(output[0])
+
+
+def _describe_dump(output: bytes) -> str:
+    """A dump's numbers and open blocks on one line; its buffers are left out."""
+    numbers, at = _numbers(output, 2 * AREA + SCREEN + PAPER)
+    parts = [f"{name} {value}" for name, value in numbers.items()]
+    for place in range(16):
+        block = output[at + 4 * place : at + 4 * place + 4]
+        if any(block):
+            parts.append(f"port {place // 8} block {place % 8} {chr(block[1])}{block[2]}: AUX1 {block[3]:02X}")
+    for port in (0, 1):
+        phase = output[at + 64 + port]
+        parts.append(f"port {port} {PHASES[phase] if phase < len(PHASES) else 'in no phase'}")
+    return ", ".join(parts)
+
+
+def format_answers(ops: Sequence[Op], output: bytes) -> list[str]:
+    """The lines of a script, each with what was written for it."""
+    lines = []
+    at = 0
+    for line, of_line in _lines(ops):
+        pieces = []
+        for op in of_line:
+            pieces.append((op, output[at : at + op.output]))
+            at += op.output
+        lines.append(f"{line}: {_together(pieces)}" if of_line[0].output else line)
+    return lines
+
+
+def _together(pieces: list[tuple[Op, bytes]]) -> str:
+    """The answers of one line: bytes given in a row, equal answers once."""
+    if len(pieces) > 1 and all(isinstance(op, Give) and len(piece) == 2 and piece[0] == 0 for op, piece in pieces):
+        return f"{answer_text(0)}, bytes {_hexadecimal(bytes(piece[1] for _, piece in pieces))}"
+    answers = [describe(op, piece) for op, piece in pieces]
+    runs = [(words, len(list(equal))) for words, equal in groupby(answers)]
+    return "; ".join(words if times == 1 else f"{words} (x {times})" for words, times in runs)

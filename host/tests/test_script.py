@@ -1,0 +1,106 @@
+"""The call script in its two forms, and what is written for it."""
+
+import unittest
+
+from fixlomand import script
+from fixlomand.script import Dump, Fresh, Give, Lend, Press, Raw, Take, Tick, Ticks
+
+# The same text and bytes are tested in the model.
+TEXT = """\
+fresh
+take 0 11 05 00 00 00 45 3A 9B
+tick 0
+give 0 x 4
+give 0
+take 1 10
+take 255 FF
+tick 1 x 300
+press 3F
+lend area 100
+lend rooms 520
+lend 7 70000
+dump
+raw 54 00
+"""
+BYTES = bytes.fromhex(
+    "46 540011 540005 540000 540000 540000 540045 54003A 54009B 4B00 4700 4700 4700 4700 4700"
+    "540110 54FFFF 58012C01 503F 4C00640000 4C03080200 4C07701101 44 5400"
+)
+
+
+def dump(**places: int) -> bytes:
+    """A dump of zeros but for some places after the buffers."""
+    output = bytearray(script.DUMP)
+    for place, value in places.items():
+        output[98_304 + int(place[1:])] = value
+    return bytes(output)
+
+
+class Forms(unittest.TestCase):
+    def test_both(self) -> None:
+        ops = script.parse(TEXT)
+        self.assertEqual(script.to_bytes(ops), BYTES)
+        self.assertEqual(script.from_bytes(BYTES), ops)
+        self.assertEqual(script.to_text(ops), TEXT.replace("give 0 x 4\ngive 0\n", "give 0 x 5\n"))
+        self.assertEqual(script.parse(script.to_text(ops)), ops)
+
+    def test_ops(self) -> None:
+        ops = [Fresh(), Take(1, 2), Tick(3), Give(4), Press(5), Ticks(6, 7), Lend(2, 9), Dump(), Raw(b"T\0")]
+        self.assertEqual(script.from_bytes(script.to_bytes(ops)), ops)
+
+    def test_long_takes_are_split(self) -> None:
+        text = script.to_text([Take(0, 7)] * 20)
+        self.assertEqual(text, "take 0" + " 07" * 16 + "\ntake 0" + " 07" * 4 + "\n")
+
+    def test_comments_and_faults(self) -> None:
+        self.assertEqual(script.parse("  # nothing\n\nfresh # all\n"), [Fresh()])
+        bad = "tock 0,take 0,take 0 100,tick 256,tick 0 y 3,tick 0 x 65536,press,lend area 16777216,raw,take 0 +1"
+        for line in bad.split(","):
+            with self.assertRaises(script.ScriptError) as caught:
+                script.parse(f"fresh\n{line}")
+            self.assertEqual(str(caught.exception), f"line 2: not an op: {line}")
+
+
+class Answers(unittest.TestCase):
+    def test_words(self) -> None:
+        self.assertEqual(script.describe(Fresh(), b"\x02"), "2 a lent buffer has another length")
+        self.assertEqual(script.describe(Give(0), b"\x00\x91"), "0 done, byte 91")
+        self.assertEqual(script.describe(Ticks(0, 300), b"\x2c\x01\x00"), "ticks 300, last 0 done")
+        self.assertEqual(script.describe(Lend(0, 1), b""), "nothing")
+        self.assertEqual(script.describe(Tick(0), b""), "the output ends")
+        self.assertEqual(script.describe(Give(0), b"\x05"), "the output ends after 05")
+        self.assertEqual(script.describe(Tick(0), b"\x09"), "9 no such answer")
+
+    def test_lines(self) -> None:
+        ops = script.parse("fresh\ntake 0 55 00 00\nlend area 5\ntick 0\ngive 0 x 3\ntake 1 00 00 00 00")
+        output = bytes([0, 0, 0, 0, 0, 0, 0xFF, 0, 1, 0, 0, 0, 0, 0, 4])
+        self.assertEqual(
+            script.format_answers(ops, output),
+            [
+                "fresh: 0 done",
+                "take 0 55 00 00: 0 done (x 3)",
+                "lend area 5",
+                "tick 0: 0 done",
+                "give 0 x 3: 0 done, bytes FF 01 00",
+                "take 1 00 00 00 00: 0 done (x 3); 4 byte offered while not gathering",
+            ],
+        )
+
+    def test_dump(self) -> None:
+        self.assertEqual(script.DUMP, 98_382)
+        output = dump(p0=2, p1=1, p4=9, p8=255, p9=0xFF, p10=1, p20=1, p21=ord("P"), p22=3, p23=0xF8, p76=2)
+        state = script.read_dump(output)
+        self.assertEqual((state.used, state.column, state.read_column, state.lock), (258, 9, None, 1))
+        self.assertEqual(state.blocks[0][2], script.Block(True, "P", 3, 0xF8))
+        self.assertEqual(state.blocks[1][7], script.Block(False, "", 0, 0))
+        self.assertEqual((state.phases, len(state.screen), len(state.areas[1])), ((2, 0), 61_440, 16_384))
+        self.assertEqual(
+            script.describe(Dump(), output),
+            "used 258, mode 0, row 0, column 9, last 0, escape 0, read column 255, key 255, lock 1, inverse 0, "
+            "port 0 block 2 P3: AUX1 F8, port 0 running, port 1 gathering",
+        )
+        self.assertRaises(ValueError, script.read_dump, output[1:])
+
+
+if __name__ == "__main__":
+    unittest.main()
