@@ -8,7 +8,7 @@ import sys
 from collections.abc import Callable
 from pathlib import Path
 
-from . import demo, picture, screen, script, toolchain
+from . import cases, demo, picture, screen, script, toolchain
 from .errors import StickError
 from .play import Player
 from .toolchain import Missing
@@ -23,6 +23,7 @@ stick: the I/O half of an Atari 400/800 between a laptop and a phone
                        answers; - is standard input
   stick picture FILE   writes the screen as a PNG: of a drawing, or after the
                        call script of --script SCRIPT; - is standard output
+  stick cases          plays the papers' cases and compares each
   stick --help         this text
 
 A call script has one op a line; # begins a comment:
@@ -93,6 +94,7 @@ def _run(words: list[str]) -> int:
         "live": _live,
         "play": _play,
         "picture": _picture,
+        "cases": _cases,
     }
     if word not in commands:
         raise Usage(f"unknown word '{word}' (try ./stick --help)")
@@ -160,6 +162,12 @@ def _picture(words: list[str]) -> int:
         state = player.state()
     _write(words[0], picture.png(state))
     return 0
+
+
+def _cases(words: list[str]) -> int:
+    _operands("cases", words, 0)
+    with Player(toolchain.play_command(say)) as player:
+        return 1 if cases.run(player, cases.CASES) else 0
 
 
 # words and files

@@ -1,0 +1,922 @@
+"""The bench cases of 01-scope and the manual's section 5, each played on a
+fresh stick and compared with what the papers say.
+
+Where 01-scope decides over the manual, what is expected is 01-scope's.
+"""
+
+from __future__ import annotations
+
+from collections.abc import Callable, Sequence
+from dataclasses import dataclass
+
+from . import keys, script, wire
+from .cio import BLOCKS, BUFFER, SPECIFICATION
+from .errors import BadReply
+from .play import Player
+from .wire import AREA, EOL, FORCED, KEEP, PIECE, READ, WRITE, CallReply, Command, FetchReply, LoadReply
+
+OK = 0x01
+BLANK = 0x20
+ESCAPE, UP, DOWN, LEFT, RIGHT = 0x1B, 0x1C, 0x1D, 0x1E, 0x1F
+CLEAR, BACKSPACE, BELL = 0x7D, 0x7E, 0xFD
+CONTROL_CODES = bytes.fromhex("1B 1C 1D 1E 1F 7D 7E 7F 9B 9C 9D 9E 9F FD FE FF")
+"""The sixteen control codes of the screen editor."""
+EDITOR = READ | WRITE | FORCED
+CAPS, SHIFT, CONTROL, INVERSE_KEY = 0x3C, 0x40, 0x80, 0x27
+
+
+class Wrong(Exception):
+    """Something that is not as the paper says."""
+
+    def __init__(self, expected: object, got: object) -> None:
+        super().__init__(f"expected {shown(expected)}, got {shown(got)}")
+
+
+def shown(value: object) -> str:
+    """A value as the papers write it."""
+    if isinstance(value, CallReply):
+        return f"status ${value.status:02X} count {value.count} A ${value.a:02X}"
+    if isinstance(value, bytes):
+        return value.hex(" ").upper() if len(value) <= 48 else f"{value[:48].hex(' ').upper()} ... ({len(value)} bytes)"
+    if isinstance(value, tuple):
+        return f"({', '.join(map(shown, value))})"
+    return str(value)
+
+
+class Bench:
+    """A fresh stick, played message by message."""
+
+    def __init__(self, player: Player) -> None:
+        self._player = player
+        self.ticks = 0
+        """Ticks of the last message after its start."""
+        self.compared = 0
+        """How often something was compared."""
+        self.fresh()
+
+    def same(self, expected: object, got: object) -> None:
+        """Compares."""
+        self.compared += 1
+        if expected != got:
+            raise Wrong(expected, got)
+
+    def fresh(self) -> None:
+        """A fresh start."""
+        self.same(b"\x00", self._player.do(script.Fresh())[0])
+
+    def press(self, code: int) -> None:
+        """Presses a key."""
+        self.same(b"\x00", self._player.do(script.Press(code))[0])
+
+    @property
+    def state(self) -> script.State:
+        """What a dump tells now."""
+        return self._player.state()
+
+    @property
+    def cursor(self) -> tuple[int, int]:
+        """Row and column."""
+        return self.state.row, self.state.column
+
+    def message(self, data: bytes, port: int = 0) -> bytes:
+        """Sends a message; its whole reply."""
+        taken = self._player.do(*(script.Take(port, byte) for byte in data), script.Tick(port))
+        self.same(bytes(len(data) + 1), b"".join(taken))
+        give = script.Give(port)
+        self.ticks = 0
+        answer, first = self._player.do(give)[0]
+        if answer:
+            ticked = self._player.do(script.Ticks(port, 0xFFFF))[0]
+            self.ticks = int.from_bytes(ticked[:2], "little")
+            answer, first = self._player.do(give)[0]
+        self.same(0, answer)
+        header = bytes([first]) + bytes(byte for _, byte in self._player.do(give, give))
+        rest = self._player.do(*[give] * int.from_bytes(header[1:], "little"))
+        self.same(bytes(len(rest)), bytes(answer for answer, _ in rest))
+        return header + bytes(byte for _, byte in rest)
+
+    def _reply(self, message: bytes) -> wire.Reply:
+        reply = self.message(message)
+        try:
+            return wire.reply_of(reply[0], reply[3:])
+        except BadReply:
+            raise Wrong("a reply", reply) from None
+
+    def load(self, data: bytes, address: int = BUFFER) -> None:
+        """Writes bytes into the area."""
+        for at in range(0, len(data), PIECE):
+            self.same(LoadReply(OK), self._reply(wire.load(address + at, data[at : at + PIECE])))
+
+    def fetch(self, count: int, address: int = BUFFER) -> bytes:
+        """Reads bytes of the area."""
+        data = b""
+        while len(data) < count:
+            reply = self._reply(wire.fetch(address + len(data), min(PIECE, count - len(data))))
+            if not isinstance(reply, FetchReply) or not reply.data:
+                raise Wrong("bytes of the area", reply)
+            data += reply.data
+        return data
+
+    def call(
+        self,
+        command: int,
+        address: int = BUFFER,
+        length: int = 0,
+        aux1: int = 0,
+        aux2: int = 0,
+        a: int = 0,
+        iocb: int = 0,
+    ) -> wire.Reply:
+        """A CALL; its reply."""
+        return self._reply(wire.call(iocb, command, address, length, aux1, aux2, a))
+
+    def open(
+        self, specification: bytes, aux1: int, aux2: int = 0, *, iocb: int = 0, status: int = OK, command: int = 3
+    ) -> None:
+        """Opens a block, or asks with another command that opens; it is to answer the status."""
+        self.load(specification, SPECIFICATION)
+        self.same(CallReply(status, 0, 0), self.call(command, SPECIFICATION, 0, aux1, aux2, iocb=iocb))
+
+    def put(
+        self,
+        data: bytes,
+        count: int | None = None,
+        status: int = OK,
+        *,
+        iocb: int = 0,
+        command: int = Command.PUT_CHARACTERS,
+    ) -> None:
+        """Writes bytes; all are to be counted, or so many, with the status."""
+        self.load(data)
+        expected = CallReply(status, len(data) if count is None else count, 0)
+        self.same(expected, self.call(command, length=len(data), iocb=iocb))
+
+    def put_record(self, data: bytes, count: int | None = None) -> None:
+        """Writes a record."""
+        self.put(data, count, command=Command.PUT_RECORD)
+
+    def get(self, length: int, expected: bytes, status: int = OK, *, command: int = Command.GET_CHARACTERS) -> None:
+        """Reads with a buffer of the length: the bytes are to be stored, and none behind them."""
+        behind = b"\xa5"
+        self.load(behind * (length + 1))
+        self.same(CallReply(status, len(expected), 0), self.call(command, length=length))
+        self.same(expected + behind, self.fetch(len(expected) + 1))
+
+    def get_record(self, length: int, expected: bytes, status: int = OK) -> None:
+        """Reads a record."""
+        self.get(length, expected, status, command=Command.GET_RECORD)
+
+    def key(self, code: int, expected: int | None) -> None:
+        """Presses a key and reads it by A: a character, or none and $88."""
+        self.press(code)
+        no_character = CallReply(0x88, 0, 0)
+        reply = no_character if expected is None else CallReply(OK, 0, expected)
+        self.same((f"key ${code:02X}", reply), (f"key ${code:02X}", self.call(Command.GET_CHARACTERS)))
+
+    def editor(self) -> None:
+        """Opens E on block 0."""
+        self.open(b"E:", EDITOR)
+
+    def keyboard(self) -> None:
+        """Opens K on block 0."""
+        self.open(b"K:", READ)
+
+    def printer(self) -> None:
+        """Opens P on block 0."""
+        self.open(b"P:", WRITE)
+
+    def paper(self, expected: bytes) -> None:
+        """Compares what is printed."""
+        state = self.state
+        self.same(expected, state.paper[: state.used])
+
+    def row(self, row: int, expected: bytes) -> None:
+        """Compares a row of mode 0 from the left margin on; the rest of it is blank."""
+        cells = self.state.screen[40 * row : 40 * (row + 1)]
+        self.same(bytes([BLANK, BLANK]) + expected.ljust(38), cells)
+
+
+Function = Callable[[Bench], None]
+
+
+@dataclass(frozen=True)
+class Case:
+    """A case: where it stands, what it shows, and how."""
+
+    place: str
+    shows: str
+    function: Function
+
+
+CASES: list[Case] = []
+
+
+def case(place: str, shows: str) -> Callable[[Function], Function]:
+    """Notes a function as a case."""
+
+    def note(function: Function) -> Function:
+        CASES.append(Case(place, shows, function))
+        return function
+
+    return note
+
+
+def run(player: Player, cases: Sequence[Case]) -> int:
+    """Plays cases and prints a line for each; how many are wrong."""
+    wrong = 0
+    for number, each in enumerate(cases, 1):
+        line = f"{number}  {each.place}: {each.shows}"
+        try:
+            bench = Bench(player)
+            before = bench.compared
+            each.function(bench)
+            if bench.compared == before:
+                raise Wrong("something compared", "nothing")
+            print(f"ok {line}")
+        except Wrong as error:
+            wrong += 1
+            print(f"WRONG {line}: {error}")
+    print(f"{len(cases)} cases, {wrong} wrong")
+    return wrong
+
+
+# the bench cases of 01-scope; all but the last are proved as well
+
+LOAD_EDITOR = bytes.fromhex("11 05 00 00 00 45 3A 9B")
+OPEN_EDITOR = bytes.fromhex("10 09 00 00 03 00 00 00 00 0D 00 00")
+
+
+@case("01-scope case 1 (proved too)", "LOAD of E: is answered 91 01 00 01")
+def _(bench: Bench) -> None:
+    bench.same(bytes.fromhex("91 01 00 01"), bench.message(LOAD_EDITOR))
+
+
+@case("01-scope case 2 (proved too)", "then OPEN is answered 90 04 00 01 00 00 00")
+def _(bench: Bench) -> None:
+    bench.message(LOAD_EDITOR)
+    bench.same(bytes.fromhex("90 04 00 01 00 00 00"), bench.message(OPEN_EDITOR))
+
+
+@case("01-scope case 3 (proved too)", "IOCB 8 is $86")
+def _(bench: Bench) -> None:
+    bench.open(b"E:", EDITOR, iocb=8, status=0x86)
+
+
+@case("01-scope case 4 (proved too)", "GET on a closed block is $85")
+def _(bench: Bench) -> None:
+    for command in (Command.GET_RECORD, Command.GET_CHARACTERS):
+        bench.same(CallReply(0x85, 0, 0), bench.call(command, length=1))
+
+
+@case("01-scope case 5 (proved too)", "PUT at 16,383: n 1 passes, n 2 is $B0")
+def _(bench: Bench) -> None:
+    for command in (Command.PUT_RECORD, Command.PUT_CHARACTERS):
+        bench.fresh()
+        bench.printer()
+        bench.same(CallReply(OK, 1, 0), bench.call(command, AREA - 1, 1))
+        bench.same(CallReply(0xB0, 0, 0), bench.call(command, AREA - 1, 2))
+
+
+@case("01-scope case 6 (proved too)", "PUT RECORD AB on fresh E: two cells, cursor (1,2), count 2")
+def _(bench: Bench) -> None:
+    bench.editor()
+    bench.put_record(b"AB", 2)
+    bench.row(0, b"AB")
+    bench.same((1, 2), bench.cursor)
+
+
+@case("01-scope case 7 (proved too)", "then up and GET RECORD: n 10 or 3 gives 41 42 9B, n 2 gives $89 and count 2")
+def _(bench: Bench) -> None:
+    for length, expected, status in ((10, b"AB\x9b", OK), (3, b"AB\x9b", OK), (2, b"AB", 0x89)):
+        bench.fresh()
+        bench.editor()
+        bench.put_record(b"AB")
+        bench.put(bytes([UP]))
+        bench.get_record(length, expected, status)
+
+
+@case("01-scope case 8 (proved too)", "fresh key $3F is $41; after a GET on $3C ($88) it is $61")
+def _(bench: Bench) -> None:
+    bench.keyboard()
+    bench.key(0x3F, 0x41)
+    bench.key(0x3C, None)
+    bench.key(0x3F, 0x61)
+
+
+@case("01-scope case 9 (proved too)", "key $BF is $01")
+def _(bench: Bench) -> None:
+    bench.keyboard()
+    bench.key(0xBF, 0x01)
+
+
+@case("01-scope case 10 (proved too)", "key $9A is $88")
+def _(bench: Bench) -> None:
+    bench.keyboard()
+    bench.key(0x9A, None)
+
+
+@case("01-scope case 11 (proved too)", "mode 3, PUT 5: cell 1")
+def _(bench: Bench) -> None:
+    bench.open(b"S:", WRITE, 3)
+    bench.put(b"\x05")
+    bench.same(1, bench.state.screen[0])
+
+
+@case("01-scope case 12", "mode 8 fresh, GET RECORD n 1: count 1, $8D, 61,441 ticks after the start")
+def _(bench: Bench) -> None:
+    bench.open(b"S:", READ, 8)
+    reply = bench.call(Command.GET_RECORD, length=1)
+    bench.same((CallReply(0x8D, 1, 0), 61_441), (reply, bench.ticks))
+
+
+# the manual: central I/O utility
+
+
+@case("manual, CIO Calling Mechanism", "the example of IOCB #2: an error status has its most significant bit set")
+def _(bench: Bench) -> None:
+    bench.same(CallReply(0x85, 0, 0), bench.call(Command.GET_RECORD, length=1, iocb=2))
+    bench.open(b"E:", EDITOR, iocb=2)
+    bench.put(b"A", iocb=2)
+
+
+@case("manual, Multiple Device/File Concurrency", "up to eight device/files, each independent of the others")
+def _(bench: Bench) -> None:
+    for iocb in range(BLOCKS):
+        bench.open(b"P:" if iocb % 2 else b"E:", WRITE, iocb=iocb)
+    bench.open(b"P:", WRITE, iocb=BLOCKS, status=0x86)
+    for iocb in range(BLOCKS):
+        bench.put(b"%d" % iocb, iocb=iocb)
+    bench.row(0, b"0246")
+    bench.paper(b"1357")
+
+
+@case("manual, OPEN", "device and number come from the specification, the direction from AUX1; an open block is $81")
+def _(bench: Bench) -> None:
+    bench.open(b"P2:", WRITE, iocb=5)
+    block = bench.state.blocks[0][5]
+    bench.same((True, "P", 2, WRITE), (block.is_open, block.device, block.number, block.aux1))
+    bench.open(b"P2:", WRITE, iocb=5, status=0x81)
+
+
+@case("manual, Auxiliary Information", "R and W of OPEN: reading without R is $83, writing without W is $87")
+def _(bench: Bench) -> None:
+    for specification, reading in ((b"E:", READ | FORCED), (b"S:", READ)):
+        bench.fresh()
+        bench.open(specification, WRITE, 3)
+        bench.get(1, b"", 0x83)
+        bench.open(specification, reading, 3, iocb=1)
+        bench.put(b"A", 0, 0x87, iocb=1)
+
+
+@case("manual, Buffer Length/Byte Count", "after an end of file or an error the count is less than the buffer length")
+def _(bench: Bench) -> None:
+    bench.keyboard()
+    bench.press(0x3F)
+    bench.get(5, b"A", 0x88)
+    bench.open(b"S:", WRITE, 3, iocb=1)
+    bench.put(bytes(1000), 960, 0x8D, iocb=1)
+
+
+@case("manual, Central I/O Utility", "writing until there is no more medium: 4,096 bytes of paper, then $90")
+def _(bench: Bench) -> None:
+    bench.printer()
+    data = bytes(place % 251 for place in range(4097))
+    bench.put(data, 4096, 0x90)
+    bench.paper(data[:4096])
+
+
+@case("manual, CLOSE", "the block is released and used for another device")
+def _(bench: Bench) -> None:
+    bench.printer()
+    bench.same(CallReply(OK, 0, 0), bench.call(Command.CLOSE))
+    bench.same(False, bench.state.blocks[0][0].is_open)
+    bench.editor()
+    bench.put(b"A")
+    bench.row(0, b"A")
+    bench.paper(b"")
+
+
+@case("manual, GET CHARACTERS", "EOLs end nothing: n bytes over several records, the next GET goes on behind them")
+def _(bench: Bench) -> None:
+    bench.editor()
+    bench.put(b"AB\x9bC\x9bDEF\x9b" + bytes([UP] * 3))
+    bench.get(6, b"AB\x9bC\x9bD")
+    bench.get(3, b"EF\x9b")
+
+
+@case("manual, GET CHARACTERS", "length 0: the data is returned in A only")
+def _(bench: Bench) -> None:
+    bench.editor()
+    bench.put(b"AB\x9b" + bytes([UP]))
+    bench.load(b"\x55")
+    for expected in b"AB\x9b":
+        bench.same(CallReply(OK, 0, expected), bench.call(Command.GET_CHARACTERS))
+    bench.same(b"\x55", bench.fetch(1))
+
+
+@case("manual, PUT CHARACTERS", "EOLs end nothing, and none is generated")
+def _(bench: Bench) -> None:
+    bench.printer()
+    bench.put(b"A\x9bB")
+    bench.paper(b"A\x9bB")
+
+
+@case("manual, PUT CHARACTERS", "length 0: one character is passed in A")
+def _(bench: Bench) -> None:
+    bench.printer()
+    bench.load(b"\x55")
+    bench.same(CallReply(OK, 0, 0x41), bench.call(Command.PUT_CHARACTERS, a=0x41))
+    bench.paper(b"A")
+
+
+@case("manual, GET RECORD", "the EOL is put into the buffer; the count may be less than the buffer length")
+def _(bench: Bench) -> None:
+    bench.editor()
+    bench.put(b"ABC\x9b" + bytes([UP]))
+    bench.get_record(80, b"ABC\x9b")
+
+
+@case("manual, GET RECORD", "a truncated record: no EOL in the buffer, $89, the next read begins at the next record")
+def _(bench: Bench) -> None:
+    bench.editor()
+    bench.put(b"ABCDEF\x9bGH\x9b" + bytes([UP, UP]))
+    bench.get_record(4, b"ABCD", 0x89)
+    bench.get_record(4, b"GH\x9b")
+
+
+@case("manual, PUT RECORD", "written until an EOL is; what follows it is not")
+def _(bench: Bench) -> None:
+    bench.printer()
+    bench.put_record(b"AB\x9bCD", 3)
+    bench.paper(b"AB\x9b")
+
+
+@case("manual, PUT RECORD", "a buffer without EOL is sent with one after it")
+def _(bench: Bench) -> None:
+    bench.printer()
+    bench.put_record(b"AB", 2)
+    bench.put_record(b"C", 1)
+    bench.paper(b"AB\x9bC\x9b")
+
+
+@case("manual, GET STATUS and Implied OPEN Option", "an unopened block is opened for it and closed again; $01")
+def _(bench: Bench) -> None:
+    for specification, aux2 in ((b"E:", 0), (b"S:", 3), (b"K:", 0), (b"P:", 0)):
+        bench.open(specification, 0, aux2, command=Command.GET_STATUS)
+        bench.same(False, bench.state.blocks[0][0].is_open)
+    bench.printer()
+    bench.same(CallReply(OK, 0, 0), bench.call(Command.GET_STATUS))
+    bench.same(True, bench.state.blocks[0][0].is_open)
+
+
+@case("manual, SPECIAL and Implied OPEN Option", "any command above $0D goes to the handler, here always $84")
+def _(bench: Bench) -> None:
+    for command in range(0x0E, 0x100):
+        bench.open(b"P:", WRITE, status=0x84, command=command)
+        bench.same(False, bench.state.blocks[0][0].is_open)
+    bench.printer()
+    bench.same(CallReply(0x84, 0, 0), bench.call(0x0E))
+    bench.same(True, bench.state.blocks[0][0].is_open)
+
+
+@case("manual, Device/Filename Specification", "numbers 1 to 8, or none for 1; a filename is passed over")
+def _(bench: Bench) -> None:
+    numbered = [(b"P%d:\x9b" % number, number) for number in range(1, 9)]
+    for specification, number in [(b"P:\x9b", 1), (b"P:NAME\x9b", 1), *numbered]:
+        bench.fresh()
+        bench.open(specification, WRITE)
+        bench.same(number, bench.state.blocks[0][0].number)
+    for malformed in (b"P0:", b"P9:", b"P12:", b"P\x9b"):
+        bench.open(malformed, WRITE, iocb=1, status=0x82)
+
+
+@case("manual, Device/Filename Specification", "of its examples K: opens; C:, D2:BDAT and D:HOLD are not built, $82")
+def _(bench: Bench) -> None:
+    bench.open(b"K:\x9b", READ)
+    for specification in (b"C:\x9b", b"D2:BDAT\x9b", b"D:HOLD\x9b"):
+        bench.open(specification, READ, iocb=1, status=0x82)
+
+
+@case("manual, I/O Example (Figure 5-3)", "its steps on IOCB #3, K: for D1:TESTER: records until end of file, CLOSE")
+def _(bench: Bench) -> None:
+    bench.open(b"K:\x9b", READ, iocb=3)
+    for _ in range(3):
+        bench.press(keys.RETURN)
+        bench.same(CallReply(OK, 1, 0), bench.call(Command.GET_RECORD, length=80, iocb=3))
+        bench.same(b"\x9b", bench.fetch(1))
+    bench.press(0x9A)
+    bench.same(CallReply(0x88, 0, 0), bench.call(Command.GET_RECORD, length=80, iocb=3))
+    bench.same(CallReply(OK, 0, 0), bench.call(Command.CLOSE, iocb=3))
+    bench.same(False, bench.state.blocks[0][3].is_open)
+
+
+# the manual: keyboard handler
+
+
+@case("manual, Keyboard Handler, OPEN", "a read-only device; number and filename are ignored; GET STATUS is $01")
+def _(bench: Bench) -> None:
+    bench.open(b"K:", WRITE, status=0x84)
+    bench.open(b"K4:NAME\x9b", READ)
+    bench.put(b"A", 0, 0x87)
+    bench.same(CallReply(OK, 0, 0), bench.call(Command.GET_STATUS))
+
+
+@case("manual, Keyboard Handler, CAPS/LOWR", "caps lock at power-up; unlock, [CTRL] lock, caps lock: letters alone")
+def _(bench: Bench) -> None:
+    bench.keyboard()
+    for lock_key, letter in ((None, 0x41), (CAPS, 0x61), (CONTROL | CAPS, 0x01), (SHIFT | CAPS, 0x41)):
+        if lock_key is not None:
+            bench.key(lock_key, None)
+        bench.key(0x3F, letter)
+        bench.key(0x1F, 0x31)
+        bench.key(SHIFT | 0x3F, 0x41)
+        bench.key(CONTROL | 0x3F, 0x01)
+
+
+@case("manual, Keyboard Handler, ATARI key", "it inverts bit 7 of data, not of the editing keys, until pressed again")
+def _(bench: Bench) -> None:
+    bench.keyboard()
+    bench.key(INVERSE_KEY, None)
+    for code, character in ((0x3F, 0xC1), (0x1F, 0xB1), (0x21, 0xA0), (CONTROL | 0x3F, 0x81)):
+        bench.key(code, character)
+    editing = {0x0C: EOL, 0x1C: ESCAPE, 0x2C: 0x7F, 0x34: BACKSPACE, SHIFT | 0x2C: 0x9F, SHIFT | 0x37: 0x9D}
+    editing |= {CONTROL | code: each for code, each in ((0x0E, UP), (0x0F, DOWN), (0x06, LEFT), (0x07, RIGHT))}
+    editing |= {CONTROL | code: each for code, each in ((0x1E, BELL), (0x2C, 0x9E), (0x34, 0xFE), (0x37, 0xFF))}
+    for code, character in editing.items():
+        bench.key(code, character)
+    bench.key(INVERSE_KEY, None)
+    bench.key(0x3F, 0x41)
+
+
+@case("manual, Keyboard Handler", "ignored: [CTRL] 4 to 9, 0, 1, / and all keys with [SHIFT] and [CTRL]")
+def _(bench: Bench) -> None:
+    bench.keyboard()
+    for code in (0x18, 0x1D, 0x1B, 0x33, 0x35, 0x30, 0x32, 0x1F, 0x26):
+        bench.key(CONTROL | code, None)
+    for code in range(CONTROL | SHIFT, 0x100):
+        bench.key(code, None)
+    bench.key(0x3F, 0x41)
+
+
+@case("manual, Keyboard Handler", "[CTRL] 3 returns end-of-file status")
+def _(bench: Bench) -> None:
+    bench.keyboard()
+    bench.key(CONTROL | 0x1A, None)
+    bench.press(CONTROL | 0x1A)
+    bench.get_record(80, b"", 0x88)
+
+
+@case("manual, Keyboard Handler, Theory of Operation", "one key is kept, with or without a read; $FF is empty")
+def _(bench: Bench) -> None:
+    bench.same(0xFF, bench.state.key)
+    bench.press(0x00)
+    bench.press(0x3F)
+    bench.same(0x3F, bench.state.key)
+    bench.keyboard()
+    bench.get(1, b"A")
+    bench.same(0xFF, bench.state.key)
+    bench.get(1, b"", 0x88)
+
+
+FIGURE_5_4 = """
+00 L 6C 4C 0C  01 J 6A 4A 0A  02 ; 3B 3A 7B  05 K 6B 4B 0B  06 + 2B 5C 1E  07 * 2A 5E 1F  08 O 6F 4F 0F
+0A P 70 50 10  0B U 75 55 15  0C RET .. .. 9B  0D I 69 49 09  0E - .. 5F 1C  0F = .. 7C 1D  10 V 76 56 16
+12 C 63 43 03  15 B 62 42 02  16 X 78 58 18  17 Z 7A 5A 1A  18 4 34 24 --  1A 3 33 23 --  1B 6 36 26 --
+1C ESC .. 1B 1B  1D 5 35 25 --  1E 2 32 22 FD  1F 1 31 21 --
+20 , 2C .. 00  21 SPACE 20 20 20  22 . 2E 5D 60  23 N .. 4E 0E  25 M .. 4D 0D  26 / 2F 3F --  28 R 72 52 12
+2A E 65 45 05  2B Y 79 59 19  2C TAB 7F 9F 9E  2D T 74 54 14  2E W 77 57 17  2F Q 71 51 11  30 9 39 28 --
+32 0 30 29 --  33 7 37 27 --  34 BACKS 7E .. FE  35 8 38 40 --  36 < .. 7D 7D  37 > 3E 9D FF  38 F 66 46 06
+39 H 68 48 08  3A D 64 44 04  3D G 67 47 07  3E S 73 53 13  3F A 61 41 01
+"""
+"""Key code, key cap, lower case, [SHIFT], [CTRL]: -- no character, as [CTRL] 3 (end of file); .. misread."""
+
+
+@case("manual, Figure 5-4", "key code to ATASCII: every entry that the scan has legibly")
+def _(bench: Bench) -> None:
+    bench.keyboard()
+    bench.key(CAPS, None)
+    words = FIGURE_5_4.split()
+    for at in range(0, len(words), 5):
+        code = int(words[at], 16)
+        for block, entry in zip((0, SHIFT, CONTROL), words[at + 2 : at + 5]):
+            if entry != "..":
+                bench.key(block | code, None if entry == "--" else int(entry, 16))
+
+
+@case("01-scope, key table", "all 192 codes without a lock: a character, or none and $88")
+def _(bench: Bench) -> None:
+    for code, entry in enumerate(keys.TABLE):
+        bench.fresh()
+        bench.keyboard()
+        bench.key(CAPS, None)
+        bench.key(code, None if 0x80 <= entry <= 0x85 else entry)
+
+
+# the manual: display handler
+
+MODES = {3: (40, 24, 4), 4: (80, 48, 2), 5: (80, 48, 4), 6: (160, 96, 2), 7: (160, 96, 4), 8: (320, 192, 2)}
+"""Columns, rows and colours, by 01-scope."""
+
+
+@case("01-scope, table of modes", "S: columns, then rows, then $8D; each mode's own")
+def _(bench: Bench) -> None:
+    for mode, (columns, rows, _) in MODES.items():
+        bench.fresh()
+        bench.open(b"S:", WRITE, mode)
+        bench.same((mode, 0, 0), (bench.state.mode, *bench.cursor))
+        bench.put(b"\x01" * (columns - 1))
+        bench.same((0, columns - 1), bench.cursor)
+        bench.put(b"\x01")
+        bench.same((1, 0), bench.cursor)
+        bench.put(bytes([EOL] * (rows - 1)))
+        bench.same((rows, 0), bench.cursor)
+        bench.put(b"\x01", 0, 0x8D)
+
+
+@case("01-scope, table of modes", "E: mode 0 of 40 by 24 takes 256 colours, which are characters")
+def _(bench: Bench) -> None:
+    bench.editor()
+    state = bench.state
+    bench.same((0, bytes([BLANK]) * 960, b"\x00"), (state.mode, state.screen[:960], state.screen[960:961]))
+    data = bytes(byte for byte in range(256) if byte not in CONTROL_CODES)
+    bench.put(data)
+    for row in range(7):
+        bench.row(row, data[38 * row : 38 * (row + 1)])
+
+
+@case("manual, Figures 5-6 and 5-7", "PUT takes the low bits, 2 in modes 3, 5, 7 and 1 in 4, 6, 8; GET has zeros above")
+def _(bench: Bench) -> None:
+    for mode, bits in ((3, 2), (4, 1), (5, 2), (6, 1), (7, 2), (8, 1)):
+        bench.fresh()
+        bench.open(b"S:", WRITE, mode)
+        data = bytes(byte for byte in range(256) if byte not in (CLEAR, EOL))
+        bench.put(data)
+        bench.open(b"S:", READ | KEEP, mode, iocb=1)
+        bench.same(CallReply(OK, len(data), 0), bench.call(Command.GET_CHARACTERS, length=len(data), iocb=1))
+        bench.same(bytes(byte & (1 << bits) - 1 for byte in data), bench.fetch(len(data)))
+
+
+@case("manual, Display Handler, NOTE", "in all modes $9B is an EOL and $7D clears the screen, home position (0,0)")
+def _(bench: Bench) -> None:
+    for mode, (columns, _, _) in MODES.items():
+        bench.fresh()
+        bench.open(b"S:", WRITE, mode)
+        bench.put(b"\x01\x9b\x01")
+        bench.same((1, 1), bench.cursor)
+        bench.same((1, 0, 1), (bench.state.screen[0], bench.state.screen[1], bench.state.screen[columns]))
+        bench.put(bytes([CLEAR]))
+        bench.same((0, 0), bench.cursor)
+        bench.same(bytes(columns + 1), bench.state.screen[: columns + 1])
+
+
+@case("manual, Display Handler, GET and PUT", "the cursor moves on with each byte and ignores the margins")
+def _(bench: Bench) -> None:
+    bench.open(b"S:", READ | WRITE, 3)
+    bench.put(bytes(place % 4 for place in range(41)))
+    bench.same((1, 1), bench.cursor)
+    bench.open(b"S:", READ | KEEP, 3, iocb=1)
+    bench.get(41, bytes(place % 4 for place in range(41)))
+    bench.same((1, 1), bench.cursor)
+
+
+@case("manual, Display Handler, OPEN", "C = 1 inhibits the screen clear, C = 0 does not; number, filename ignored")
+def _(bench: Bench) -> None:
+    bench.open(b"S:", WRITE, 5)
+    bench.put(b"\x03\x02")
+    bench.open(b"S7:NAME\x9b", READ | KEEP, 5, iocb=1)
+    bench.same((b"\x03\x02", 0, 0), (bench.state.screen[:2], *bench.cursor))
+    bench.open(b"S:", READ, 5, iocb=2)
+    bench.same(bytes(2), bench.state.screen[:2])
+
+
+@case("manual, Display Handler, error statuses", "$84 special command, $8D cursor out of range, $91 mode above 11")
+def _(bench: Bench) -> None:
+    for mode in range(12, 256):
+        bench.open(b"S:", READ | WRITE, mode, status=0x91)
+    bench.open(b"S:", READ | WRITE, 3)
+    bench.same(CallReply(0x84, 0, 0), bench.call(0x0E))
+    bench.put(bytes(960))
+    bench.put(b"\x01", 0, 0x8D)
+    bench.get(1, b"", 0x8D)
+    bench.same(CallReply(OK, 0, 0), bench.call(Command.GET_STATUS))
+
+
+@case("manual, FILL (ATACHR)", "the last character is the last data read or written")
+def _(bench: Bench) -> None:
+    bench.open(b"S:", READ | WRITE, 3)
+    bench.put(b"\x05\x06")
+    bench.same(6, bench.state.last)
+    bench.open(b"S:", READ | KEEP, 3, iocb=1)
+    bench.get(1, b"\x01")
+    bench.same(1, bench.state.last)
+
+
+@case("01-scope, Not built now", "modes 0, 1, 2, 9, 10, 11 and split screens are $91, DRAW and FILL are $84")
+def _(bench: Bench) -> None:
+    for mode in (0, 1, 2, 9, 10, 11):
+        bench.open(b"S:", READ | WRITE, mode, status=0x91)
+    bench.open(b"S:", READ | WRITE | 0x10, 3, status=0x91)
+    bench.open(b"S:", READ | WRITE, 3)
+    for command in (0x11, 0x12):
+        bench.same(CallReply(0x84, 0, 0), bench.call(command))
+
+
+# the manual: screen editor
+
+
+@case("manual, Text Mode 0", "margins 2 and 39: a character past the right one goes to the left of the next row")
+def _(bench: Bench) -> None:
+    bench.editor()
+    bench.same((0, 2), bench.cursor)
+    bench.put(b"A" * 37)
+    bench.same((0, 39), bench.cursor)
+    bench.put(b"BC")
+    bench.row(0, b"A" * 37 + b"B")
+    bench.row(1, b"C")
+    bench.same((1, 3), bench.cursor)
+
+
+@case("manual, Text Mode 0", "a line at the bottom that extends past the right margin, or ends, scrolls the screen")
+def _(bench: Bench) -> None:
+    for last in (b"Z" * 38, b"Z\x9b"):
+        bench.fresh()
+        bench.editor()
+        bench.put(b"A\x9bB\x9b" + b"\x9b" * 21)
+        bench.same((23, 2), bench.cursor)
+        bench.row(0, b"A")
+        bench.put(last)
+        bench.same((23, 2), bench.cursor)
+        bench.row(0, b"B")
+        bench.row(22, last.rstrip(b"\x9b"))
+        bench.row(23, b"")
+
+
+@case("manual, Screen Editor", "trailing blanks are never returned, blanks between are; many reads may take a line")
+def _(bench: Bench) -> None:
+    bench.editor()
+    bench.put(b"A  B   \x9b" + bytes([UP]))
+    for expected in (b"A", b"  ", b"B", b"\x9b"):
+        bench.get(len(expected), expected)
+    bench.same((1, 2), bench.cursor)
+
+
+@case("manual, Screen Editor, GET", "a forced read takes the cursor's line from its start, the cursor goes to the next")
+def _(bench: Bench) -> None:
+    bench.editor()
+    bench.put(b"AB\x9bCDE")
+    bench.same((1, 5), bench.cursor)
+    bench.get_record(80, b"CDE\x9b")
+    bench.same((2, 2), bench.cursor)
+
+
+@case("manual, Screen Editor, GET", "a read of the last line scrolls the screen")
+def _(bench: Bench) -> None:
+    bench.editor()
+    bench.put(b"A\x9bB" + b"\x9b" * 22 + b"Z")
+    bench.get_record(80, b"Z\x9b")
+    bench.same((23, 2), bench.cursor)
+    bench.row(0, b"B")
+    bench.row(22, b"Z")
+    bench.row(23, b"")
+
+
+@case("manual, Screen Editor, PUT", "sixteen of the 256 characters are control codes, all others are displayed")
+def _(bench: Bench) -> None:
+    for byte in range(256):
+        bench.fresh()
+        bench.editor()
+        bench.put(bytes([byte]))
+        if byte in CONTROL_CODES:
+            bench.same(bytes([BLANK]) * 960, bench.state.screen[:960])
+        else:
+            bench.row(0, bytes([byte]))
+            bench.same((0, 3), bench.cursor)
+
+
+@case("manual, CLEAR", "$7D clears all data; the home position is at the left margin")
+def _(bench: Bench) -> None:
+    bench.editor()
+    bench.put(b"A\x9bB\x9bC" + bytes([CLEAR]))
+    bench.same((bytes([BLANK]) * 960, 0, 2), (bench.state.screen[:960], *bench.cursor))
+
+
+def _moves(bench: Bench, *moves: tuple[int, int, int]) -> None:
+    """Control codes, each with the row and column where the cursor is then."""
+    for code, row, column in moves:
+        bench.put(bytes([code]))
+        bench.same((row, column), bench.cursor)
+    bench.same(bytes([BLANK]) * 960, bench.state.screen[:960])
+
+
+@case("manual, CURSOR UP", "$1C: up by one line, from the top line to the bottom line")
+def _(bench: Bench) -> None:
+    bench.editor()
+    _moves(bench, (RIGHT, 0, 3), (UP, 23, 3), (UP, 22, 3))
+
+
+@case("manual, CURSOR DOWN", "$1D: down by one line, from the bottom line to the top line")
+def _(bench: Bench) -> None:
+    bench.editor()
+    _moves(bench, (RIGHT, 0, 3), *((DOWN, row, 3) for row in range(1, 24)), (DOWN, 0, 3))
+
+
+@case("manual, CURSOR LEFT", "$1E: left by one column, from the left margin to the right margin of the line")
+def _(bench: Bench) -> None:
+    bench.editor()
+    _moves(bench, (DOWN, 1, 2), (LEFT, 1, 39), (LEFT, 1, 38))
+
+
+@case("manual, CURSOR RIGHT", "$1F: right by one column, from the right margin to the left margin of the line")
+def _(bench: Bench) -> None:
+    bench.editor()
+    _moves(bench, (DOWN, 1, 2), *((RIGHT, 1, column) for column in range(3, 40)), (RIGHT, 1, 2))
+
+
+@case("manual, BACKSPACE", "$7E: left by one column and blank there, never past the beginning of the line")
+def _(bench: Bench) -> None:
+    bench.editor()
+    bench.put(b"AB" + bytes([BACKSPACE]))
+    bench.row(0, b"A")
+    bench.same((0, 3), bench.cursor)
+    bench.put(bytes([BACKSPACE] * 3))
+    bench.row(0, b"")
+    bench.same((0, 2), bench.cursor)
+
+
+@case("manual, ESCAPE", "$1B: the next character is displayed as data; [ESC][ESC] displays the second")
+def _(bench: Bench) -> None:
+    data = bytes(byte for byte in range(256) if byte != EOL)
+    bench.editor()
+    bench.put(bytes([ESCAPE, ESCAPE]))
+    bench.row(0, bytes([ESCAPE]))
+    bench.put(bytes([CLEAR]))
+    bench.put(b"".join(bytes([ESCAPE, byte]) for byte in data))
+    for row in range(7):
+        bench.row(row, data[38 * row : 38 * (row + 1)])
+
+
+@case("manual, ESCAPE", "an EOL after it is an EOL all the same")
+def _(bench: Bench) -> None:
+    bench.editor()
+    bench.put(b"A" + bytes([ESCAPE, EOL]) + b"B")
+    bench.row(0, b"A")
+    bench.row(1, b"B")
+
+
+@case("manual, BELL", "$FD: the display is not modified")
+def _(bench: Bench) -> None:
+    bench.editor()
+    bench.put(b"A" + bytes([BELL]))
+    bench.row(0, b"A")
+    bench.same((0, 3), bench.cursor)
+
+
+@case("01-scope, E", "TAB, SET TAB, CLEAR TAB, INSERT and DELETE of lines and characters do nothing")
+def _(bench: Bench) -> None:
+    bench.editor()
+    bench.put(b"AB\x9bCD\x9b" + bytes([UP, RIGHT]))
+    for code in (0x7F, 0x9F, 0x9E, 0x9D, 0x9C, 0xFF, 0xFE):
+        bench.put(bytes([code]))
+        bench.same((1, 3), bench.cursor)
+        for row, expected in enumerate((b"AB", b"CD", b"")):
+            bench.row(row, expected)
+
+
+@case("manual, END OF LINE", "$9B: to the beginning of the next line; on the bottom line the screen scrolls")
+def _(bench: Bench) -> None:
+    bench.editor()
+    bench.put(b"A\x9b" + b"\x9b" * 22)
+    bench.same((23, 2), bench.cursor)
+    bench.row(0, b"A")
+    bench.put(b"B\x9b")
+    bench.same((23, 2), bench.cursor)
+    bench.row(0, b"")
+    bench.row(22, b"B")
+
+
+@case("manual, Screen Editor, OPEN and GET STATUS", "number and filename are ignored; GET STATUS is $01")
+def _(bench: Bench) -> None:
+    bench.open(b"E3:NAME\x9b", EDITOR)
+    bench.same(CallReply(OK, 0, 0), bench.call(Command.GET_STATUS))
+
+
+# the manual: printer handler
+
+
+@case("manual, Printer Handler", "a write-only device; number and filename are ignored; GET STATUS is $01")
+def _(bench: Bench) -> None:
+    bench.open(b"P:", READ, status=0x84)
+    bench.open(b"P2:NAME\x9b", WRITE)
+    bench.get(1, b"", 0x83)
+    bench.put_record(b"TEN BOXES")
+    bench.same(CallReply(OK, 0, 0), bench.call(Command.GET_STATUS))
+    bench.paper(b"TEN BOXES\x9b")
+
+
+@case("manual, Printer Handler, print option", "AUX2 $4E, $53, $57 or any other value gives no error status")
+def _(bench: Bench) -> None:
+    for mode in range(256):
+        bench.open(b"P:", WRITE, mode)
+        bench.put(b"A")
+        bench.same(CallReply(OK, 0, 0), bench.call(Command.CLOSE))
+    bench.paper(b"A" * 256)
