@@ -1,0 +1,6 @@
+pub mod Spelling
+pub mod Lawful
+pub mod Demanded
+pub mod SeenBytes
+pub mod SeenTick
+pub mod Linked

@@ -1,0 +1,3 @@
+pub mod Spells
+pub mod Real
+pub mod Sticks
