@@ -4,3 +4,4 @@ pub mod Demanded
 pub mod SeenBytes
 pub mod SeenTick
 pub mod Linked
+pub mod Told

@@ -1,3 +1,4 @@
 pub mod Spells
 pub mod Real
 pub mod Sticks
+pub mod Told

@@ -1,0 +1,84 @@
+-- A call of a real function as its own promise tells a caller of it: its arguments, its result, and what is left in each lent buffer.
+-- A run of such calls, each made with the state and the buffers that the one before it left.
+-- Assumes nothing.
+use mathlib.Core.Path.{_≡_}
+use mathlib.Core.List.{List, [], _∷_}
+use Prim.Native.Nat.{ℕ}
+use denote.Ref.{now}
+use Rattle.base.specs.Decides.{Told}
+use Rattle.stick.specs.Stick.{Outcome, outcome, lent}
+use Rattle.stick.proofs.fresh.Kinds as fresh-kinds
+use Rattle.stick.proofs.fresh.Reads as fresh-reads
+use Rattle.stick.proofs.take.Kinds as take-kinds
+use Rattle.stick.proofs.take.Reads as take-reads
+use Rattle.stick.proofs.tick.Kinds as tick-kinds
+use Rattle.stick.proofs.tick.Reads as tick-reads
+use Rattle.stick.proofs.give.Kinds as give-kinds
+use Rattle.stick.proofs.give.Reads as give-reads
+use Rattle.stick.proofs.press.Kinds as press-kinds
+use Rattle.stick.proofs.press.Reads as press-reads
+use Rattle.serial.specs.Machine.{Port}
+use Rattle.serial.specs.Core.{Call, take, tick, give, press}
+use Rattle.demands.specs.Real.{real}
+use Rattle.demands.specs.Sticks.{World, portNumber}
+
+-- the state and the buffers that a call leaves
+abbrev pub left : Outcome → World
+left o = record { stick = o .stick; buffers = o .lent }
+
+abbrev pub Fresh : Type 0
+Fresh = Told 4 fresh-kinds.ps fresh-kinds.r fresh-reads.Learnt
+
+abbrev pub freshFrom : Fresh → World
+freshFrom o = record { stick = o .args .0; buffers = lent (now (o .args .1 .0)) (now (o .args .1 .1 .0)) (now (o .args .1 .1 .1 .0)) (now (o .args .1 .1 .1 .1 .0)) }
+
+abbrev pub freshLeaves : Fresh → Outcome
+freshLeaves o = outcome (o .result .answer) (o .result .byte) (o .result .stick) (lent (o .lasts .1 .0) (o .lasts .1 .1 .0) (o .lasts .1 .1 .1 .0) (o .lasts .1 .1 .1 .1 .0))
+
+abbrev pub Take : Type 0
+Take = Told 4 take-kinds.ps take-kinds.r take-reads.Learnt
+
+abbrev pub takeFrom : Take → World
+takeFrom o = record { stick = o .args .0; buffers = lent (now (o .args .1 .0)) (now (o .args .1 .1 .0)) (now (o .args .1 .1 .1 .0)) (now (o .args .1 .1 .1 .1 .0)) }
+
+abbrev pub takeLeaves : Take → Outcome
+takeLeaves o = outcome (o .result .answer) (o .result .byte) (o .result .stick) (lent (o .lasts .1 .0) (o .lasts .1 .1 .0) (o .lasts .1 .1 .1 .0) (o .lasts .1 .1 .1 .1 .0))
+
+abbrev pub Tick : Type 0
+Tick = Told 4 tick-kinds.ps tick-kinds.r tick-reads.Learnt
+
+abbrev pub tickFrom : Tick → World
+tickFrom o = record { stick = o .args .0; buffers = lent (now (o .args .1 .0)) (now (o .args .1 .1 .0)) (now (o .args .1 .1 .1 .0)) (now (o .args .1 .1 .1 .1 .0)) }
+
+abbrev pub tickLeaves : Tick → Outcome
+tickLeaves o = outcome (o .result .answer) (o .result .byte) (o .result .stick) (lent (o .lasts .1 .0) (o .lasts .1 .1 .0) (o .lasts .1 .1 .1 .0) (o .lasts .1 .1 .1 .1 .0))
+
+abbrev pub Give : Type 0
+Give = Told 4 give-kinds.ps give-kinds.r give-reads.Learnt
+
+abbrev pub giveFrom : Give → World
+giveFrom o = record { stick = o .args .0; buffers = lent (now (o .args .1 .0)) (now (o .args .1 .1 .0)) (now (o .args .1 .1 .1 .0)) (now (o .args .1 .1 .1 .1 .0)) }
+
+abbrev pub giveLeaves : Give → Outcome
+giveLeaves o = outcome (o .result .answer) (o .result .byte) (o .result .stick) (lent (o .lasts .1 .0) (o .lasts .1 .1 .0) (o .lasts .1 .1 .1 .0) (o .lasts .1 .1 .1 .1 .0))
+
+abbrev pub Press : Type 0
+Press = Told 4 press-kinds.ps press-kinds.r press-reads.Learnt
+
+abbrev pub pressFrom : Press → World
+pressFrom o = record { stick = o .args .0; buffers = lent (now (o .args .1 .0)) (now (o .args .1 .1 .0)) (now (o .args .1 .1 .1 .0)) (now (o .args .1 .1 .1 .1 .0)) }
+
+abbrev pub pressLeaves : Press → Outcome
+pressLeaves o = outcome (o .result .answer) (o .result .byte) (o .result .stick) (lent (o .lasts .1 .0) (o .lasts .1 .1 .0) (o .lasts .1 .1 .1 .0) (o .lasts .1 .1 .1 .1 .0))
+
+-- a call of the run, and the real call that it is
+pub data Real : World → Call real → Outcome → Type 0 where
+  took : (o : Take) (p : Port) → o .args .1 .1 .1 .1 .1 .0 ≡ portNumber p → Real (takeFrom o) (take p (o .args .1 .1 .1 .1 .1 .1 .0)) (takeLeaves o)
+  ticked : (o : Tick) (p : Port) → o .args .1 .1 .1 .1 .1 .0 ≡ portNumber p → Real (tickFrom o) (tick p) (tickLeaves o)
+  gave : (o : Give) (p : Port) → o .args .1 .1 .1 .1 .1 .0 ≡ portNumber p → Real (giveFrom o) (give p) (giveLeaves o)
+  pressed : (o : Press) → Real (pressFrom o) (press (o .args .1 .1 .1 .1 .1 .0)) (pressLeaves o)
+
+-- "the same state and lent buffers in every call"
+pub data RealRun : World → List (Call real) → World → Type 0 where
+  here : {w : World} → RealRun w [] w
+  then : {w w′ : World} {c : Call real} {cs : List (Call real)} {o : Outcome} → Real w c o → RealRun (left o) cs w′ → RealRun w (c ∷ cs) w′
