@@ -10,8 +10,7 @@ use Rattle.handler.specs.declared.Done.{Done}
 use Rattle.handler.specs.declared.Done.the-variants as done
 use Rattle.console.specs.declared.Handler as console
 use Rattle.console.specs.Group.{ConsoleGroup}
-use Rattle.console.specs.Fit.{FitGroup}
-use Rattle.console.proofs.Keeps.{InUse}
+use Rattle.console.specs.Fit.{FitGroup, InUse}
 use Rattle.printer.specs.Printer.{PrinterGroup}
 use Rattle.printer.specs.Fit.{FitPrinter}
 use Rattle.blocks.specs.declared.Device.{Device}

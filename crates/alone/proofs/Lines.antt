@@ -32,8 +32,8 @@ use Rattle.console.specs.declared.Handler.the-variants.{E, S, K}
 use Rattle.console.specs.declared.state.Console.{Console}
 use Rattle.console.specs.Group.{ConsoleGroup, graphicsOf}
 use Rattle.console.specs.Handlers.{textOf, openS, openOf, readE, readS, readK, readOf}
-use Rattle.console.specs.Fit.{cursorFits, FitGroup}
-use Rattle.console.proofs.Keeps.{fits-of, InUse, open-fit, prepare-fit, prepare-use, read-fit, read-use, write-fit, write-use}
+use Rattle.console.specs.Fit.{cursorFits, FitGroup, InUse}
+use Rattle.console.proofs.Keeps.{fits-of, open-fit, prepare-fit, prepare-use, read-fit, read-use, write-fit, write-use}
 use Rattle.blocks.specs.declared.Device.{Device}
 use Rattle.blocks.specs.declared.Device.the-variants as device
 use Rattle.blocks.specs.Made.{splits}

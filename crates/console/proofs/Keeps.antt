@@ -1,21 +1,19 @@
 -- The fresh console is fit, and every operation keeps it fit and keeps the screen's length.
 -- Assumes nothing.
-use mathlib.Core.Path.{_≡_, _∙_, refl, sym, ap, subst}
-use mathlib.Core.Bool.{Bool, true, false}
-use mathlib.Core.List.{List, _++_}
-use Prim.Native.Nat.{ℕ, zero, suc, _+_, _<_, _≤_}
+use mathlib.Core.Path.{_≡_, refl, sym}
+use mathlib.Core.Bool.{Bool, true}
+use mathlib.Core.List.{_++_}
+use Prim.Native.Nat.{ℕ, _+_, _<_, _≤_}
 use native.Mathlib.Omega.{arith}
-use lib.Dec.{T, eqb, leb, ltb}
+use lib.Dec.{leb, ltb}
 use lib.ListN.{length, replicate, length-append, length-replicate}
 use borrow.Author.Tests.{lt-ltb, le-leb, eq-eqb, ne-eqb, ltb-true, leb-true}
-use Rattle.base.specs.Choice.{and, or, within}
+use Rattle.base.specs.Choice.{and, within}
 use Rattle.base.proofs.Choices.{choose-eq, by-eq, and-left, and-right}
-use Rattle.handler.specs.declared.Got.{Got}
 use Rattle.handler.specs.declared.Done.{Done}
 use Rattle.handler.specs.declared.Done.the-variants.{Success, Refused}
-use Rattle.handler.specs.Answer.{Answer, answer}
-use Rattle.cells.specs.Modes.{modes, rowOf, shapeOf, isMode}
-use Rattle.cells.specs.Cells.{Whole}
+use Rattle.handler.specs.Answer.{Answer}
+use Rattle.cells.specs.Modes.{shapeOf, isMode}
 use Rattle.keys.specs.Fit.{FitKeys}
 use Rattle.keys.specs.Keyboard as keys
 use Rattle.keys.specs.declared.keyboard.Keyboard.{Keyboard}
@@ -36,7 +34,7 @@ use Rattle.console.specs.declared.Handler.{Handler}
 use Rattle.console.specs.declared.Handler.the-variants.{E, S, K}
 use Rattle.console.specs.Group.{ConsoleGroup, group, freshConsole, freshGroup, editorOf, withEditor, withMode, graphicsOf, withGraphics, withKeyboard, pressedOf}
 use Rattle.console.specs.Handlers.{textOf, pictureOf, openE, openS, openOf, prepareE, prepareS, prepareOf, readE, readS, readK, readOf, writeE, writeS, writeOf}
-use Rattle.console.specs.Fit.{cursorFits, readingFits, keysFit, fitOf, Fit, FitGroup}
+use Rattle.console.specs.Fit.{cursorFits, readingFits, keysFit, fitOf, Fit, FitGroup, InUse}
 
 -- fit, word by word
 pub record Fits (c : Console) : Type 0 where
@@ -165,12 +163,6 @@ fresh-length some all a b = simp (length-append, length-replicate)
 
 pub fresh-group : FitGroup freshGroup
 fresh-group = record { fit = fresh-fit; whole = record { all = fresh-length 960 60480 0x20 0 } }
-
--- a group that E, S or K may be used on: after `prepare` it is
-abbrev pub InUse : Handler → Console → Type 0
-InUse E c = c .mode ≡ 0
-InUse S c = within 3 8 (c .mode) ≡ true
-InUse K c = Unit {0}
 
 module _ (g : ConsoleGroup) (f : FitGroup g) where
   fits : Fits (g .console)

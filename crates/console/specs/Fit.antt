@@ -2,7 +2,7 @@
 -- Assumes nothing.
 use Prim.Native.Nat.{ℕ}
 use mathlib.Core.Path.{_≡_}
-use mathlib.Core.Bool.{Bool, true, false}
+use mathlib.Core.Bool.{Bool, true}
 use lib.Dec.{eqb, leb, ltb}
 use Rattle.base.specs.Choice.{choose, and, within}
 use Rattle.cells.specs.Modes.{shapeOf, isMode}
@@ -10,6 +10,8 @@ use Rattle.cells.specs.Cells.{Whole}
 use Rattle.keys.specs.declared.keyboard.Keyboard.{Keyboard}
 use Rattle.editor.specs.declared.ReadColumn.{ReadColumn}
 use Rattle.editor.specs.declared.ReadColumn.the-variants.{Dropped, At}
+use Rattle.console.specs.declared.Handler.{Handler}
+use Rattle.console.specs.declared.Handler.the-variants.{E, S, K}
 use Rattle.console.specs.declared.state.Console.{Console}
 use Rattle.console.specs.Group.{ConsoleGroup}
 
@@ -42,3 +44,9 @@ Fit c = fitOf c ≡ true
 pub record FitGroup (g : ConsoleGroup) : Type 0 where
   pub fit : Fit (g .console)
   pub whole : Whole (g .screen)
+
+-- "a running request whose .. mode .. does not fit it": E runs in mode 0, S in modes 3 to 8, K in any
+abbrev pub InUse : Handler → Console → Type 0
+InUse E c = c .mode ≡ 0
+InUse S c = within 3 8 (c .mode) ≡ true
+InUse K c = Unit {0}

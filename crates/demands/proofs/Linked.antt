@@ -26,7 +26,8 @@ use Rattle.stick.specs.Calls.{freshStick, freshOf, takeAt, takeOf, tickAt, tick
 use Rattle.alone.specs.Alone.{Devs}
 use Rattle.rules.proofs.PortKeeps as port-keeps
 use Rattle.rules.proofs.PortKeeps.{FitReach, port-of, take-length}
-use Rattle.rules.proofs.Answers.{FirstAnswers, oneOf, fit-of, fresh-answers, take-answers, take-still, take-most, tick-answers, tick-still, tick-most, give-answers, give-still, give-most, press-answers, press-still, press-most}
+use Rattle.rules.specs.Answers.{FirstAnswers, oneOf}
+use Rattle.rules.proofs.Answers.{fit-of, fresh-answers, take-answers, take-still, take-most, tick-answers, tick-still, tick-most, give-answers, give-still, give-most, press-answers, press-still, press-most}
 use Rattle.rules.proofs.Answers as answers
 use Rattle.rules.proofs.FreshStart.{fresh-done, fresh-guarded}
 use Rattle.rules.proofs.NeverDamaged as never

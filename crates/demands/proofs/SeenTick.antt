@@ -48,7 +48,8 @@ use Rattle.alone.specs.Moves.{IsAlone}
 use Rattle.alone.proofs.AloneIs as alone
 use Rattle.alone.proofs.Keeps.{FitAlone, alone-keeps}
 use Rattle.alone.proofs.Said.{asked-is}
-use Rattle.rules.proofs.RequestKeeps.{FitRun, deviceIn, FitPlan, plan-fit, UsedBy, Anyhow, console-sound, printer-sound, FitOut, job-keeps, go-keeps}
+use Rattle.rules.specs.Running.{FitRun}
+use Rattle.rules.proofs.RequestKeeps.{deviceIn, FitPlan, plan-fit, UsedBy, Anyhow, console-sound, printer-sound, FitOut, job-keeps, go-keeps}
 use Rattle.serial.specs.Machine.{Step, goes, ends}
 use Rattle.serial.specs.Core.{Phase, running, replying, Answer, done}
 use Rattle.serial.specs.Undamaged.{OkPhase}

@@ -11,8 +11,7 @@ use Rattle.handler.specs.declared.Done.the-variants as done
 use Rattle.handler.specs.Answer.{answer}
 use Rattle.console.specs.declared.Handler.the-variants as console
 use Rattle.console.specs.Group.{ConsoleGroup, group, pressedOf}
-use Rattle.console.specs.Fit.{FitGroup}
-use Rattle.console.proofs.Keeps.{InUse}
+use Rattle.console.specs.Fit.{FitGroup, InUse}
 use Rattle.printer.specs.Printer.{PrinterGroup}
 use Rattle.printer.specs.Fit.{FitPrinter}
 use Rattle.blocks.specs.declared.Device.{Device}
@@ -35,7 +34,7 @@ use Rattle.cio.specs.Move.{Went, goOf}
 use Rattle.state.specs.Fits.{deviceGroup, clash}
 use Rattle.alone.specs.Alone.{Said, askedOf, bytesOf, Local, local, Devs, loaded, aloneOf}
 use Rattle.alone.specs.Fit.{FitLocal, FitDevs}
-use Rattle.rules.proofs.RequestKeeps.{FitRun}
+use Rattle.rules.specs.Running.{FitRun}
 use Rattle.serial.specs.Machine.{Two, Reply, Out, goes, ends, Step, Alone, Machine}
 use Rattle.demands.specs.Spells.{Spells, Gather, nothingYet, feed, Gathered}
 

@@ -47,7 +47,8 @@ use Rattle.cio.specs.Transfer.{spanFits, Out, goes, ends, landed}
 use Rattle.cio.specs.Handlers.{consoleHandler, printerHandler}
 use Rattle.cio.specs.Start.{errandOf, workOf, startOf}
 use Rattle.cio.specs.Move.{goOf, moveOf, wayIn}
-use Rattle.rules.proofs.RequestKeeps.{Allowed, OpenFor, FitRun, FitPlan, deviceIn, plan-fit, UsedBy, Anyhow, console-sound, printer-sound, FitOut, job-keeps, go-keeps, Replies, errand-keeps, landed-length}
+use Rattle.rules.specs.Running.{Allowed, OpenFor, FitRun}
+use Rattle.rules.proofs.RequestKeeps.{FitPlan, deviceIn, plan-fit, UsedBy, Anyhow, console-sound, printer-sound, FitOut, job-keeps, go-keeps, Replies, errand-keeps, landed-length}
 use Rattle.state.specs.Fits.{deviceGroup, heldOf, clash, allows, openFor, inUse, spans, runFits, phaseFits, portFits}
 use Rattle.state.proofs.Tested.{clash-nobody}
 use Rattle.port.specs.Port.{portOf, withPhase, Reach, reach, startPlan, consoleMove, printerMove, moveOn, moveRun, Ticked, readyTick, tickPort, takePort, givePort}

@@ -13,7 +13,6 @@ use Rattle.base.specs.Choice.{pick}
 use Rattle.base.proofs.Choices.{choose-go}
 use Rattle.console.specs.declared.Handler as console
 use Rattle.console.specs.declared.Handler.the-variants as handler
-use Rattle.console.specs.Group.{pressedOf}
 use Rattle.handler.specs.declared.Got.{Got}
 use Rattle.handler.specs.declared.Got.the-variants as got
 use Rattle.blocks.specs.declared.Device.{Device}
@@ -42,45 +41,11 @@ use Rattle.cio.specs.Move.{getOf, putOf, goOf, moveOf}
 use Rattle.state.specs.declared.Stick.{Stick}
 use Rattle.state.specs.Fits.{heldOf, clash}
 use Rattle.port.specs.Port.{Reach, startPlan, consoleMove, printerMove, moveOn, Ticked, ticked, readyTick, tickPort, takePort, givePort}
-use Rattle.stick.specs.Stick.{Lent, lent, Outcome, refused, portAt, otherAt, withPort0, withPort1, withPort, partAt, withPart, areaAt, roomAt, reachAt, withReach}
+use Rattle.stick.specs.Stick.{Lent, refused, portAt, otherAt, withPort0, withPort1, withPort, partAt, withPart, areaAt, roomAt, reachAt, withReach}
 use Rattle.stick.specs.Calls.{takeAt, takeOf, tickAt, tickOf, giveAt, giveOf, consoleHeld, pressAt, pressOf}
-use Rattle.rules.proofs.Answers.{Called, by-order}
-
--- the other port
-abbrev pub other : ℕ → ℕ
-other port = pick (eqb port 0) 1 0
-
--- the other port's blocks and phase, its room and its half of the area are as they were
-pub record OtherStays (port : ℕ) (s : Stick) (l : Lent) (o : Outcome) : Type 0 where
-  pub state : otherAt port (o .stick) ≡ otherAt port s
-  pub room : roomAt (other port) (o .lent) ≡ roomAt (other port) l
-  pub half : areaAt (other port) (o .lent) ≡ areaAt (other port) l
-
--- only the port's own phase and room are others
-pub record OnlyOwn (port : ℕ) (s : Stick) (l : Lent) (o : Outcome) : Type 0 where
-  pub others : OtherStays port s l o
-  pub blocks : portAt port (o .stick) .table ≡ portAt port s .table
-  pub console : o .stick .console ≡ s .console
-  pub printer : o .stick .printer ≡ s .printer
-  pub area : o .lent .area ≡ l .area
-  pub screen : o .lent .screen ≡ l .screen
-  pub paper : o .lent .paper ≡ l .paper
-
--- only the port's own phase is another
-pub record OnlyPhase (port : ℕ) (s : Stick) (l : Lent) (o : Outcome) : Type 0 where
-  pub state : otherAt port (o .stick) ≡ otherAt port s
-  pub blocks : portAt port (o .stick) .table ≡ portAt port s .table
-  pub console : o .stick .console ≡ s .console
-  pub printer : o .stick .printer ≡ s .printer
-  pub buffers : o .lent ≡ l
-
--- only the key that waits on the keyboard is another, not its lock nor inverse
-pub record OnlyKey (s : Stick) (l : Lent) (o : Outcome) : Type 0 where
-  pub port0 : o .stick .port0 ≡ s .port0
-  pub port1 : o .stick .port1 ≡ s .port1
-  pub console : o .stick .console ≡ pressedOf (o .stick .console .keyboard .code) (s .console)
-  pub printer : o .stick .printer ≡ s .printer
-  pub buffers : o .lent ≡ l
+use Rattle.rules.specs.Answers.{Called}
+use Rattle.rules.proofs.Answers.{by-order}
+use Rattle.rules.specs.Ports.{other, OtherStays, OnlyOwn, OnlyPhase, OnlyKey}
 
 -- a part put back in its place leaves the other part
 other-part : (n port : ℕ) (part xs : List ℕ) → n ≤ length xs → length part ≡ length (partAt n port xs) → partAt n (other port) (withPart n port part xs) ≡ partAt n (other port) xs

@@ -22,8 +22,8 @@ use Rattle.console.specs.declared.Handler as consoles
 use Rattle.console.specs.declared.Handler.the-variants as console
 use Rattle.console.specs.Group.{ConsoleGroup}
 use Rattle.console.specs.Handlers.{openOf, openS}
-use Rattle.console.specs.Fit.{FitGroup}
-use Rattle.console.proofs.Keeps.{InUse, open-fit, prepare-fit, prepare-use, read-fit, read-use, write-fit, write-use}
+use Rattle.console.specs.Fit.{FitGroup, InUse}
+use Rattle.console.proofs.Keeps.{open-fit, prepare-fit, prepare-use, read-fit, read-use, write-fit, write-use}
 use Rattle.printer.specs.Printer.{PrinterGroup}
 use Rattle.printer.specs.Fit.{FitPrinter}
 use Rattle.printer.proofs.Keeps.{put-fit}
@@ -42,7 +42,7 @@ use Rattle.blocks.specs.declared.Phase.the-variants.{Gathering, Ready, Running,
 use Rattle.blocks.specs.declared.Specification.{Specification}
 use Rattle.blocks.specs.declared.Specification.the-variants.{Refused, Names}
 use Rattle.blocks.specs.Blocks.{blockAt, closedBlock, openBlock}
-use Rattle.blocks.specs.Opening.{letterOf, reads, writes, offersOf, specificationOf}
+use Rattle.blocks.specs.Opening.{reads, writes, offersOf, specificationOf}
 use Rattle.blocks.specs.Made.{splits, madeOf, tableMade}
 use Rattle.blocks.proofs.Keeps.{with-made, closed-made, open-is-made, names-number}
 use Rattle.wire.specs.declared.Call.{Call}
@@ -69,22 +69,7 @@ use Rattle.cio.specs.Handlers.{Handler, consoleHandler, printerHandler}
 use Rattle.cio.specs.Transfer.{Progress, furtherOf, onwardOf, recordOf, gotCharacter, gotOf, sentRecord, sentNext, sentOf, sentByte, Out, goes, ends, outOf, landed, spanFits}
 use Rattle.cio.specs.Start.{loadFits, loadedOf, loadStatus, Freed, loadOf, errandOf, Begun, runOf, settledOf, openingOf, preparedOut, transferOf, workOf}
 use Rattle.cio.specs.Move.{Went, getOf, putOf, goOf, wayIn}
-
--- reading needs R, writing W
-abbrev pub Allowed : Kind → (aux1 : ℕ) → Type 0
-Allowed (Get way) aux1 = reads aux1 ≡ true
-Allowed (Put way) aux1 = writes aux1 ≡ true
-
--- the block is open, on the request's device and for its direction
-abbrev pub OpenFor : Kind → Device → BlockState → Type 0
-OpenFor kind device block.Closed = ⊥
-OpenFor kind device (block.Open opened number aux1) = (letterOf device ≡ letterOf opened) × Allowed kind aux1
-
--- a running request has its block and its buffer
-pub record FitRun (run : Run) (table : Table) : Type 0 where
-  pub iocb : run .iocb < 8
-  pub block : OpenFor (run .kind) (run .device) (blockAt table (run .iocb) .state)
-  pub span : spanFits (wayIn (run .kind)) run ≡ true
+use Rattle.rules.specs.Running.{OpenFor, FitRun}
 
 -- what the checks before the group have shown of the work on a device
 abbrev pub FitWork : Work → Device → Call → Table → Type 0

@@ -34,7 +34,8 @@ use Rattle.state.specs.Fits.{deviceGroup, heldOf, clash}
 use Rattle.port.specs.Port.{Reach, startPlan, Ticked, ticked, readyTick, tickPort}
 use Rattle.stick.specs.Stick.{Lent, Outcome, portAt, otherAt, reachAt}
 use Rattle.stick.specs.Calls.{tickAt, tickOf}
-use Rattle.rules.proofs.Answers.{Called, PortIs, IsReady, Holds, needAt, Waits, Goes, never, clash-holds, by-order, tick-answers}
+use Rattle.rules.specs.Answers.{Called, PortIs, IsReady, Holds, needAt, Waits, Goes}
+use Rattle.rules.proofs.Answers.{never, clash-holds, by-order, tick-answers}
 use Rattle.rules.proofs.Ports.{own-port}
 
 -- "8 tick, ready, group held by the other port", with the message and the request that runs

@@ -1,0 +1,45 @@
+-- What a call leaves alone: the other port, its own blocks and area, the devices.
+-- Assumes nothing.
+use mathlib.Core.Path.{_≡_}
+use Prim.Native.Nat.{ℕ}
+use lib.Dec.{eqb}
+use Rattle.base.specs.Choice.{pick}
+use Rattle.console.specs.Group.{pressedOf}
+use Rattle.state.specs.declared.Stick.{Stick}
+use Rattle.stick.specs.Stick.{Lent, Outcome, portAt, otherAt, areaAt, roomAt}
+
+-- the other port
+abbrev pub other : ℕ → ℕ
+other port = pick (eqb port 0) 1 0
+
+-- the other port's blocks and phase, its room and its half of the area are as they were
+pub record OtherStays (port : ℕ) (s : Stick) (l : Lent) (o : Outcome) : Type 0 where
+  pub state : otherAt port (o .stick) ≡ otherAt port s
+  pub room : roomAt (other port) (o .lent) ≡ roomAt (other port) l
+  pub half : areaAt (other port) (o .lent) ≡ areaAt (other port) l
+
+-- only the port's own phase and room are others
+pub record OnlyOwn (port : ℕ) (s : Stick) (l : Lent) (o : Outcome) : Type 0 where
+  pub others : OtherStays port s l o
+  pub blocks : portAt port (o .stick) .table ≡ portAt port s .table
+  pub console : o .stick .console ≡ s .console
+  pub printer : o .stick .printer ≡ s .printer
+  pub area : o .lent .area ≡ l .area
+  pub screen : o .lent .screen ≡ l .screen
+  pub paper : o .lent .paper ≡ l .paper
+
+-- only the port's own phase is another
+pub record OnlyPhase (port : ℕ) (s : Stick) (l : Lent) (o : Outcome) : Type 0 where
+  pub state : otherAt port (o .stick) ≡ otherAt port s
+  pub blocks : portAt port (o .stick) .table ≡ portAt port s .table
+  pub console : o .stick .console ≡ s .console
+  pub printer : o .stick .printer ≡ s .printer
+  pub buffers : o .lent ≡ l
+
+-- only the key that waits on the keyboard is another, not its lock nor inverse
+pub record OnlyKey (s : Stick) (l : Lent) (o : Outcome) : Type 0 where
+  pub port0 : o .stick .port0 ≡ s .port0
+  pub port1 : o .stick .port1 ≡ s .port1
+  pub console : o .stick .console ≡ pressedOf (o .stick .console .keyboard .code) (s .console)
+  pub printer : o .stick .printer ≡ s .printer
+  pub buffers : o .lent ≡ l
