@@ -1,10 +1,12 @@
 -- The machine of document 01 meets the laws.
 -- Assumes nothing.
 use mathlib.Core.Path.{_≡_, refl, sym, _∙_, ap, subst}
+use mathlib.Core.Logic.{_↔_}
 use mathlib.Core.Bool.{true, false, true≢false}
 use mathlib.Core.Option.{some}
 use mathlib.Core.List.{List, []}
 use Prim.Native.Nat.{ℕ, zero, suc}
+use native.Mathlib.Omega.{arith}
 use lib.ListN.{length}
 use Rattle.console.specs.declared.Handler as consoles
 use Rattle.console.specs.declared.Handler.the-variants as console
@@ -73,8 +75,28 @@ put-apart groups.Printer groups.Nobody x y d e = refl
 put-apart groups.Printer groups.Console x y d e = refl
 put-apart groups.Printer groups.Printer x y d e = absurd (true≢false e)
 
+-- two groups clash exactly when they are the same, and not "no group"
+abbrev groupNumber : Group → ℕ
+groupNumber groups.Nobody = 0
+groupNumber groups.Console = 1
+groupNumber groups.Printer = 2
+
+apart-groups : (g h : Group) → (groupNumber g ≡ groupNumber h → ⊥) → g ≡ h → ⊥
+apart-groups g h n e = n (ap groupNumber e)
+
+pub clash-is : (g h : Group) → (clash g h ≡ true) ↔ ((g ≡ h) × (g ≡ groups.Nobody → ⊥))
+clash-is groups.Nobody groups.Nobody = (λ e. absurd (true≢false (sym e)), λ p. absurd (p .1 refl))
+clash-is groups.Nobody groups.Console = (λ e. absurd (true≢false (sym e)), λ p. absurd (p .1 refl))
+clash-is groups.Nobody groups.Printer = (λ e. absurd (true≢false (sym e)), λ p. absurd (p .1 refl))
+clash-is groups.Console groups.Nobody = (λ e. absurd (true≢false (sym e)), λ p. absurd (apart-groups groups.Console groups.Nobody (λ e. omega (arith, e)) (p .0)))
+clash-is groups.Console groups.Console = (λ e. (refl, apart-groups groups.Console groups.Nobody (λ e. omega (arith, e))), λ p. refl)
+clash-is groups.Console groups.Printer = (λ e. absurd (true≢false (sym e)), λ p. absurd (apart-groups groups.Console groups.Printer (λ e. omega (arith, e)) (p .0)))
+clash-is groups.Printer groups.Nobody = (λ e. absurd (true≢false (sym e)), λ p. absurd (apart-groups groups.Printer groups.Nobody (λ e. omega (arith, e)) (p .0)))
+clash-is groups.Printer groups.Console = (λ e. absurd (true≢false (sym e)), λ p. absurd (apart-groups groups.Printer groups.Console (λ e. omega (arith, e)) (p .0)))
+clash-is groups.Printer groups.Printer = (λ e. (refl, apart-groups groups.Printer groups.Nobody (λ e. omega (arith, e))), λ p. refl)
+
 -- what is not damaged
-fit-at : (p : Port) (t : Two Local) (d : Devs) → FitAll t d → FitLocal (at p t)
+pub fit-at : (p : Port) (t : Two Local) (d : Devs) → FitAll t d → FitLocal (at p t)
 fit-at port-0 t d f = f .zeroth
 fit-at port-1 t d f = f .first
 
@@ -161,12 +183,20 @@ module _ (g : Group) (job : Job) (l : Local) (x : Dev g) (f : FitDev g x) (made 
     begun-fit : FitBegun (job .device) (FitDev g) (UsedOn g (job .device)) (workOf own (job .work) (job .device) (job .call) (l .table) x)
     begun-fit = job-keeps own (job .device) (FitDev g) (UsedOn g (job .device)) (sound-on g (job .device) held) job (l .table) fit made x f
 
+    -- n moves of the machine are n of `cio`
+    pub job-moves : (n : ℕ) → let s = startJob g job l x in
+        let b = workOf own (job .work) (job .device) (job .call) (l .table) x in
+        finishOut real n g (s .out) (s .local) (s .dev) ≡ wentBy (b .table) (moves n own (b .out) (l .area) (b .device))
+    job-moves n =
+        let b = workOf own (job .work) (job .device) (job .call) (l .table) x in
+        finish-moves g (job .device) held n (b .out) (b .table) (l .area) (b .device) (begun-fit .fits) (begun-fit .out)
+
     job-is : (v : AloneOn (Dev g)) → JobEnds own job l x v
         → let s = startJob g job l x in
         finishOut real 61441 g (s .out) (s .local) (s .dev) ≡ record { local = v .local; dev = v .device; out = ends (replyBy (v .reply)) }
     job-is v j =
         let b = workOf own (job .work) (job .device) (job .call) (l .table) x in
-        finish-moves g (job .device) held 61441 (b .out) (b .table) (l .area) (b .device) (begun-fit .fits) (begun-fit .out)
+        job-moves 61441
         ∙ ap (wentBy (b .table)) (alone.in-time own (b .out) (l .area) (b .device) 0 (v .course) _ (j .comes))
         ∙ ap (λ (table : Table). record { local = local table (v .local .area); dev = v .device; out = ends (replyBy (v .reply)) }) (j .table)
 
@@ -178,7 +208,7 @@ module _ (g : Group) (job : Job) (l : Local) (x : Dev g) (f : FitDev g x) (made 
           out-fit g (job .device) held (b .out) (local (b .table) (l .area)) (b .device) (begun-fit .out),
         )
 
-finish-ended : (n : ℕ) (g : Group) (reply : List ℕ) (l : Local) (x : Dev g) → finishOut real n g (ends (replyBy reply)) l x ≡ record { local = l; dev = x; out = ends (replyBy reply) }
+pub finish-ended : (n : ℕ) (g : Group) (reply : List ℕ) (l : Local) (x : Dev g) → finishOut real n g (ends (replyBy reply)) l x ≡ record { local = l; dev = x; out = ends (replyBy reply) }
 unfolding finishOut
 finish-ended zero g reply l x = refl
 finish-ended (suc n) g reply l x = refl
@@ -196,17 +226,17 @@ module _ (l : Local) (o : FitLocal l) (d : Devs) (f : FitDevs d) where
     console-own : handlerOf groups.Console (job .device) ≡ consoleHandler h
     console-own = ap (handlerOf groups.Console) (q .named) ∙ console-handler h
 
-    console-group : deviceGroup (job .device) ≡ groups.Console
+    pub console-group : deviceGroup (job .device) ≡ groups.Console
     console-group = ap deviceGroup (q .named) ∙ console-held h
 
-    console-ends : (v : AloneOn ConsoleGroup) → JobEnds (consoleHandler h) job l (d .console) v → JobEnds (handlerOf groups.Console (job .device)) job l (d .console) v
+    pub console-ends : (v : AloneOn ConsoleGroup) → JobEnds (consoleHandler h) job l (d .console) v → JobEnds (handlerOf groups.Console (job .device)) job l (d .console) v
     console-ends v j = subst (λ (H : Handler ConsoleGroup). JobEnds H job l (d .console) v) (sym console-own) j
 
   module _ (job : Job) (q : FitJob P job (l .table)) where
     printer-own : handlerOf groups.Printer (job .device) ≡ printerHandler
     printer-own = ap (handlerOf groups.Printer) (q .named)
 
-    printer-ends : (v : AloneOn PrinterGroup) → JobEnds printerHandler job l (d .printer) v → JobEnds (handlerOf groups.Printer (job .device)) job l (d .printer) v
+    pub printer-ends : (v : AloneOn PrinterGroup) → JobEnds printerHandler job l (d .printer) v → JobEnds (handlerOf groups.Printer (job .device)) job l (d .printer) v
     printer-ends v j = subst (λ (H : Handler PrinterGroup). JobEnds H job l (d .printer) v) (sym printer-own) j
 
   plan-is : (q : Plan) (bytes : List ℕ) (w : request.Alone) → FitPlan q (l .table) → IsAlone q [] l d w → Finished q bytes
@@ -253,7 +283,7 @@ module _ (p : Port) (m : Said) (t : Two Local) (d : Devs) (f : FitAll t d) where
   abbrev needed : Group
   needed = needBy mine m
 
-  is-alone : IsAlone (planOf (askedOf m) (mine .table) (mine .area)) [] mine d (aloneOf (request.saidOf (askedOf m) []) mine d)
+  pub is-alone : IsAlone (planOf (askedOf m) (mine .table) (mine .area)) [] mine d (aloneOf (request.saidOf (askedOf m) []) mine d)
   is-alone = alone.alone-is (askedOf m) [] mine d (f .devs .console) (f .devs .printer)
 
   pub start-fit : OkStep p needed t d (startBy needed m mine (getDev needed d))

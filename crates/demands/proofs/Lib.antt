@@ -1,7 +1,15 @@
 pub mod Spelling
 pub mod Lawful
 pub mod Demanded
+pub mod Course
 pub mod SeenBytes
 pub mod SeenTick
 pub mod Linked
 pub mod Told
+pub mod Demand1
+pub mod Demands
+pub mod Made
+pub mod Plugged
+pub mod Busy
+pub mod Wrong
+pub mod Decided

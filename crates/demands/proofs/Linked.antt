@@ -45,7 +45,9 @@ use Rattle.serial.proofs.Steps as any
 use Rattle.serial.proofs.Follows as follow
 use Rattle.demands.specs.Real.{pressedOn, FitAll, real}
 use Rattle.demands.specs.Sticks.{World, portSeen, devsSeen, seen, portNumber, answerBy, outcomeOf, called, Started, sticks, Sound}
+use Rattle.demands.specs.Course.{CourseRule}
 use Rattle.demands.proofs.Lawful.{lawful}
+use Rattle.demands.proofs.Course.{course}
 use Rattle.demands.proofs.SeenBytes.{take-seen, give-seen}
 use Rattle.demands.proofs.SeenTick.{holds-seen, tick-seen}
 
@@ -310,6 +312,13 @@ demand1 = follow.demand1 real sticks follows lawful
 pub demand2 : Demand2 real sticks
 demand2 = follow.demand2 real sticks follows lawful
 
+pub never-damaged : NeverDamaged real sticks
+never-damaged = follow.never-damaged real sticks follows lawful
+
+-- "Once started, it moves one character a tick": of the request alone, character by character
+pub courses : CourseRule sticks
+courses = course sticks (demand2 .later) never-damaged
+
 -- "Take any sequence of calls after one fresh start that gives 0, both ports and the key presses mixed in any order"
 pub demand3 : Demand3 real sticks
 demand3 = follow.demand3 real sticks follows lawful
@@ -317,9 +326,6 @@ demand3 = follow.demand3 real sticks follows lawful
 -- the same where not every started request is finished
 pub unfinished : UnfinishedRule real sticks
 unfinished = follow.unfinished real sticks follows lawful
-
-pub never-damaged : NeverDamaged real sticks
-never-damaged = follow.never-damaged real sticks follows lawful
 
 -- "No state reached from fresh by these calls is damaged": as the calls test it; so 1 to 3 are answered in no run
 pub always-sound : (w : World) → Reached real sticks w → Sound w

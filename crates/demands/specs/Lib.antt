@@ -1,4 +1,7 @@
 pub mod Spells
 pub mod Real
 pub mod Sticks
+pub mod Course
 pub mod Told
+pub mod Demand1
+pub mod Demands

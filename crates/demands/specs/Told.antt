@@ -3,7 +3,6 @@
 -- Assumes nothing.
 use mathlib.Core.Path.{_≡_}
 use mathlib.Core.List.{List, [], _∷_}
-use Prim.Native.Nat.{ℕ}
 use denote.Ref.{now}
 use Rattle.base.specs.Decides.{Told}
 use Rattle.stick.specs.Stick.{Outcome, outcome, lent}
@@ -78,7 +77,32 @@ pub data Real : World → Call real → Outcome → Type 0 where
   gave : (o : Give) (p : Port) → o .args .1 .1 .1 .1 .1 .0 ≡ portNumber p → Real (giveFrom o) (give p) (giveLeaves o)
   pressed : (o : Press) → Real (pressFrom o) (press (o .args .1 .1 .1 .1 .1 .0)) (pressLeaves o)
 
--- "the same state and lent buffers in every call"
+-- any call of the five functions, whatever port it names and whatever it is lent
+pub data Any : World → Outcome → Type 0 where
+  any-fresh : (o : Fresh) → Any (freshFrom o) (freshLeaves o)
+  any-take : (o : Take) → Any (takeFrom o) (takeLeaves o)
+  any-tick : (o : Tick) → Any (tickFrom o) (tickLeaves o)
+  any-give : (o : Give) → Any (giveFrom o) (giveLeaves o)
+  any-press : (o : Press) → Any (pressFrom o) (pressLeaves o)
+
+-- what is there of x after a call that was lent b and left e: x itself, where it was not lent, or e, where it was
+pub data Kept {X : Type 0} (x b e : X) : X → Type 0 where
+  not-lent : Kept x b e x
+  lent-on : b ≡ x → Kept x b e e
+
+-- a call that is lent v and leaves e, whatever of w is a part of v: then w′ is there
+pub record Aside (w v e w′ : World) : Type 0 where
+  pub stick : Kept (w .stick) (v .stick) (e .stick) (w′ .stick)
+  pub rooms : Kept (w .buffers .rooms) (v .buffers .rooms) (e .buffers .rooms) (w′ .buffers .rooms)
+  pub area : Kept (w .buffers .area) (v .buffers .area) (e .buffers .area) (w′ .buffers .area)
+  pub screen : Kept (w .buffers .screen) (v .buffers .screen) (e .buffers .screen) (w′ .buffers .screen)
+  pub paper : Kept (w .buffers .paper) (v .buffers .paper) (e .buffers .paper) (w′ .buffers .paper)
+
+-- "any sequence of calls .., no second fresh start, the same state and lent buffers in every call but those answered 2"
 pub data RealRun : World → List (Call real) → World → Type 0 where
   here : {w : World} → RealRun w [] w
   then : {w w′ : World} {c : Call real} {cs : List (Call real)} {o : Outcome} → Real w c o → RealRun (left o) cs w′ → RealRun w (c ∷ cs) w′
+  -- a call of a port above 1
+  above : {w w′ : World} {cs : List (Call real)} {o : Outcome} → Any w o → o .answer ≡ 1 → RealRun (left o) cs w′ → RealRun w cs w′
+  -- a call answered 2, with any state and any buffers
+  aside : {w v w₁ w′ : World} {cs : List (Call real)} {o : Outcome} → Any v o → o .answer ≡ 2 → Aside w v (left o) w₁ → RealRun w₁ cs w′ → RealRun w cs w′

@@ -5,7 +5,7 @@ use Prim.Native.Nat.{ℕ, zero, suc}
 use Rattle.serial.specs.Machine.{Port, port-0, port-1, set, Out, goes, ends, Machine, StepOf, finish, finishOut}
 use Rattle.serial.specs.Core.{replying, View, localAt, locals, tick, Effect}
 use Rattle.serial.specs.Calls.{landed, callOf, coreOf}
-use Rattle.serial.specs.Demand2.{ticked, AloneRule}
+use Rattle.serial.specs.Demand2.{ticked, LaterRule, AloneRule}
 use Rattle.serial.specs.Laws.{Laws}
 use Rattle.serial.proofs.Finish.{finish-ends}
 use Rattle.serial.proofs.Waiting.{began}
@@ -48,15 +48,19 @@ module _ (M : Machine) (L : Laws M) where
   at-else port-0 m v f = alone-else port-0 m (locals M v) (v .devs) f
   at-else port-1 m v f = alone-else port-1 m (locals M v) (v .devs) f
 
-  pub alone-rule : AloneRule M (coreOf M)
+  pub later-rule : LaterRule M (coreOf M)
   unfolding ticked
-  alone-rule v r p m e n =
-      let f = never-damaged M L v r .fit in
+  later-rule v r p m e w n =
       let l = localAt M p v in
       let g = need l m in
       let s = start g m l (get g (v .devs)) in
-      let a = alone m l (v .devs) in
-      ap (λ (c : Effect M (View M)). ticked M (coreOf M) fuel p (c .world)) (began M p m v e n)
-      ∙ ticked-landed fuel p g (s .out) (s .local) (s .dev) v
+      ap (λ (c : Effect M (View M)). ticked M (coreOf M) n p (c .world)) (began M p m v e w) ∙ ticked-landed n p g (s .out) (s .local) (s .dev) v
+
+  pub alone-rule : AloneRule M (coreOf M)
+  alone-rule v r p m e n =
+      let f = never-damaged M L v r .fit in
+      let g = need (localAt M p v) m in
+      let a = alone m (localAt M p v) (v .devs) in
+      later-rule v r p m e n fuel
       ∙ ap (λ (s : StepOf M g). landed M p g s v) (at-is p m v f)
       ∙ ap (λ (d : Devs). record { ports = set p (record { local = a .local; phase = replying (a .reply) }) (v .ports); devs = d }) (sym (at-else p m v f))

@@ -10,7 +10,7 @@ use Rattle.serial.specs.Laws.{Laws}
 use Rattle.serial.proofs.Waiting.{waiting, one-character}
 use Rattle.serial.proofs.Answers
 use Rattle.serial.proofs.Bound.{bound, ends-by}
-use Rattle.serial.proofs.Alone.{alone-rule}
+use Rattle.serial.proofs.Alone.{later-rule, alone-rule}
 use Rattle.serial.proofs.Serial
 use Rattle.serial.proofs.Undamaged
 use Rattle.serial.proofs.Unfinished
@@ -23,6 +23,7 @@ module _ (M : Machine) (L : Laws M) where
   pub demand2 : Demand2 M (coreOf M)
   demand2 = record {
     alone = alone-rule M L;
+    later = later-rule M L;
     waiting = waiting M;
     one-character = one-character M;
     bound = bound M L;

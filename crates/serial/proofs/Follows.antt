@@ -4,8 +4,8 @@ use mathlib.Core.Logic.{inl, inr}
 use mathlib.Core.List.{List, [], _∷_, _++_}
 use Prim.Native.Nat.{ℕ, zero, suc}
 use Rattle.serial.specs.Machine.{Port, at, Machine}
-use Rattle.serial.specs.Core.{phaseAt, Call, take, tick, give, press, Core}
-use Rattle.serial.specs.Calls.{coreOf}
+use Rattle.serial.specs.Core.{phaseAt, Call, take, tick, give, press, Answer, number, Core}
+use Rattle.serial.specs.Calls.{callOf, coreOf}
 use Rattle.serial.specs.Run.{watch, State, OkCall, OkCalls, one-more, phaseIn, next, after, Begun, begin, Reached}
 use Rattle.serial.specs.Undamaged.{NeverDamaged}
 use Rattle.serial.specs.Demand1.{Demand1}
@@ -15,6 +15,7 @@ use Rattle.serial.specs.Reading.{Reads}
 use Rattle.serial.specs.Laws.{Laws}
 use Rattle.serial.specs.Follows.{Follows}
 use Rattle.serial.proofs.Runs.{reached-after, reached-first, reached-next, moves-ok}
+use Rattle.serial.proofs.Tested.{answers}
 use Rattle.serial.proofs.Demanded as right
 
 module _ (M : Machine) (C : Core M) (F : Follows M C) where
@@ -40,8 +41,17 @@ module _ (M : Machine) (C : Core M) (F : Follows M C) where
   begun-is : (w : C .World) → Begun M C w → Begun M (coreOf M) (C .see w)
   begun-is w b = (fresh-is w b, b .1)
 
-  run-is : (w : C .World) → Begun M C w → (cs : List (Call M)) → OkCalls M cs → viewed (after M C cs (begin M C w)) ≡ after M (coreOf M) cs (begin M (coreOf M) (C .see w))
+  pub run-is : (w : C .World) → Begun M C w → (cs : List (Call M)) → OkCalls M cs → viewed (after M C cs (begin M C w)) ≡ after M (coreOf M) cs (begin M (coreOf M) (C .see w))
   run-is w b cs ok = after-is cs (begin M C w) (reached-first M C w b) ok
+
+  -- so are the numbers it answers
+  pub answers-is : (cs : List (Call M)) (w : C .World) → Reached M C w → OkCalls M cs → answers M C cs w ≡ answers M (coreOf M) cs (C .see w)
+  answers-is [] w r ok = refl
+  answers-is (c ∷ cs) w r (one-more o ok) =
+      let e = C .call c w in
+      ap (λ (a : Answer M). number M a ∷ answers M C cs (e .world)) (answer-is w r c o)
+      ∙ ap (λ (ns : List ℕ). number M (callOf M c (C .see w) .answer) ∷ ns)
+      (answers-is cs (e .world) (reached-next M C w r c o) ok ∙ ap (answers M (coreOf M) cs) (world-is w r c o))
 
   reach-is : (w : C .World) → Reached M C w → Reached M (coreOf M) (C .see w)
   reach-is w r = record {
@@ -101,6 +111,7 @@ module _ (M : Machine) (C : Core M) (F : Follows M C) where
     pub demand2 : Demand2 M C
     demand2 = record {
       alone = λ w r p m e n. ticked-is _ p w r ∙ right.demand2 M L .alone (C .see w) (reach-is w r) p m e n;
+      later = λ w r p m e n k. ticked-is _ p w r ∙ right.demand2 M L .later (C .see w) (reach-is w r) p m e n k;
       waiting = record {
         waits = λ w r p m e.
             let q = right.demand2 M L .waiting .waits (C .see w) (reach-is w r) p m e in

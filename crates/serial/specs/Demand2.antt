@@ -5,7 +5,7 @@ use mathlib.Core.Logic.{_↔_, _⊎_}
 use mathlib.Core.Bool.{Bool, true, false}
 use mathlib.Core.List.{List, [], _∷_}
 use Prim.Native.Nat.{ℕ, zero, suc, _<_, _≤_}
-use Rattle.serial.specs.Machine.{Port, port-0, port-1, set, other, Machine}
+use Rattle.serial.specs.Machine.{Port, port-0, port-1, set, other, Machine, finish}
 use Rattle.serial.specs.Core.{Phase, gathering, ready, running, replying, Runs, Quiet, Held, View, phaseAt, localAt, Call, take, tick, give, press, done, group-held, Core}
 use Rattle.serial.specs.Calls.{landed}
 use Rattle.serial.specs.Run.{OkCalls, Reached}
@@ -93,8 +93,16 @@ module _ (M : Machine) where
         let a = alone m (localAt M p v) (v .devs) in
         C .see (ticked (suc fuel) p w) ≡ record { ports = set p (record { local = a .local; phase = replying (a .reply) }) (v .ports); devs = a .devs }
 
+    -- after n ticks more than the start's, and no other call, it has made n moves, or fewer and has ended
+    abbrev pub LaterRule : Type 0
+    LaterRule = (w : C .World) → Reached M C w → (p : Port) (m : Message) → phaseAt M p (C .see w) ≡ ready m → (Waits p m (C .see w) → ⊥) → (n : ℕ)
+        → let v = C .see w in
+        let g = need (localAt M p v) m in
+        C .see (ticked (suc n) p w) ≡ landed M p g (finish M n g (start g m (localAt M p v) (get g (v .devs)))) v
+
     pub record Demand2 : Type 0 where
       pub alone : AloneRule
+      pub later : LaterRule
       pub waiting : WaitingRule
       pub one-character : OneCharacter
       pub bound : Bound

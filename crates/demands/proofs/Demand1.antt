@@ -1,0 +1,108 @@
+-- Demand 1 holds of every call of the five functions and of key translation, as each one's own promise tells.
+-- Assumes nothing.
+use mathlib.Core.Path.{_≡_, refl, sym, _∙_, subst}
+use mathlib.Core.Bool.{Bool, true, false, true≢false}
+use Prim.Native.Nat.{ℕ, _+_, _-_, _*_, _≤_, _<_}
+use native.Mathlib.Omega.{arith}
+use lib.Dec.{T, leb, ltb, ltb→lt}
+use borrow.Author.Tests.{lt-ltb, le-ltb, ltb-true, ltb-false}
+use Rattle.base.specs.Choice.{pick, and, or, within}
+use Rattle.base.proofs.Choices.{pick-go, by-test}
+use Rattle.base.proofs.Table.{upto, on, anywhere}
+use Rattle.keys.specs.Table.{keys, keyAt}
+use Rattle.keys.specs.Translation.{letter, numberOf, entryOf, answerOf, translateOf}
+use Rattle.stick.specs.Stick.{Outcome}
+use Rattle.rules.specs.Answers.{FreshAnswers, TakeAnswers, TickAnswers, GiveAnswers, PressAnswers}
+use Rattle.rules.proofs.Answers.{fresh-answers, take-answers, tick-answers, give-answers, press-answers}
+use Rattle.demands.specs.Sticks.{World}
+use Rattle.demands.specs.Told.{freshFrom, takeFrom, tickFrom, giveFrom, pressFrom, Any, any-fresh, any-take, any-tick, any-give, any-press}
+use Rattle.demands.specs.Demand1.{Exactly, Asked, TranslateAnswers, Translate, Demand1}
+use Rattle.demands.proofs.Told.{any-still}
+
+exact : {w : World} {o : Outcome} (c : Any w o) → Exactly c
+exact (any-fresh o) = subst (λ (x : Outcome). FreshAnswers (freshFrom o .buffers) (x .answer)) (sym (o .told)) (fresh-answers (freshFrom o .stick) (freshFrom o .buffers))
+exact (any-take o) = subst (λ (x : Outcome). TakeAnswers (takeFrom o .stick) (takeFrom o .buffers) (o .args .1 .1 .1 .1 .1 .0) (x .answer)) (sym (o .told)) (take-answers (takeFrom o .stick) (takeFrom o .buffers) _ _)
+exact (any-tick o) = subst (λ (x : Outcome). TickAnswers (tickFrom o .stick) (tickFrom o .buffers) (o .args .1 .1 .1 .1 .1 .0) (x .answer)) (sym (o .told)) (tick-answers (tickFrom o .stick) (tickFrom o .buffers) _)
+exact (any-give o) = subst (λ (x : Outcome). GiveAnswers (giveFrom o .stick) (giveFrom o .buffers) (o .args .1 .1 .1 .1 .1 .0) (x .answer)) (sym (o .told)) (give-answers (giveFrom o .stick) (giveFrom o .buffers) _)
+exact (any-press o) = subst (λ (x : Outcome). PressAnswers (pressFrom o .stick) (pressFrom o .buffers) (x .answer)) (sym (o .told)) (press-answers (pressFrom o .stick) (pressFrom o .buffers) _)
+
+-- an entry of the table that is no number has a character under either inverse
+abbrev small : ℕ → ℕ → Bool
+small entry inverse = or (within 0x80 0x85 entry) (ltb (answerOf entry inverse) 256)
+
+small-table : (place : ℕ) → T (upto (small (keyAt place)) 0 2)
+unfolding answerOf keys
+small-table = anywhere (λ (entry : ℕ). upto (small entry) 0 2) 0x80 tt keys 0 tt
+
+or-second : (a b : Bool) → T (or a b) → a ≡ false → T b
+or-second true b t e = absurd (true≢false e)
+or-second false b t e = t
+
+key-small : (place inverse : ℕ) → inverse ≤ 1 → within 0x80 0x85 (keyAt place) ≡ false → answerOf (keyAt place) inverse < 256
+key-small place inverse h e =
+    ltb→lt (answerOf (keyAt place) inverse) 256
+    (or-second (within 0x80 0x85 (keyAt place)) _ (on (small (keyAt place)) 0 2 (small-table place) inverse (omega arith) (omega arith)) e)
+
+entry-small : (code lock inverse : ℕ) → inverse ≤ 1 → within 0x80 0x85 (entryOf code lock) ≡ false → answerOf (entryOf code lock) inverse < 256
+unfolding entryOf
+entry-small code lock inverse h =
+    pick-go (λ (e : ℕ). within 0x80 0x85 e ≡ false → answerOf e inverse < 256) (and (ltb code 64) (letter (keyAt code))) _ _
+    (λ t. key-small (code + 64 * lock) inverse h)
+    (λ t. key-small code inverse h)
+
+entry-number : (entry inverse : ℕ) → within 0x80 0x85 entry ≡ true → answerOf entry inverse ≡ numberOf entry
+unfolding answerOf
+entry-number entry inverse e = rw e
+
+number-low : (entry : ℕ) → within 0x80 0x85 entry ≡ true → numberOf entry ≤ 261
+number-low entry e = omega (arith, within-most entry e)
+  where
+    within-most : (entry : ℕ) → within 0x80 0x85 entry ≡ true → entry ≤ 0x85
+    within-most entry e = borrow.Author.Tests.leb-true entry 0x85 (Rattle.base.proofs.Choices.and-right (leb 0x80 entry) (leb entry 0x85) e)
+
+module _ (code lock inverse : ℕ) where
+  asked-is : Asked lock inverse → translateOf code lock inverse ≡ pick (ltb 0xBF code) 256 (answerOf (entryOf code lock) inverse)
+  unfolding translateOf
+  asked-is a = rw (le-ltb 2 lock (a .lock-known), le-ltb 1 inverse (a .inverse-known))
+
+  past-is : Asked lock inverse → 0xBF < code → translateOf code lock inverse ≡ 256
+  past-is a h = asked-is a ∙ rw (lt-ltb 0xBF code h)
+
+  entry-is : Asked lock inverse → code ≤ 0xBF → translateOf code lock inverse ≡ answerOf (entryOf code lock) inverse
+  entry-is a h = asked-is a ∙ rw (le-ltb 0xBF code h)
+
+  below-262 : Asked lock inverse → translateOf code lock inverse < 262
+  below-262 a = by-test (ltb 0xBF code)
+      (λ t. let e = past-is a (ltb-true 0xBF code t) in omega (arith, e))
+      (λ t. let h = ltb-false 0xBF code t in
+      by-test (within 0x80 0x85 (entryOf code lock))
+      (λ u. let e = entry-is a h ∙ entry-number (entryOf code lock) inverse u in let l = number-low (entryOf code lock) u in omega (arith, e, l))
+      (λ u. let e = entry-is a h in let l = entry-small code lock inverse (a .inverse-known) u in omega (arith, e, l)))
+
+  other-is : (Asked lock inverse → ⊥) → translateOf code lock inverse ≡ 262
+  unfolding translateOf
+  other-is n = pick-go (λ (r : ℕ). r ≡ 262) (or (ltb 2 lock) (ltb 1 inverse)) _ _
+      (λ t. refl)
+      (λ t. absurd (n (record { lock-known = ltb-false 2 lock (first (ltb 2 lock) (ltb 1 inverse) t); inverse-known = ltb-false 1 inverse (second (ltb 2 lock) (ltb 1 inverse) t) })))
+    where
+      first : (a b : Bool) → or a b ≡ false → a ≡ false
+      first true b e = e
+      first false b e = refl
+
+      second : (a b : Bool) → or a b ≡ false → b ≡ false
+      second true b e = absurd (true≢false e)
+      second false b e = e
+
+  translate-answers : TranslateAnswers code lock inverse (translateOf code lock inverse)
+  translate-answers = record {
+    other = (λ e a. let l = below-262 a in omega (arith, e, l), other-is);
+    past = past-is;
+    entry = λ a h u. entry-is a h ∙ entry-number (entryOf code lock) inverse u;
+    character = λ a h u. (entry-is a h, let l = entry-small code lock inverse (a .inverse-known) u in subst (λ (r : ℕ). r < 256) (sym (entry-is a h)) l);
+  }
+
+translated : (o : Translate) → TranslateAnswers (o .args .0) (o .args .1 .0) (o .args .1 .1 .0) (o .result)
+translated o = subst (λ (r : ℕ). TranslateAnswers (o .args .0) (o .args .1 .0) (o .args .1 .1 .0) r) (sym (o .told)) (translate-answers (o .args .0) (o .args .1 .0) (o .args .1 .1 .0))
+
+pub demand1 : Demand1
+demand1 = record { exactly = exact; still = any-still; translates = translated }

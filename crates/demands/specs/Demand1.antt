@@ -1,0 +1,49 @@
+-- Demand 1, of the five calls and of key translation, whatever they are given: "each refusal gives the number in the tables of
+-- document 01 and changes only what they say. No entry point trusts its caller to have checked." That every call returns, and that
+-- nothing is read or written outside its buffer, is what the check asks of every function.
+-- Assumes nothing.
+use mathlib.Core.Path.{_≡_}
+use mathlib.Core.Logic.{_↔_}
+use mathlib.Core.Bool.{true, false}
+use Prim.Native.Nat.{ℕ, _+_, _-_, _≤_, _<_}
+use Rattle.base.specs.Choice.{within}
+use Rattle.base.specs.Decides.{Told}
+use Rattle.keys.specs.Translation.{entryOf, answerOf}
+use Rattle.keys.proofs.translate.Kinds as translate-kinds
+use Rattle.keys.proofs.translate.Reads as translate-reads
+use Rattle.stick.specs.Stick.{Outcome, refused}
+use Rattle.rules.specs.Answers.{FreshAnswers, TakeAnswers, TickAnswers, GiveAnswers, PressAnswers}
+use Rattle.demands.specs.Sticks.{World}
+use Rattle.demands.specs.Told.{freshFrom, takeFrom, tickFrom, giveFrom, pressFrom, Any, any-fresh, any-take, any-tick, any-give, any-press}
+
+-- "each is given exactly then"
+abbrev pub Exactly : {w : World} {o : Outcome} → Any w o → Type 0
+Exactly (any-fresh o) = FreshAnswers (freshFrom o .buffers) (o .result .answer)
+Exactly (any-take o) = TakeAnswers (takeFrom o .stick) (takeFrom o .buffers) (o .args .1 .1 .1 .1 .1 .0) (o .result .answer)
+Exactly (any-tick o) = TickAnswers (tickFrom o .stick) (tickFrom o .buffers) (o .args .1 .1 .1 .1 .1 .0) (o .result .answer)
+Exactly (any-give o) = GiveAnswers (giveFrom o .stick) (giveFrom o .buffers) (o .args .1 .1 .1 .1 .1 .0) (o .result .answer)
+Exactly (any-press o) = PressAnswers (pressFrom o .stick) (pressFrom o .buffers) (o .result .answer)
+
+-- "a code, lock (0 none, 1 shift, 2 control) and inverse (0, 1)"
+pub record Asked (lock inverse : ℕ) : Type 0 where
+  pub lock-known : lock ≤ 2
+  pub inverse-known : inverse ≤ 1
+
+pub record TranslateAnswers (code lock inverse answer : ℕ) : Type 0 where
+  -- "262, first, for another lock or inverse"
+  pub other : (answer ≡ 262) ↔ (Asked lock inverse → ⊥)
+  -- "256 for a code above $BF"
+  pub past : Asked lock inverse → 0xBF < code → answer ≡ 256
+  -- "256 to 261 for entries $80 to $85"
+  pub entry : Asked lock inverse → code ≤ 0xBF → within 0x80 0x85 (entryOf code lock) ≡ true → answer ≡ 256 + (entryOf code lock - 0x80)
+  -- "the character"
+  pub character : Asked lock inverse → code ≤ 0xBF → within 0x80 0x85 (entryOf code lock) ≡ false → (answer ≡ answerOf (entryOf code lock) inverse) × (answer < 256)
+
+abbrev pub Translate : Type 0
+Translate = Told 0 translate-kinds.ps translate-kinds.r translate-reads.Learnt
+
+pub record Demand1 : Type 0 where
+  pub exactly : {w : World} {o : Outcome} (c : Any w o) → Exactly c
+  -- "Numbers 1 to 8 change nothing"; "A byte beside a refusal is 0."
+  pub still : {w : World} {o : Outcome} → Any w o → (o .answer ≡ 0 → ⊥) → o ≡ refused (o .answer) (w .stick) (w .buffers)
+  pub translates : (o : Translate) → TranslateAnswers (o .args .0) (o .args .1 .0) (o .args .1 .1 .0) (o .result)
