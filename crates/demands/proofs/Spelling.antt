@@ -43,13 +43,13 @@ kept-none tag size = by (goodField tag size)
     by false = refl
 
 -- with so many bytes of the value
-value-is : (bytes : List ℕ) (tag low high : ℕ) (value : List ℕ) → bytes ≡ tag ∷ low ∷ high ∷ value → length value ≤ wordOf low high
+value-is : (bytes : List ℕ) (tag low high : ℕ) (value : List ℕ) → low < 256 → high < 256 → bytes ≡ tag ∷ low ∷ high ∷ value → length value ≤ wordOf low high
     → FedIs bytes (fedOf tag (wordOf low high) (3 + length value) (keptValue tag (wordOf low high) value))
 unfolding fedOf
-value-is bytes tag low high value e l =
+value-is bytes tag low high value a b e l =
     pick-le (FedIs bytes) (3 + wordOf low high) (3 + length value) _ _
     (λ h. record { tag = tag; low = low; high = high; value = value; all = e; exact = omega arith; says = kept-says tag (wordOf low high) value })
-    (λ h. value-taken tag low high value e (omega arith) refl)
+    (λ h. value-taken tag low high value a b e (omega arith) refl)
 
 one-more : (value : List ℕ) (byte : ℕ) → length (value ++ (byte ∷ [])) ≡ suc (length value)
 one-more value byte = simp length-append (omega arith)
@@ -61,44 +61,44 @@ fed-value tag size n byte value =
     let s : 3 + n + 1 ≡ 3 + suc n = omega arith in
     rw (ne-eqb (3 + n) 0 (λ e. omega arith), ne-eqb (3 + n) 1 (λ e. omega arith), ne-eqb (3 + n) 2 (λ e. omega arith), s)
 
-value-more : (bytes : List ℕ) (byte tag low high : ℕ) (value : List ℕ) → bytes ≡ tag ∷ low ∷ high ∷ value → length value < wordOf low high
+value-more : (bytes : List ℕ) (byte tag low high : ℕ) (value : List ℕ) → low < 256 → high < 256 → bytes ≡ tag ∷ low ∷ high ∷ value → length value < wordOf low high
     → FedIs (bytes ++ (byte ∷ [])) (feed (gathers (gatherOf tag (wordOf low high) (3 + length value)) (keptValue tag (wordOf low high) value)) byte)
-value-more bytes byte tag low high value e l =
+value-more bytes byte tag low high value a b e l =
     let size = wordOf low high in
     let q : feed (gathers (gatherOf tag size (3 + length value)) (keptValue tag size value)) byte ≡ fedOf tag size (3 + length (value ++ (byte ∷ []))) (keptValue tag size (value ++ (byte ∷ []))) =
     fed-value tag size (length value) byte (keptValue tag size value) ∙ rw (kept-more tag size byte value, one-more value byte) in
-    subst (FedIs (bytes ++ (byte ∷ []))) (sym q) (value-is (bytes ++ (byte ∷ [])) tag low high (value ++ (byte ∷ [])) (ap (λ (r : List ℕ). r ++ (byte ∷ [])) e) (omega (arith, one-more value byte)))
+    subst (FedIs (bytes ++ (byte ∷ []))) (sym q) (value-is (bytes ++ (byte ∷ [])) tag low high (value ++ (byte ∷ [])) a b (ap (λ (r : List ℕ). r ++ (byte ∷ [])) e) (omega (arith, one-more value byte)))
 
-header-is : (bytes : List ℕ) (tag low high : ℕ) → bytes ≡ tag ∷ low ∷ high ∷ [] → FedIs bytes (feed (gathers (gatherOf tag low 2) []) high)
+header-is : (bytes : List ℕ) (tag low high : ℕ) → low < 256 → high < 256 → bytes ≡ tag ∷ low ∷ high ∷ [] → FedIs bytes (feed (gathers (gatherOf tag low 2) []) high)
 unfolding feed
-header-is bytes tag low high e =
-    subst (λ (v : List ℕ). FedIs bytes (fedOf tag (wordOf low high) 3 v)) (kept-none tag (wordOf low high)) (value-is bytes tag low high [] e (omega arith))
+header-is bytes tag low high a b e =
+    subst (λ (v : List ℕ). FedIs bytes (fedOf tag (wordOf low high) 3 v)) (kept-none tag (wordOf low high)) (value-is bytes tag low high [] a b e (omega arith))
 
 first-is : (bytes : List ℕ) (byte : ℕ) → bytes ≡ byte ∷ [] → FedIs bytes (feed nothingYet byte)
 unfolding feed
 first-is bytes byte e = tag-taken byte e refl
 
-second-is : (bytes : List ℕ) (tag byte : ℕ) → bytes ≡ tag ∷ byte ∷ [] → FedIs bytes (feed (gathers (gatherOf tag 0 1) []) byte)
+second-is : (bytes : List ℕ) (tag byte : ℕ) → byte < 256 → bytes ≡ tag ∷ byte ∷ [] → FedIs bytes (feed (gathers (gatherOf tag 0 1) []) byte)
 unfolding feed
-second-is bytes tag byte e = low-taken tag byte e refl
+second-is bytes tag byte a e = low-taken tag byte a e refl
 
-fed : (bytes : List ℕ) (x : Gather) (byte : ℕ) → Gathered bytes x → FedIs (bytes ++ (byte ∷ [])) (feed x byte)
-fed bytes x byte g = by g
+fed : (bytes : List ℕ) (x : Gather) (byte : ℕ) → byte < 256 → Gathered bytes x → FedIs (bytes ++ (byte ∷ [])) (feed x byte)
+fed bytes x byte h g = by g
   where
     Next : Gather → Type 0
     Next y = FedIs (bytes ++ (byte ∷ [])) (feed y byte)
 
     by : Gathered bytes x → Next x
     by (none-taken e q) = subst Next (sym q) (first-is (bytes ++ (byte ∷ [])) byte (ap (λ (r : List ℕ). r ++ (byte ∷ [])) e))
-    by (tag-taken tag e q) = subst Next (sym q) (second-is (bytes ++ (byte ∷ [])) tag byte (ap (λ (r : List ℕ). r ++ (byte ∷ [])) e))
-    by (low-taken tag low e q) = subst Next (sym q) (header-is (bytes ++ (byte ∷ [])) tag low byte (ap (λ (r : List ℕ). r ++ (byte ∷ [])) e))
-    by (value-taken tag low high value e l q) = subst Next (sym q) (value-more bytes byte tag low high value e l)
+    by (tag-taken tag e q) = subst Next (sym q) (second-is (bytes ++ (byte ∷ [])) tag byte h (ap (λ (r : List ℕ). r ++ (byte ∷ [])) e))
+    by (low-taken tag low a e q) = subst Next (sym q) (header-is (bytes ++ (byte ∷ [])) tag low byte a h (ap (λ (r : List ℕ). r ++ (byte ∷ [])) e))
+    by (value-taken tag low high value a b e l q) = subst Next (sym q) (value-more bytes byte tag low high value a b e l)
 
 pub more-is : (bytes : List ℕ) (x y : Gather) (byte : ℕ) → byte < 256 → Gathered bytes x → feed x byte ≡ more y → Gathered (bytes ++ (byte ∷ [])) y
-more-is bytes x y byte h g e = subst (FedIs (bytes ++ (byte ∷ []))) e (fed bytes x byte g)
+more-is bytes x y byte h g e = subst (FedIs (bytes ++ (byte ∷ []))) e (fed bytes x byte h g)
 
 pub full-is : (bytes : List ℕ) (x : Gather) (m : Said) (byte : ℕ) → byte < 256 → Gathered bytes x → feed x byte ≡ full m → Spells (bytes ++ (byte ∷ [])) m
-full-is bytes x m byte h g e = subst (FedIs (bytes ++ (byte ∷ []))) e (fed bytes x byte g)
+full-is bytes x m byte h g e = subst (FedIs (bytes ++ (byte ∷ []))) e (fed bytes x byte h g)
 
 -- no whole message stands at the front of what is gathered
 pub not-whole : (bytes later : List ℕ) (x : Gather) (m : Said) → Gathered (bytes ++ later) x → Spells bytes m → ⊥
@@ -116,11 +116,11 @@ not-whole bytes later x m g s = by g
         let z : s .tag ∷ s .low ∷ s .high ∷ (s .value ++ later) ≡ tag ∷ [] = sym front ∙ e in
         let y : _≡_ {A = ℕ} 0 1 = cc in
         omega arith
-    by (low-taken tag low e q) =
+    by (low-taken tag low o e q) =
         let z : s .tag ∷ s .low ∷ s .high ∷ (s .value ++ later) ≡ tag ∷ low ∷ [] = sym front ∙ e in
         let y : _≡_ {A = ℕ} 0 1 = cc in
         omega arith
-    by (value-taken tag low high value e l q) =
+    by (value-taken tag low high value o p e l q) =
         let z : s .tag ∷ s .low ∷ s .high ∷ (s .value ++ later) ≡ tag ∷ low ∷ high ∷ value = sym front ∙ e in
         let a : s .low ≡ low = cc in
         let b : s .high ≡ high = cc in

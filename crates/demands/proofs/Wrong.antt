@@ -229,8 +229,8 @@ made-up-wrong a =
 nothing-gathered : (bs : List ℕ) (x : Gather) → x .numbers .taken ≡ 0 → Gathered bs x → bs ≡ []
 nothing-gathered bs x z (none-taken e q) = e
 nothing-gathered bs x z (tag-taken tag e q) = let y : _≡_ {A = ℕ} 1 0 = sym (ap (λ (g : Gather). g .numbers .taken) q) ∙ z in absurd (omega (arith, y))
-nothing-gathered bs x z (low-taken tag low e q) = let y : _≡_ {A = ℕ} 2 0 = sym (ap (λ (g : Gather). g .numbers .taken) q) ∙ z in absurd (omega (arith, y))
-nothing-gathered bs x z (value-taken tag low high value e l q) = let y : 3 + length value ≡ 0 = sym (ap (λ (g : Gather). g .numbers .taken) q) ∙ z in absurd (omega (arith, y))
+nothing-gathered bs x z (low-taken tag low a e q) = let y : _≡_ {A = ℕ} 2 0 = sym (ap (λ (g : Gather). g .numbers .taken) q) ∙ z in absurd (omega (arith, y))
+nothing-gathered bs x z (value-taken tag low high value a b e l q) = let y : 3 + length value ≡ 0 = sym (ap (λ (g : Gather). g .numbers .taken) q) ∙ z in absurd (omega (arith, y))
 
 pub mixed-in-wrong : TakenRule real (with-call real (oneBuffer real)) → ⊥
 unfolding after requestsOf Spelled feed goodField

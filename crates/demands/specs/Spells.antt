@@ -54,10 +54,10 @@ feed x byte =
     (pick (eqb (n .taken) 2) (fedOf (n .tag) (wordOf (n .length) byte) 3 [])
     (fedOf (n .tag) (n .length) (n .taken + 1) (keptValue (n .tag) (n .length) (x .value ++ (byte ∷ []))))))
 
--- these bytes are gathered, and spell no whole message yet
+-- these bytes are gathered, and spell no whole message yet; a length is made of two bytes
 pub data Gathered (bytes : List ℕ) (x : Gather) : Type 0 where
   none-taken : bytes ≡ [] → x ≡ nothingYet → Gathered bytes x
   tag-taken : (tag : ℕ) → bytes ≡ tag ∷ [] → x ≡ gathers (gatherOf tag 0 1) [] → Gathered bytes x
-  low-taken : (tag low : ℕ) → bytes ≡ tag ∷ low ∷ [] → x ≡ gathers (gatherOf tag low 2) [] → Gathered bytes x
-  value-taken : (tag low high : ℕ) (value : List ℕ) → bytes ≡ tag ∷ low ∷ high ∷ value → length value < wordOf low high
+  low-taken : (tag low : ℕ) → low < 256 → bytes ≡ tag ∷ low ∷ [] → x ≡ gathers (gatherOf tag low 2) [] → Gathered bytes x
+  value-taken : (tag low high : ℕ) (value : List ℕ) → low < 256 → high < 256 → bytes ≡ tag ∷ low ∷ high ∷ value → length value < wordOf low high
       → x ≡ gathers (gatherOf tag (wordOf low high) (3 + length value)) (keptValue tag (wordOf low high) value) → Gathered bytes x

@@ -25,3 +25,4 @@ pub mod WrongAnswers
 pub mod WrongWaiting
 pub mod WrongMoves
 pub mod WrongBytes
+pub mod Image

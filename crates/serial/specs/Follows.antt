@@ -23,3 +23,13 @@ module _ (M : Machine) (C : Core M) where
     pub answer-is : (w : C .World) → Sound w → Undamaged M (C .see w) → (c : Call M) → OkCall M c → C .call c w .answer ≡ callOf M c (C .see w) .answer
     pub sound : (w : C .World) → Sound w → Undamaged M (C .see w) → (c : Call M) → OkCall M c → Sound (C .call c w .world)
     pub refused : (w : C .World) → Sound w → Undamaged M (C .see w) → (c : Call M) → OkCall M c → Refused M (C .call c w .answer) → C .call c w .world ≡ w
+
+-- another core whose worlds are images of this one's, call by call: then it follows the machine too
+module _ (M : Machine) (C B : Core M) (image : B .World → C .World) (Good : B .World → Type 0) where
+  pub record Images : Type 0 where
+    pub see-is : (b : B .World) → B .see b ≡ C .see (image b)
+    pub begins : (b : B .World) → Begun M B b → Begun M C (image b) × Good b
+    pub world-is : (b : B .World) → Good b → Reached M C (image b) → (c : Call M) → OkCall M c → image (B .call c b .world) ≡ C .call c (image b) .world
+    pub answer-is : (b : B .World) → Good b → Reached M C (image b) → (c : Call M) → OkCall M c → B .call c b .answer ≡ C .call c (image b) .answer
+    pub good : (b : B .World) → Good b → Reached M C (image b) → (c : Call M) → OkCall M c → Good (B .call c b .world)
+    pub refused : (b : B .World) → Good b → Reached M C (image b) → (c : Call M) → OkCall M c → Refused M (B .call c b .answer) → B .call c b .world ≡ b
