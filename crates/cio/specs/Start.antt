@@ -8,7 +8,7 @@ use lib.Seq.{sets}
 use Rattle.base.specs.Choice.{pick, choose}
 use Rattle.handler.specs.declared.Done.{Done}
 use Rattle.handler.specs.declared.Done.the-variants as done
-use Rattle.handler.specs.Answer.{Answer}
+use Rattle.handler.specs.Answer.{doneStatus, Answer}
 use Rattle.blocks.specs.declared.Device.{Device}
 use Rattle.blocks.specs.declared.Kind.{Kind}
 use Rattle.blocks.specs.declared.Run.{Run}
@@ -87,10 +87,10 @@ settles table status = record { table = table; status = status }
 -- OPEN: the block is open; GET STATUS, SPECIAL: "opened as OPEN does, then $01 or $84, then closed; a failed open's status
 -- stands"; "A failed open leaves the block closed"
 abbrev pub settledOf : Done → After → Device → (number : ℕ) → Call → Table → Settled
-settledOf done.Success after.Stay device number call table = settles (withBlock table (call .iocb) (openBlock device number (call .aux1))) 0x01
-settledOf done.Success after.Status device number call table = settles table 0x01
+settledOf done.Success after.Stay device number call table = settles (withBlock table (call .iocb) (openBlock device number (call .aux1))) (doneStatus done.Success)
+settledOf done.Success after.Status device number call table = settles table (doneStatus done.Success)
 settledOf done.Success after.Special device number call table = settles table 0x84
-settledOf (done.Refused status) then device number call table = settles table status
+settledOf (done.Refused status) then device number call table = settles table (doneStatus (done.Refused status))
 
 -- "then with the group held AUX1, mode, handler": "$84 .. AUX1 not offered"
 unfoldable pub openingOf : {D : Type 0} → Handler D → After → (number : ℕ) → Device → Call → Table → D → Begun D
@@ -105,7 +105,7 @@ openingOf H then number device call table x =
 -- a transfer's start moves no character
 abbrev pub preparedOut : Done → Kind → Device → Call → Out
 preparedOut done.Success kind device call = goes (runOf device kind call)
-preparedOut (done.Refused status) kind device call = overOut status (call .a)
+preparedOut (done.Refused status) kind device call = overOut (doneStatus (done.Refused status)) (call .a)
 
 unfoldable pub transferOf : {D : Type 0} → Handler D → Kind → Device → Call → Table → D → Begun D
 transferOf H kind device call table x = let y = H .prepares x in begun table (y .leaves) (preparedOut (y .says) kind device call)

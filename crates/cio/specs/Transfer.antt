@@ -12,6 +12,7 @@ use Rattle.handler.specs.declared.Got.{Got}
 use Rattle.handler.specs.declared.Got.the-variants as got
 use Rattle.handler.specs.declared.Done.{Done}
 use Rattle.handler.specs.declared.Done.the-variants as done
+use Rattle.handler.specs.Answer.{gotStatus, doneStatus}
 use Rattle.blocks.specs.declared.Way.{Way}
 use Rattle.blocks.specs.declared.Way.the-variants.{One, Characters, Record}
 use Rattle.blocks.specs.declared.Run.{Run}
@@ -70,7 +71,7 @@ gotCharacter Record run byte area =
 
 unfoldable pub gotOf : Way → Run → Got → List ℕ → Progress
 gotOf way run (got.Character byte) area = gotCharacter way run byte area
-gotOf way run (got.Refused status) area = progress (endedOf status run) area
+gotOf way run (got.Refused status) area = progress (endedOf (gotStatus (got.Refused status)) run) area
 
 -- what is sent next: A; the area's next byte; of a record with none left "one EOL more"
 unfoldable pub sentByte : Way → Run → List ℕ → ℕ
@@ -89,7 +90,7 @@ sentNext Record run byte = sentRecord run byte
 
 unfoldable pub sentOf : Way → Run → ℕ → Done → Next
 sentOf way run byte done.Success = sentNext way run byte
-sentOf way run byte (done.Refused status) = endedOf status run
+sentOf way run byte (done.Refused status) = endedOf (doneStatus (done.Refused status)) run
 
 -- what becomes of a request in a tick: it goes on, or ends with its reply
 pub data Out : Type 0 where

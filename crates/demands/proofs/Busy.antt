@@ -33,8 +33,9 @@ use Rattle.serial.proofs.Tested.{answers}
 use Rattle.demands.specs.Spells.{nothingYet, feed, fedOf}
 use Rattle.demands.specs.Real.{startErrand, startPlan, moveBy, real}
 use Rattle.demands.specs.Sticks.{World, seen, sticks}
-use Rattle.demands.specs.Told.{left, takeLeaves, tickLeaves, any-take, any-tick, not-lent, RealRun, above, aside}
+use Rattle.demands.specs.Told.{worldAfter, takeLeaves, tickLeaves, any-take, any-tick, not-lent, lent-on, Aside, CodeRun, above, aside}
 use Rattle.demands.proofs.Linked.{fresh-sound, follows, demand3}
+use Rattle.demands.proofs.Told.{same-world, aside-same}
 use Rattle.demands.proofs.Made.{take-call, tick-call, can-run}
 use Rattle.demands.proofs.Plugged.{plugged, plugged-started, plugged-begins, first, ok-by, says, calls, opens}
 
@@ -133,14 +134,25 @@ torn-lengths = tick-answers (torn .stick) (torn .buffers) 0 .first .lengths .1 (
 same-answer : (o x : Outcome) (n : ℕ) → o ≡ x → x .answer ≡ n → o .answer ≡ n
 same-answer o x n e q = ap (λ (y : Outcome). y .answer) e ∙ q
 
--- the same run as calls of the real functions, one answered 1 and one answered 2 before it
-pub busy-run : (w : World) × RealRun plugged all w
+-- what is there after it: the state and three buffers as it left them, and the paper that was not lent
+abbrev mended : World
+mended = let e = worldAfter (tickLeaves (tick-call torn 0)) in record { stick = e .stick; buffers = lent (e .buffers .rooms) (e .buffers .area) (e .buffers .screen) (plugged .buffers .paper) }
+
+torn-two : tickLeaves (tick-call torn 0) .answer ≡ 2
+torn-two = same-answer (tickLeaves (tick-call torn 0)) _ 2 (tick-call torn 0 .told) torn-lengths
+
+torn-aside : Aside plugged torn (worldAfter (tickLeaves (tick-call torn 0))) mended
+torn-aside = record { stick = lent-on refl; rooms = lent-on refl; area = lent-on refl; screen = lent-on refl; paper = not-lent }
+
+mended-same : mended ≡ plugged
+mended-same = aside-same (same-world 2 (λ z. omega arith) (any-tick (tick-call torn 0)) torn-two) torn-aside
+
+mended-above : takeOf (mended .stick) (mended .buffers) 2 0 .answer ≡ 1
+mended-above = subst (λ (w : World). takeOf (w .stick) (w .buffers) 2 0 .answer ≡ 1) (sym mended-same) plugged-above
+
+-- the same run as calls of the functions, one answered 2 and one answered 1 before it
+pub busy-run : (w : World) × CodeRun plugged all w
 busy-run =
-    let a = take-call plugged 2 0 in
-    let b = tick-call torn 0 in
-    let v = left (takeLeaves a) in
-    let r = can-run all v in (
-      r .0,
-      above (any-take a) (same-answer (takeLeaves a) _ 1 (a .told) plugged-above)
-          (aside {w₁ = v} (any-tick b) (same-answer (tickLeaves b) _ 2 (b .told) torn-lengths) (record { stick = not-lent; rooms = not-lent; area = not-lent; screen = not-lent; paper = not-lent }) (r .1)),
-    )
+    let a = take-call mended 2 0 in
+    let r = can-run all (worldAfter (takeLeaves a)) in
+    (r .0, aside (any-tick (tick-call torn 0)) torn-two torn-aside (above (any-take a) (same-answer (takeLeaves a) _ 1 (a .told) mended-above) (r .1)))

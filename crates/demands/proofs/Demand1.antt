@@ -5,18 +5,21 @@ use mathlib.Core.Bool.{Bool, true, false, true≢false}
 use Prim.Native.Nat.{ℕ, _+_, _-_, _*_, _≤_, _<_}
 use native.Mathlib.Omega.{arith}
 use lib.Dec.{T, leb, ltb, ltb→lt}
-use borrow.Author.Tests.{lt-ltb, le-ltb, ltb-true, ltb-false}
+use borrow.Author.Tests.{lt-ltb, le-ltb, ltb-true, ltb-false, leb-true}
 use Rattle.base.specs.Choice.{pick, and, or, within}
-use Rattle.base.proofs.Choices.{pick-go, by-test}
+use Rattle.base.proofs.Choices.{pick-go, and-right, by-test}
 use Rattle.base.proofs.Table.{upto, on, anywhere}
-use Rattle.keys.specs.Table.{keys, keyAt}
+use Rattle.keys.specs.Table as table
+use Rattle.keys.specs.Table.{keyAt}
 use Rattle.keys.specs.Translation.{letter, numberOf, entryOf, answerOf, translateOf}
+use Rattle.keys.proofs.Decided as keys
 use Rattle.stick.specs.Stick.{Outcome}
+use Rattle.stick.proofs.Decided as stick
 use Rattle.rules.specs.Answers.{FreshAnswers, TakeAnswers, TickAnswers, GiveAnswers, PressAnswers}
 use Rattle.rules.proofs.Answers.{fresh-answers, take-answers, tick-answers, give-answers, press-answers}
 use Rattle.demands.specs.Sticks.{World}
 use Rattle.demands.specs.Told.{freshFrom, takeFrom, tickFrom, giveFrom, pressFrom, Any, any-fresh, any-take, any-tick, any-give, any-press}
-use Rattle.demands.specs.Demand1.{Exactly, Asked, TranslateAnswers, Translate, Demand1}
+use Rattle.demands.specs.Demand1.{Exactly, Known, TranslateAnswers, Translate, Demand1}
 use Rattle.demands.proofs.Told.{any-still}
 
 exact : {w : World} {o : Outcome} (c : Any w o) → Exactly c
@@ -31,8 +34,8 @@ abbrev small : ℕ → ℕ → Bool
 small entry inverse = or (within 0x80 0x85 entry) (ltb (answerOf entry inverse) 256)
 
 small-table : (place : ℕ) → T (upto (small (keyAt place)) 0 2)
-unfolding answerOf keys
-small-table = anywhere (λ (entry : ℕ). upto (small entry) 0 2) 0x80 tt keys 0 tt
+unfolding answerOf table.keys
+small-table = anywhere (λ (entry : ℕ). upto (small entry) 0 2) 0x80 tt table.keys 0 tt
 
 or-second : (a b : Bool) → T (or a b) → a ≡ false → T b
 or-second true b t e = absurd (true≢false e)
@@ -58,20 +61,20 @@ number-low : (entry : ℕ) → within 0x80 0x85 entry ≡ true → numberOf entr
 number-low entry e = omega (arith, within-most entry e)
   where
     within-most : (entry : ℕ) → within 0x80 0x85 entry ≡ true → entry ≤ 0x85
-    within-most entry e = borrow.Author.Tests.leb-true entry 0x85 (Rattle.base.proofs.Choices.and-right (leb 0x80 entry) (leb entry 0x85) e)
+    within-most entry e = leb-true entry 0x85 (and-right (leb 0x80 entry) (leb entry 0x85) e)
 
 module _ (code lock inverse : ℕ) where
-  asked-is : Asked lock inverse → translateOf code lock inverse ≡ pick (ltb 0xBF code) 256 (answerOf (entryOf code lock) inverse)
+  asked-is : Known lock inverse → translateOf code lock inverse ≡ pick (ltb 0xBF code) 256 (answerOf (entryOf code lock) inverse)
   unfolding translateOf
   asked-is a = rw (le-ltb 2 lock (a .lock-known), le-ltb 1 inverse (a .inverse-known))
 
-  past-is : Asked lock inverse → 0xBF < code → translateOf code lock inverse ≡ 256
+  past-is : Known lock inverse → 0xBF < code → translateOf code lock inverse ≡ 256
   past-is a h = asked-is a ∙ rw (lt-ltb 0xBF code h)
 
-  entry-is : Asked lock inverse → code ≤ 0xBF → translateOf code lock inverse ≡ answerOf (entryOf code lock) inverse
+  entry-is : Known lock inverse → code ≤ 0xBF → translateOf code lock inverse ≡ answerOf (entryOf code lock) inverse
   entry-is a h = asked-is a ∙ rw (le-ltb 0xBF code h)
 
-  below-262 : Asked lock inverse → translateOf code lock inverse < 262
+  below-262 : Known lock inverse → translateOf code lock inverse < 262
   below-262 a = by-test (ltb 0xBF code)
       (λ t. let e = past-is a (ltb-true 0xBF code t) in omega (arith, e))
       (λ t. let h = ltb-false 0xBF code t in
@@ -79,7 +82,7 @@ module _ (code lock inverse : ℕ) where
       (λ u. let e = entry-is a h ∙ entry-number (entryOf code lock) inverse u in let l = number-low (entryOf code lock) u in omega (arith, e, l))
       (λ u. let e = entry-is a h in let l = entry-small code lock inverse (a .inverse-known) u in omega (arith, e, l)))
 
-  other-is : (Asked lock inverse → ⊥) → translateOf code lock inverse ≡ 262
+  other-is : (Known lock inverse → ⊥) → translateOf code lock inverse ≡ 262
   unfolding translateOf
   other-is n = pick-go (λ (r : ℕ). r ≡ 262) (or (ltb 2 lock) (ltb 1 inverse)) _ _
       (λ t. refl)
@@ -105,4 +108,14 @@ translated : (o : Translate) → TranslateAnswers (o .args .0) (o .args .1 .0) (
 translated o = subst (λ (r : ℕ). TranslateAnswers (o .args .0) (o .args .1 .0) (o .args .1 .1 .0) r) (sym (o .told)) (translate-answers (o .args .0) (o .args .1 .0) (o .args .1 .1 .0))
 
 pub demand1 : Demand1
-demand1 = record { exactly = exact; still = any-still; translates = translated }
+demand1 = record {
+  fresh-open = record { asks-nothing = λ κs a. tt; answers = stick.fresh-allows };
+  take-open = record { asks-nothing = λ κs a. tt; answers = stick.take-allows };
+  tick-open = record { asks-nothing = λ κs a. tt; answers = stick.tick-allows };
+  give-open = record { asks-nothing = λ κs a. tt; answers = stick.give-allows };
+  press-open = record { asks-nothing = λ κs a. tt; answers = stick.press-allows };
+  translate-open = record { asks-nothing = λ κs a. tt; answers = keys.translate-allows };
+  exactly = exact;
+  still = any-still;
+  translates = translated;
+}

@@ -223,7 +223,7 @@ module _ (l : Local) (o : FitLocal l) (d : Devs) (f : FitDevs d) where
       finishOut real 61441 g (s .out) (s .local) (s .dev) ≡ record { local = a .local; dev = getDev g (a .devs); out = ends (replyBy (a .reply)) }
 
   module _ (h : consoles.Handler) (job : Job) (q : FitJob (deviceIn h) job (l .table)) where
-    console-own : handlerOf groups.Console (job .device) ≡ consoleHandler h
+    pub console-own : handlerOf groups.Console (job .device) ≡ consoleHandler h
     console-own = ap (handlerOf groups.Console) (q .named) ∙ console-handler h
 
     pub console-group : deviceGroup (job .device) ≡ groups.Console
@@ -233,7 +233,7 @@ module _ (l : Local) (o : FitLocal l) (d : Devs) (f : FitDevs d) where
     console-ends v j = subst (λ (H : Handler ConsoleGroup). JobEnds H job l (d .console) v) (sym console-own) j
 
   module _ (job : Job) (q : FitJob P job (l .table)) where
-    printer-own : handlerOf groups.Printer (job .device) ≡ printerHandler
+    pub printer-own : handlerOf groups.Printer (job .device) ≡ printerHandler
     printer-own = ap (handlerOf groups.Printer) (q .named)
 
     pub printer-ends : (v : AloneOn PrinterGroup) → JobEnds printerHandler job l (d .printer) v → JobEnds (handlerOf groups.Printer (job .device)) job l (d .printer) v

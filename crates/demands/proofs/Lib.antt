@@ -7,9 +7,10 @@ pub mod SeenTick
 pub mod Linked
 pub mod Told
 pub mod Demand1
-pub mod Demands
 pub mod Made
+pub mod Demands
 pub mod Plugged
 pub mod Busy
+pub mod Cases
 pub mod Wrong
 pub mod Decided

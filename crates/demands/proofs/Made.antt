@@ -25,7 +25,7 @@ use Rattle.serial.specs.Core.{Call}
 use Rattle.serial.specs.Core as calls
 use Rattle.demands.specs.Real.{real}
 use Rattle.demands.specs.Sticks.{World, portNumber}
-use Rattle.demands.specs.Told.{left, Fresh, Take, Tick, Give, Press, Real, took, ticked, gave, pressed, RealRun, here, then}
+use Rattle.demands.specs.Told.{worldAfter, Fresh, Take, Tick, Give, Press, ByCode, took, ticked, gave, pressed, CodeRun, here, then}
 
 -- a buffer, lent from anywhere
 abbrev lends : List ℕ → RefT (List ℕ)
@@ -65,15 +65,15 @@ module _ (w : World) where
       asked press-kinds.ps press-kinds.r press-reads.Pre press-reads.Learnt stick.press-allows
       (w .stick, (lends (w .buffers .rooms), (lends (w .buffers .area), (lends (w .buffers .screen), (lends (w .buffers .paper), (code, tt)))))) tt
 
-  pub can-call : (c : Call real) → (o : Outcome) × Real w c o
+  pub can-call : (c : Call real) → (o : Outcome) × ByCode w c o
   can-call (calls.take p byte) = (_, took (take-call (portNumber p) byte) p refl)
   can-call (calls.tick p) = (_, ticked (tick-call (portNumber p)) p refl)
   can-call (calls.give p) = (_, gave (give-call (portNumber p)) p refl)
   can-call (calls.press code) = (_, pressed (press-call code))
 
-pub can-run : (cs : List (Call real)) (w : World) → (w′ : World) × RealRun w cs w′
+pub can-run : (cs : List (Call real)) (w : World) → (w′ : World) × CodeRun w cs w′
 can-run [] w = (w, here)
 can-run (c ∷ cs) w =
     let o = can-call w c in
-    let r = can-run cs (left (o .0)) in
+    let r = can-run cs (worldAfter (o .0)) in
     (r .0, then (o .1) (r .1))

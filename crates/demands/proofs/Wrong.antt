@@ -2,12 +2,12 @@
 -- false, by a computed run from a fresh start. The cores are those of `serial`, its own core with one call done otherwise, and two
 -- that only this machine can have.
 -- Assumes nothing.
-use mathlib.Core.Path.{_≡_, refl, sym, _∙_, ap}
+use mathlib.Core.Path.{_≡_, refl, sym, _∙_, ap, subst}
 use mathlib.Core.Bool.{true, false, true≢false}
 use mathlib.Core.List.{List, [], _∷_, _++_}
 use Prim.Native.Nat.{ℕ, zero, suc, _+_}
 use native.Mathlib.Omega.{arith}
-use lib.ListN.{length, getD}
+use lib.ListN.{length, getD, replicate}
 use Rattle.cells.specs.Modes.{modes, rowOf, shapeOf, countOf}
 use Rattle.cells.specs.Cells.{cellOf, withCell, filled, reduced, scrolled}
 use Rattle.keys.specs.Table as keys
@@ -25,6 +25,7 @@ use Rattle.blocks.specs.declared.Kind.the-variants.{Put}
 use Rattle.blocks.specs.declared.Run.{Run}
 use Rattle.wire.specs.Messages.{goodField, senseOf, badStatus, messageOf}
 use Rattle.wire.specs.Replies.{bytesAt, fetchStatus, fetchReply, callReply}
+use Rattle.cio.specs.declared.plan.Group.{Group}
 use Rattle.cio.specs.declared.plan.Group.the-variants as groups
 use Rattle.cio.specs.Plan.{commandOf, wayOf, areaPlan, transferPlan, blockPlan, callPlan, planOf}
 use Rattle.cio.specs.Start.{loadedOf, loadStatus, openingOf, transferOf, workOf}
@@ -35,16 +36,16 @@ use Rattle.alone.specs.Left.{leftE, leftK, consoleLeft}
 use Rattle.alone.specs.Alone.{Said, call, load, fetch, aloneOpening, aloneTransfer, aloneWork, loaded, aloneErrand, alonePlan, aloneOf}
 use Rattle.alone.specs.Alone as request
 use Rattle.serial.specs.Machine.{Port, port-0, port-1, Reply}
-use Rattle.serial.specs.Core.{Phase, gathering, ready, running, replying, View, phaseAt, localAt, Call, take, tick, give, done, number, Effect, Core}
-use Rattle.serial.specs.Calls.{tickAct, onPort, callOf}
-use Rattle.serial.specs.Run.{after}
+use Rattle.serial.specs.Core.{Phase, gathering, ready, running, replying, Runs, View, phaseAt, localAt, Call, take, tick, give, press, done, number, Effect, Core}
+use Rattle.serial.specs.Calls.{startIf, tickAct, onPort, callOf}
+use Rattle.serial.specs.Run.{OkCalls, no-call, one-more, after}
 use Rattle.serial.specs.Reading.{Spelled}
 use Rattle.serial.specs.Demand1.{Demand1}
-use Rattle.serial.specs.Demand2.{WaitingRule, OneCharacter, AloneRule, ticked}
-use Rattle.serial.specs.Demand3.{requestsOf, TakenRule, GivenRule, bytesOfAll}
-use Rattle.serial.proofs.WrongCores.{Calls, with-call, replied, atRunning, whenTicked, whenRunning, idles, neverStarts, pretends, oneLock, movesNothing, allAtOnce, firstOnly, oneBuffer, crossed, wrongHost}
+use Rattle.serial.specs.Demand2.{WaitingRule, OneCharacter, Along, Bound, AloneRule, ticks, ticked}
+use Rattle.serial.specs.Demand3.{Whole, serial, SerialRule, requestsOf, TakenRule, GivenRule, bytesOfAll}
+use Rattle.serial.proofs.WrongCores.{Calls, with-call, replied, atRunning, whenTicked, whenReady, whenRunning, idles, pressesThrough, neverStarts, pretends, oneLock, movesNothing, allAtOnce, firstOnly, oneBuffer, crossed, wrongHost}
 use Rattle.demands.specs.Spells.{Gather, nothingYet, feed, fedOf, Gathered, none-taken, tag-taken, low-taken, value-taken}
-use Rattle.demands.specs.Real.{replyBy, startErrand, startPlan, moveBy, real}
+use Rattle.demands.specs.Real.{replyBy, needBy, startErrand, startPlan, moveBy, real}
 use Rattle.demands.proofs.Plugged.{first, led, begun, ok-by, leads, says, does, loads, calls, opens}
 
 -- what is seen: a status and a count's low byte in a CALL's reply, and the characters on the paper
@@ -263,3 +264,70 @@ unfolding after
 idling-wrong d =
     let e = d .takes first (leads (idles real) [] tt) port-0 0 (omega arith) in
     let z : _≡_ {A = ℕ} 4 0 = ap (number real) e in omega arith
+
+-- "Freeing a group before its last character": a ready port starts while the other still holds the group it needs
+abbrev startsAt : Phase real → Port → View real → Effect real (View real)
+startsAt (gathering x) p v = callOf real (tick p) v
+startsAt (ready m) p v =
+    let l = localAt real p v in
+    let g = needBy l m in
+    onPort real p (startIf real false g m l (v .devs)) v
+startsAt (running g k) p v = callOf real (tick p) v
+startsAt (replying r) p v = callOf real (tick p) v
+
+abbrev neverWaits : Calls real
+neverWaits = whenReady real (λ p v. startsAt (phaseAt real p v) p v)
+
+abbrev bothPrint : List (Call real)
+bothPrint = opens port-0 0x50 0 8 ++ opens port-1 0x50 0 8 ++ does port-0 printsTwo 1 0 ++ says port-1 printsTwo
+
+pub never-waiting-wrong : WaitingRule real (with-call real neverWaits) → ⊥
+unfolding after feed fedOf goodField senseOf badStatus messageOf startErrand startPlan moveBy keys.keys keys-to.entryOf keys-to.answerOf keys-to.translateOf keyboard.obeyed keyboard.struckBy keyboard.getOf printer.putOf openE openOf prepareE prepareOf readE readK readOf writeE writeOf deviceOf numberOf namedOf specificationOf offersOf bytesAt fetchStatus fetchReply moves.getOf moves.putOf moves.goOf commandOf wayOf areaPlan transferPlan blockPlan callPlan planOf loadedOf loadStatus openingOf transferOf workOf onwardOf recordOf gotCharacter gotOf sentByte sentRecord sentNext sentOf loaded
+never-waiting-wrong w =
+    let e = w .waits (led neverWaits bothPrint) (leads neverWaits bothPrint tt) port-1 printTwo refl .1 refl in
+    let z : _≡_ {A = ℕ} 0 8 = ap (number real) e in omega arith
+
+-- a key that is taken while a request holds the console: the serial run
+abbrev readsLate : List (Call real)
+readsLate = opens port-0 0x4B 0 4 ++ does port-0 (calls 0 0x07 0 0 0) 1 0 ++ (press 0x3F ∷ tick port-0 ∷ [])
+
+abbrev statuses : List (Reply ℕ) → ℕ
+statuses [] = 0
+statuses (r ∷ []) = getD (r .rest) 2 0
+statuses (r ∷ q ∷ rs) = statuses (q ∷ rs)
+
+pub pressing-through-wrong : SerialRule real (with-call real (pressesThrough real)) → ⊥
+unfolding after feed fedOf goodField senseOf badStatus messageOf startErrand startPlan moveBy keys.keys keys-to.entryOf keys-to.answerOf keys-to.translateOf keyboard.obeyed keyboard.struckBy keyboard.getOf printer.putOf openE openOf prepareE prepareOf readE readK readOf writeE writeOf deviceOf numberOf namedOf specificationOf offersOf bytesAt fetchStatus fetchReply moves.getOf moves.putOf moves.goOf commandOf wayOf areaPlan transferPlan blockPlan callPlan planOf loadedOf loadStatus openingOf transferOf workOf onwardOf recordOf gotCharacter gotOf sentByte sentRecord sentNext sentOf loaded serial aloneOf alonePlan aloneErrand aloneWork aloneTransfer aloneOpening transferred getting putting getOne putOne getCharacters putCharacters getRecord putRecord dropLine
+pressing-through-wrong r =
+    let e = r first (begun (pressesThrough real)) readsLate (ok-by readsLate tt) (tt, tt) in
+    let z : _≡_ {A = ℕ} 0x01 0x88 = ap (λ (y : Whole real). statuses (y .made .zeroth)) e in omega arith
+
+-- a tick that moves nothing: the bound
+along-still : (v : View real) → Runs real (phaseAt real port-0 v) → movesNothing real (tick port-0) v .world ≡ v → (n : ℕ) → Along real (with-call real (movesNothing real)) port-0 (replicate n (tick port-0)) v
+along-still v r e zero = r
+along-still v r e (suc n) = (r, subst (λ (u : View real). Along real (with-call real (movesNothing real)) port-0 (replicate n (tick port-0)) u) (sym e) (along-still v r e n))
+
+so-many : (n : ℕ) → ticks real port-0 (replicate n (tick port-0)) ≡ n
+unfolding ticks
+so-many zero = refl
+so-many (suc n) = ap suc (so-many n)
+
+ok-ticks : (n : ℕ) → OkCalls real (replicate n (tick port-0))
+ok-ticks zero = no-call
+ok-ticks (suc n) = one-more tt (ok-ticks n)
+
+runs-still : (v : View real) (g : Group) (k : Run) → phaseAt real port-0 v ≡ running g k → movesNothing real (tick port-0) v .world ≡ v
+runs-still v g k e = ap (λ (x : Phase real). atRunning real x (λ p u. record { world = u; answer = done }) port-0 v .world) e
+
+running-still : (v : View real) (g : Group) (k : Run) → phaseAt real port-0 v ≡ running g k → Runs real (phaseAt real port-0 v)
+running-still v g k e = subst (Runs real) (sym e) tt
+
+pub never-ending-wrong : Bound real (with-call real (movesNothing real)) → ⊥
+unfolding after feed fedOf goodField senseOf badStatus messageOf startErrand startPlan moveBy keys.keys keys-to.entryOf keys-to.answerOf keys-to.translateOf keyboard.obeyed keyboard.struckBy keyboard.getOf printer.putOf openE openOf prepareE prepareOf readE readK readOf writeE writeOf deviceOf numberOf namedOf specificationOf offersOf bytesAt fetchStatus fetchReply moves.getOf moves.putOf moves.goOf commandOf wayOf areaPlan transferPlan blockPlan callPlan planOf loadedOf loadStatus openingOf transferOf workOf onwardOf recordOf gotCharacter gotOf sentByte sentRecord sentNext sentOf loaded
+never-ending-wrong b =
+    let f = movesNothing real in
+    let w = led f prints in
+    let e : phaseAt real port-0 w ≡ running groups.Printer printing = refl in
+    let cs : List (Call real) = replicate 61441 (tick port-0) in
+    let z = b w (leads f prints tt) port-0 cs (ok-ticks 61441) (along-still w (running-still w groups.Printer printing e) (runs-still w groups.Printer printing e) 61441) in
+    let y = so-many 61441 in omega (arith, y)

@@ -24,7 +24,7 @@ use Rattle.serial.specs.Core.{Phase, gathering, ready, running, replying, PortV
 use Rattle.demands.specs.Spells.{gathers, keptValue}
 use Rattle.demands.specs.Real.{replyBy, real}
 
--- "the same state and lent buffers in every call"
+-- a state and its four lent buffers
 pub record World : Type 0 where
   pub stick : Stick
   pub buffers : Lent
@@ -56,10 +56,10 @@ abbrev pub portNumber : Port → ℕ
 portNumber port-0 = 0
 portNumber port-1 = 1
 
--- the table's numbers; 1 to 3 are answered in no run
+-- the table's numbers; no call of a run's ports, with the run's own state and buffers, is answered another (`numbers` in Linked)
 abbrev pub answerBy : Answer real → ℕ → Answer real
-answerBy zero number =
-    pick (eqb number 0) zero
+answerBy on-0 number =
+    pick (eqb number 0) on-0
     (pick (eqb number 4) not-gathering
     (pick (eqb number 5) no-byte
     (pick (eqb number 6) console-held
@@ -68,7 +68,7 @@ answerBy zero number =
     key-refused)))))
 
 abbrev pub effectBy : Answer real → Outcome → Effect real World
-effectBy zero o = record { world = record { stick = o .stick; buffers = o .lent }; answer = answerBy zero (o .answer) }
+effectBy on-0 o = record { world = record { stick = o .stick; buffers = o .lent }; answer = answerBy on-0 (o .answer) }
 
 -- "Fresh start; take a byte; tick a port; give the next reply byte; press a key."
 abbrev pub outcomeOf : Call real → World → Outcome
@@ -98,6 +98,6 @@ pub record Started (w : World) : Type 0 where
 abbrev pub sticks : Core real
 sticks = record { World = World; Fresh = Started; call = called; see = seen }
 
--- undamaged, and each lent buffer of its length: what the calls test, and what is not seen
+-- undamaged, and each lent buffer of its length: what every call tests first
 abbrev pub Sound : World → Type 0
 Sound w = Guarded (w .stick) (w .buffers)

@@ -1,5 +1,5 @@
 -- A call of a real function as its own promise tells a caller of it: its arguments, its result, and what is left in each lent buffer.
--- A run of such calls, each made with the state and the buffers that the one before it left.
+-- A run of such calls, each made with the state and the buffers that the one before it left, save those answered 2.
 -- Assumes nothing.
 use mathlib.Core.Path.{_≡_}
 use mathlib.Core.List.{List, [], _∷_}
@@ -22,8 +22,8 @@ use Rattle.demands.specs.Real.{real}
 use Rattle.demands.specs.Sticks.{World, portNumber}
 
 -- the state and the buffers that a call leaves
-abbrev pub left : Outcome → World
-left o = record { stick = o .stick; buffers = o .lent }
+abbrev pub worldAfter : Outcome → World
+worldAfter o = record { stick = o .stick; buffers = o .lent }
 
 abbrev pub Fresh : Type 0
 Fresh = Told 4 fresh-kinds.ps fresh-kinds.r fresh-reads.Learnt
@@ -71,11 +71,11 @@ abbrev pub pressLeaves : Press → Outcome
 pressLeaves o = outcome (o .result .answer) (o .result .byte) (o .result .stick) (lent (o .lasts .1 .0) (o .lasts .1 .1 .0) (o .lasts .1 .1 .1 .0) (o .lasts .1 .1 .1 .1 .0))
 
 -- a call of the run, and the real call that it is
-pub data Real : World → Call real → Outcome → Type 0 where
-  took : (o : Take) (p : Port) → o .args .1 .1 .1 .1 .1 .0 ≡ portNumber p → Real (takeFrom o) (take p (o .args .1 .1 .1 .1 .1 .1 .0)) (takeLeaves o)
-  ticked : (o : Tick) (p : Port) → o .args .1 .1 .1 .1 .1 .0 ≡ portNumber p → Real (tickFrom o) (tick p) (tickLeaves o)
-  gave : (o : Give) (p : Port) → o .args .1 .1 .1 .1 .1 .0 ≡ portNumber p → Real (giveFrom o) (give p) (giveLeaves o)
-  pressed : (o : Press) → Real (pressFrom o) (press (o .args .1 .1 .1 .1 .1 .0)) (pressLeaves o)
+pub data ByCode : World → Call real → Outcome → Type 0 where
+  took : (o : Take) (p : Port) → o .args .1 .1 .1 .1 .1 .0 ≡ portNumber p → ByCode (takeFrom o) (take p (o .args .1 .1 .1 .1 .1 .1 .0)) (takeLeaves o)
+  ticked : (o : Tick) (p : Port) → o .args .1 .1 .1 .1 .1 .0 ≡ portNumber p → ByCode (tickFrom o) (tick p) (tickLeaves o)
+  gave : (o : Give) (p : Port) → o .args .1 .1 .1 .1 .1 .0 ≡ portNumber p → ByCode (giveFrom o) (give p) (giveLeaves o)
+  pressed : (o : Press) → ByCode (pressFrom o) (press (o .args .1 .1 .1 .1 .1 .0)) (pressLeaves o)
 
 -- any call of the five functions, whatever port it names and whatever it is lent
 pub data Any : World → Outcome → Type 0 where
@@ -90,7 +90,8 @@ pub data Kept {X : Type 0} (x b e : X) : X → Type 0 where
   not-lent : Kept x b e x
   lent-on : b ≡ x → Kept x b e e
 
--- a call that is lent v and leaves e, whatever of w is a part of v: then w′ is there
+-- a call that is lent v and leaves e, whatever of w is a part of v: then w′ is there. A buffer that is lent in part, or in another's
+-- place, counts as not lent: that such a call changes nothing is `Demand1.still`
 pub record Aside (w v e w′ : World) : Type 0 where
   pub stick : Kept (w .stick) (v .stick) (e .stick) (w′ .stick)
   pub rooms : Kept (w .buffers .rooms) (v .buffers .rooms) (e .buffers .rooms) (w′ .buffers .rooms)
@@ -99,10 +100,10 @@ pub record Aside (w v e w′ : World) : Type 0 where
   pub paper : Kept (w .buffers .paper) (v .buffers .paper) (e .buffers .paper) (w′ .buffers .paper)
 
 -- "any sequence of calls .., no second fresh start, the same state and lent buffers in every call but those answered 2"
-pub data RealRun : World → List (Call real) → World → Type 0 where
-  here : {w : World} → RealRun w [] w
-  then : {w w′ : World} {c : Call real} {cs : List (Call real)} {o : Outcome} → Real w c o → RealRun (left o) cs w′ → RealRun w (c ∷ cs) w′
+pub data CodeRun : World → List (Call real) → World → Type 0 where
+  here : {w : World} → CodeRun w [] w
+  then : {w w′ : World} {c : Call real} {cs : List (Call real)} {o : Outcome} → ByCode w c o → CodeRun (worldAfter o) cs w′ → CodeRun w (c ∷ cs) w′
   -- a call of a port above 1
-  above : {w w′ : World} {cs : List (Call real)} {o : Outcome} → Any w o → o .answer ≡ 1 → RealRun (left o) cs w′ → RealRun w cs w′
+  above : {w w′ : World} {cs : List (Call real)} {o : Outcome} → Any w o → o .answer ≡ 1 → CodeRun (worldAfter o) cs w′ → CodeRun w cs w′
   -- a call answered 2, with any state and any buffers
-  aside : {w v w₁ w′ : World} {cs : List (Call real)} {o : Outcome} → Any v o → o .answer ≡ 2 → Aside w v (left o) w₁ → RealRun w₁ cs w′ → RealRun w cs w′
+  aside : {w v w₁ w′ : World} {cs : List (Call real)} {o : Outcome} → Any v o → o .answer ≡ 2 → Aside w v (worldAfter o) w₁ → CodeRun w₁ cs w′ → CodeRun w cs w′

@@ -4,9 +4,14 @@
 use mathlib.Core.Path.{_≡_, refl}
 use mathlib.Core.Bool.{true}
 use Prim.Native.Nat.{ℕ}
-use lib.ListN.{length-replicate}
+use lib.ListN.{replicate, length-replicate}
 use Rattle.base.proofs.Choices.{choose-go}
 use Rattle.wire.specs.Fits.{gatherFits}
+use Rattle.cells.specs.Modes.{modes, rowOf, shapeOf, countOf}
+use Rattle.cells.specs.Cells.{filled}
+use Rattle.editor.specs.Text as editor
+use Rattle.console.specs.Group.{group, freshConsole, freshGroup}
+use Rattle.console.specs.Handlers.{openE}
 use Rattle.console.proofs.Keeps.{fresh-group}
 use Rattle.state.specs.declared.Stick.{Stick}
 use Rattle.state.specs.Fits.{phaseFits, portFits, stickFits}
@@ -36,3 +41,8 @@ module _ (l : Lent) (w : LengthsFit l) where
 pub fresh-paper : (s : Stick) (l : Lent) → freshOf s l .lent .paper ≡ l .paper
 unfolding freshOf
 fresh-paper s l = choose-go (λ (o : Outcome). o .lent .paper ≡ l .paper) (lengthsFit l) _ _ (λ t. refl) (λ t. refl)
+
+-- "screen as after opening E with cells past 960 zero": E opened over a screen of zeros
+pub fresh-opened : openE (group freshConsole (replicate 61440 0)) ≡ freshGroup
+unfolding openE editor.openOf filled countOf shapeOf rowOf modes
+fresh-opened = refl

@@ -2,6 +2,7 @@
 -- a 16,384-byte area, and room to gather one message."
 -- Assumes nothing.
 use mathlib.Core.Path.{_≡_, _∙_, refl, ap}
+use mathlib.Core.Logic.{inl, inr}
 use mathlib.Core.Bool.{Bool, true, false}
 use mathlib.Core.List.{List, _++_}
 use Prim.Native.Nat.{ℕ, _≤_}
@@ -267,12 +268,12 @@ module _ (s : Stick) (l : Lent) (port : ℕ) where
 
 -- press
 module _ (s : Stick) (l : Lent) (code : ℕ) where
-  still-keys : (answer : ℕ) → OnlyKey s l (refused answer s l)
-  still-keys answer = record { port0 = refl; port1 = refl; console = refl; printer = refl; buffers = refl }
+  still-keys : (answer : ℕ) → OnlyKey code s l (refused answer s l)
+  still-keys answer = record { port0 = refl; port1 = refl; console = inl refl; printer = refl; buffers = refl }
 
   -- "A press stores the code over an older one"
-  pub press-only : OnlyKey s l (pressOf s l code)
+  pub press-only : OnlyKey code s l (pressOf s l code)
   unfolding pressOf pressAt
   press-only =
-      by-order s l (λ u. pressAt s l code) (OnlyKey s l) 0 (λ w. still-keys 2) (λ d. still-keys 3) (λ a. still-keys 1)
-      (λ c. choose-go (OnlyKey s l) (consoleHeld s) _ _ (λ t. still-keys 6) (λ t. record { port0 = refl; port1 = refl; console = refl; printer = refl; buffers = refl }))
+      by-order s l (λ u. pressAt s l code) (OnlyKey code s l) 0 (λ w. still-keys 2) (λ d. still-keys 3) (λ a. still-keys 1)
+      (λ c. choose-go (OnlyKey code s l) (consoleHeld s) _ _ (λ t. still-keys 6) (λ t. record { port0 = refl; port1 = refl; console = inr refl; printer = refl; buffers = refl }))

@@ -16,7 +16,6 @@ use Rattle.cio.specs.declared.plan.Group.the-variants as groups
 use Rattle.cio.specs.Plan.{needOf}
 use Rattle.state.specs.declared.Stick.{Stick}
 use Rattle.state.specs.Fits.{deviceGroup, stickFits}
-use Rattle.port.specs.Port.{offered}
 use Rattle.stick.specs.Stick.{Lent, LengthsFit, Guarded, portAt, otherAt, areaAt, roomAt}
 
 -- "2 a lent buffer has another length", shorter or longer

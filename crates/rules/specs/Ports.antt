@@ -1,6 +1,8 @@
--- What a call leaves alone: the other port, its own blocks and area, the devices.
+-- What a call leaves alone: the other port; of a take, a give and a press also the port's own blocks and area, and the devices. (What
+-- a tick does to its own port and its group's device, and that it leaves the other group's, is demand 2.)
 -- Assumes nothing.
 use mathlib.Core.Path.{_≡_}
+use mathlib.Core.Logic.{_⊎_}
 use Prim.Native.Nat.{ℕ}
 use lib.Dec.{eqb}
 use Rattle.base.specs.Choice.{pick}
@@ -36,10 +38,10 @@ pub record OnlyPhase (port : ℕ) (s : Stick) (l : Lent) (o : Outcome) : Type 0 
   pub printer : o .stick .printer ≡ s .printer
   pub buffers : o .lent ≡ l
 
--- only the key that waits on the keyboard is another, not its lock nor inverse
-pub record OnlyKey (s : Stick) (l : Lent) (o : Outcome) : Type 0 where
+-- only the key that waits on the keyboard is another, the pressed one, not its lock nor inverse
+pub record OnlyKey (code : ℕ) (s : Stick) (l : Lent) (o : Outcome) : Type 0 where
   pub port0 : o .stick .port0 ≡ s .port0
   pub port1 : o .stick .port1 ≡ s .port1
-  pub console : o .stick .console ≡ pressedOf (o .stick .console .keyboard .code) (s .console)
+  pub console : (o .stick .console ≡ s .console) ⊎ (o .stick .console ≡ pressedOf code (s .console))
   pub printer : o .stick .printer ≡ s .printer
   pub buffers : o .lent ≡ l

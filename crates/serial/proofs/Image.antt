@@ -1,6 +1,6 @@
 -- A core whose worlds are images of a following core's follows the machine, and what it reaches has an image that is reached.
 -- Assumes nothing.
-use mathlib.Core.Path.{_≡_, refl, sym, _∙_, ap, subst}
+use mathlib.Core.Path.{sym, _∙_, ap, subst}
 use mathlib.Core.List.{List, [], _∷_}
 use Rattle.serial.specs.Machine.{Machine}
 use Rattle.serial.specs.Core.{View, Call, Core}

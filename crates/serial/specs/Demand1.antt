@@ -30,7 +30,7 @@ module _ (M : Machine) where
   Nothing (running g k) = ⊥
   Nothing (replying r) = Unit {0}
 
-  -- numbers 4 to 9
+  -- numbers 4 to 8, and a console's own refusal of a key
   abbrev pub Refused : Answer M → Type 0
   Refused done = ⊥
   Refused (gave b) = ⊥
@@ -42,14 +42,14 @@ module _ (M : Machine) where
   Refused key-refused = Unit {0}
 
   module _ (C : Core M) where
-    -- "Numbers 1 to 8 change nothing, and each is given exactly then."
+    -- "Numbers 1 to 8 change nothing"
     abbrev pub RefusedRule : Type 0
     RefusedRule = (w : C .World) → Reached M C w → (c : Call M) → OkCall M c → Refused (C .call c w .answer) → C .call c w .world ≡ w
 
     pub record Demand1 : Type 0 where
       pub takes : (w : C .World) → Reached M C w → (p : Port) (b : Byte) → OkByte b → C .call (take p b) w .answer ≡ takeAnswer (phaseAt M p (C .see w))
       pub gives : (w : C .World) → Reached M C w → (p : Port) → C .call (give p) w .answer ≡ giveAnswer (phaseAt M p (C .see w))
-      -- 7, "tick, nothing ready or running"; a running port's tick is answered 0, a ready one's 0 or 8
+      -- 7, "tick, nothing ready or running"; what a running port's tick and a ready one's are answered is in Demand2.antt
       pub idles : (w : C .World) → Reached M C w → (p : Port) → Nothing (phaseAt M p (C .see w)) → C .call (tick p) w .answer ≡ idle
       -- 6, "key pressed while a request holds the console"; else it is the console's to take it
       pub held : (w : C .World) → Reached M C w → (c : Key) (p : Port) → Held M console (phaseAt M p (C .see w)) → C .call (press c) w .answer ≡ console-held

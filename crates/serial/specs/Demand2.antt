@@ -77,7 +77,7 @@ module _ (M : Machine) where
     Stops p [] w = Quiet M (phaseAt M p (C .see w))
     Stops p (c ∷ cs) w = Quiet M (phaseAt M p (C .see w)) ⊎ Stops p cs (C .call c w .world)
 
-    -- the same, said of the end
+    -- the same, said of the end: a port that is ticked so often is somewhere found without a running request
     abbrev pub EndRule : Type 0
     EndRule = (w : C .World) → Reached M C w → (p : Port) (cs : List (Call M)) → OkCalls M cs → fuel ≤ ticks p cs → Stops p cs w
 

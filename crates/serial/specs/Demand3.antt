@@ -55,7 +55,7 @@ module _ (M : Machine) where
     pub spelled : Spelled M requests front
     pub still : Behind ph behind
 
-  -- so these are the messages that the taken bytes are read as
+  -- the message that a port has ready
   abbrev pub readyIn : Phase M → List Message
   readyIn (gathering x) = []
   readyIn (ready m) = m ∷ []
@@ -99,7 +99,7 @@ module _ (M : Machine) where
         → let s = after M C cs (begin M C w) in
         Taken (phaseAt M p (C .see (s .world))) (at p (s .seen .port) .taken) (requestsOf p (s .seen .log))
 
-    -- so what a host sent decides what its port started: there is one way to read it
+    -- so what a host sent decides what its port started: the taken bytes are read in one way, as its started requests and the ready one
     abbrev pub ReadRule : Type 0
     ReadRule = (w : C .World) → Begun M C w → (cs : List (Call M)) → OkCalls M cs → (p : Port)
         → let s = after M C cs (begin M C w) in

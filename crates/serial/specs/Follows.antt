@@ -16,7 +16,7 @@ module _ (M : Machine) (C : Core M) where
     pub refused : RefusedRule M C
 
   -- so much is enough for it: from a world that is sound, and seen not to be damaged, each call does what the machine's does
-  -- and leaves a sound one. Sound is what is not seen: numbers of the state that stand for no more than their place.
+  -- and leaves a sound one. Sound is what a core asks of its own world besides, as the lengths of its buffers.
   pub record Steps (Sound : C .World → Type 0) : Type 0 where
     pub begins : (w : C .World) → Begun M C w → FreshView M (C .see w) × Sound w
     pub world-is : (w : C .World) → Sound w → Undamaged M (C .see w) → (c : Call M) → OkCall M c → C .see (C .call c w .world) ≡ callOf M c (C .see w) .world

@@ -118,7 +118,7 @@ module _ (M : Machine) where
     after [] s = s
     after (c ∷ cs) s = after cs (next c s)
 
-    -- "one fresh start that gives 0", over data and devices that are not damaged
+    -- "one fresh start that gives 0"; data and devices are not damaged then, as has to be shown of a core
     abbrev pub Begun : C .World → Type 0
     Begun w = C .Fresh w × Fit (locals M (C .see w)) (C .see w .devs)
 
