@@ -314,8 +314,36 @@ use Rattle.stick.proofs.give.Reads as stick-give-reads
 use Rattle.stick.proofs.press.Kinds as stick-press-kinds
 use Rattle.stick.proofs.press.Reads as stick-press-reads
 use Rattle.stick.proofs.Decided as stick
+use Rattle.layout.proofs.judge.head_stands.Kinds as layout-head-stands-kinds
+use Rattle.layout.proofs.judge.head_stands.Reads as layout-head-stands-reads
+use Rattle.layout.proofs.read.stick.Kinds as layout-read-kinds
+use Rattle.layout.proofs.read.stick.Reads as layout-read-reads
+use Rattle.layout.proofs.write.stick.Kinds as layout-write-kinds
+use Rattle.layout.proofs.write.stick.Reads as layout-write-reads
+use Rattle.layout.proofs.Decided as layout
+use Rattle.lent.proofs.fresh.Kinds as lent-fresh-kinds
+use Rattle.lent.proofs.fresh.Reads as lent-fresh-reads
+use Rattle.lent.proofs.take.Kinds as lent-take-kinds
+use Rattle.lent.proofs.take.Reads as lent-take-reads
+use Rattle.lent.proofs.tick.Kinds as lent-tick-kinds
+use Rattle.lent.proofs.tick.Reads as lent-tick-reads
+use Rattle.lent.proofs.give.Kinds as lent-give-kinds
+use Rattle.lent.proofs.give.Reads as lent-give-reads
+use Rattle.lent.proofs.press.Kinds as lent-press-kinds
+use Rattle.lent.proofs.press.Reads as lent-press-reads
+use Rattle.lent.proofs.Decided as lent
 use Rattle.firmware.proofs.fixlomand_translate.Kinds as firmware-translate-kinds
 use Rattle.firmware.proofs.fixlomand_translate.Reads as firmware-translate-reads
+use Rattle.firmware.proofs.fixlomand_fresh.Kinds as firmware-fresh-kinds
+use Rattle.firmware.proofs.fixlomand_fresh.Reads as firmware-fresh-reads
+use Rattle.firmware.proofs.fixlomand_take.Kinds as firmware-take-kinds
+use Rattle.firmware.proofs.fixlomand_take.Reads as firmware-take-reads
+use Rattle.firmware.proofs.fixlomand_tick.Kinds as firmware-tick-kinds
+use Rattle.firmware.proofs.fixlomand_tick.Reads as firmware-tick-reads
+use Rattle.firmware.proofs.fixlomand_give.Kinds as firmware-give-kinds
+use Rattle.firmware.proofs.fixlomand_give.Reads as firmware-give-reads
+use Rattle.firmware.proofs.fixlomand_press.Kinds as firmware-press-kinds
+use Rattle.firmware.proofs.fixlomand_press.Reads as firmware-press-reads
 use Rattle.firmware.proofs.Decided as firmware
 
 pub data Promises : Type 3 where
@@ -508,9 +536,28 @@ stick-decided =
     promise 4 stick-give-kinds.ps stick-give-kinds.r stick-give-reads.Pre stick-give-reads.Learnt stick.give-decides stick.give-allows (
     promise 4 stick-press-kinds.ps stick-press-kinds.r stick-press-reads.Pre stick-press-reads.Learnt stick.press-decides stick.press-allows port-decided)))))))
 
+pub layout-decided : Promises
+layout-decided =
+    promise 1 layout-head-stands-kinds.ps layout-head-stands-kinds.r layout-head-stands-reads.Pre layout-head-stands-reads.Learnt layout.head-stands-decides layout.head-stands-allows (
+    promise 1 layout-read-kinds.ps layout-read-kinds.r layout-read-reads.Pre layout-read-reads.Learnt layout.read-decides layout.read-allows (
+    promise 1 layout-write-kinds.ps layout-write-kinds.r layout-write-reads.Pre layout-write-reads.Learnt layout.write-decides layout.write-allows stick-decided))
+
+pub lent-decided : Promises
+lent-decided =
+    promise 4 lent-fresh-kinds.ps lent-fresh-kinds.r lent-fresh-reads.Pre lent-fresh-reads.Learnt lent.fresh-decides lent.fresh-allows (
+    promise 4 lent-take-kinds.ps lent-take-kinds.r lent-take-reads.Pre lent-take-reads.Learnt lent.take-decides lent.take-allows (
+    promise 4 lent-tick-kinds.ps lent-tick-kinds.r lent-tick-reads.Pre lent-tick-reads.Learnt lent.tick-decides lent.tick-allows (
+    promise 4 lent-give-kinds.ps lent-give-kinds.r lent-give-reads.Pre lent-give-reads.Learnt lent.give-decides lent.give-allows (
+    promise 4 lent-press-kinds.ps lent-press-kinds.r lent-press-reads.Pre lent-press-reads.Learnt lent.press-decides lent.press-allows layout-decided))))
+
 pub firmware-decided : Promises
 firmware-decided =
-    promise 0 firmware-translate-kinds.ps firmware-translate-kinds.r firmware-translate-reads.Pre firmware-translate-reads.Learnt firmware.translate-decides firmware.translate-allows stick-decided
+    promise 0 firmware-translate-kinds.ps firmware-translate-kinds.r firmware-translate-reads.Pre firmware-translate-reads.Learnt firmware.translate-decides firmware.translate-allows (
+    promise 4 firmware-fresh-kinds.ps firmware-fresh-kinds.r firmware-fresh-reads.Pre firmware-fresh-reads.Learnt firmware.fresh-decides firmware.fresh-allows (
+    promise 4 firmware-take-kinds.ps firmware-take-kinds.r firmware-take-reads.Pre firmware-take-reads.Learnt firmware.take-decides firmware.take-allows (
+    promise 4 firmware-tick-kinds.ps firmware-tick-kinds.r firmware-tick-reads.Pre firmware-tick-reads.Learnt firmware.tick-decides firmware.tick-allows (
+    promise 4 firmware-give-kinds.ps firmware-give-kinds.r firmware-give-reads.Pre firmware-give-reads.Learnt firmware.give-decides firmware.give-allows (
+    promise 4 firmware-press-kinds.ps firmware-press-kinds.r firmware-press-reads.Pre firmware-press-reads.Learnt firmware.press-decides firmware.press-allows lent-decided)))))
 
 -- all of them
 pub all-decided : Promises

@@ -1,12 +1,53 @@
 -- Each promise of this crate decides, and allows an outcome.
 -- Assumes nothing.
-use mathlib.Core.Path.{refl, sym, _∙_}
+use mathlib.Core.Path.{refl, sym, _∙_, ap}
 use Rattle.base.specs.Decides.{Decides, Allows}
+use Rattle.firmware.specs.Answers.{Returned}
 use Rattle.firmware.proofs.fixlomand_translate.Kinds as translate-kinds
 use Rattle.firmware.proofs.fixlomand_translate.Reads as translate-reads
+use Rattle.firmware.proofs.fixlomand_fresh.Kinds as fresh-kinds
+use Rattle.firmware.proofs.fixlomand_fresh.Reads as fresh-reads
+use Rattle.firmware.proofs.fixlomand_take.Kinds as take-kinds
+use Rattle.firmware.proofs.fixlomand_take.Reads as take-reads
+use Rattle.firmware.proofs.fixlomand_tick.Kinds as tick-kinds
+use Rattle.firmware.proofs.fixlomand_tick.Reads as tick-reads
+use Rattle.firmware.proofs.fixlomand_give.Kinds as give-kinds
+use Rattle.firmware.proofs.fixlomand_give.Reads as give-reads
+use Rattle.firmware.proofs.fixlomand_press.Kinds as press-kinds
+use Rattle.firmware.proofs.fixlomand_press.Reads as press-reads
 
 pub translate-decides : Decides 0 translate-kinds.ps translate-kinds.r translate-reads.Pre translate-reads.Learnt
 translate-decides κs a z z′ ws ws′ p e e′ = (e ∙ sym e′, refl)
 
 pub translate-allows : Allows 0 translate-kinds.ps translate-kinds.r translate-reads.Pre translate-reads.Learnt
 translate-allows κs a p = (_, (_, refl))
+
+pub fresh-decides : Decides 4 fresh-kinds.ps fresh-kinds.r fresh-reads.Pre fresh-reads.Learnt
+fresh-decides κs a z z′ ws ws′ p e e′ = let q = e ∙ sym e′ in (ap (λ (w : Returned). w .number) q, ap (λ (w : Returned). (w .buffers .state, (w .buffers .area, (w .buffers .screen, (w .buffers .paper, tt))))) q)
+
+pub fresh-allows : Allows 4 fresh-kinds.ps fresh-kinds.r fresh-reads.Pre fresh-reads.Learnt
+fresh-allows κs a p = (_, (_, refl))
+
+pub take-decides : Decides 4 take-kinds.ps take-kinds.r take-reads.Pre take-reads.Learnt
+take-decides κs a z z′ ws ws′ p e e′ = let q = e ∙ sym e′ in (ap (λ (w : Returned). w .number) q, ap (λ (w : Returned). (w .buffers .state, (w .buffers .area, (w .buffers .screen, (w .buffers .paper, (tt, (tt, tt))))))) q)
+
+pub take-allows : Allows 4 take-kinds.ps take-kinds.r take-reads.Pre take-reads.Learnt
+take-allows κs a p = (_, (_, refl))
+
+pub tick-decides : Decides 4 tick-kinds.ps tick-kinds.r tick-reads.Pre tick-reads.Learnt
+tick-decides κs a z z′ ws ws′ p e e′ = let q = e ∙ sym e′ in (ap (λ (w : Returned). w .number) q, ap (λ (w : Returned). (w .buffers .state, (w .buffers .area, (w .buffers .screen, (w .buffers .paper, (tt, tt)))))) q)
+
+pub tick-allows : Allows 4 tick-kinds.ps tick-kinds.r tick-reads.Pre tick-reads.Learnt
+tick-allows κs a p = (_, (_, refl))
+
+pub give-decides : Decides 4 give-kinds.ps give-kinds.r give-reads.Pre give-reads.Learnt
+give-decides κs a z z′ ws ws′ p e e′ = let q = e ∙ sym e′ in (ap (λ (w : Returned). w .number) q, ap (λ (w : Returned). (w .buffers .state, (w .buffers .area, (w .buffers .screen, (w .buffers .paper, (tt, tt)))))) q)
+
+pub give-allows : Allows 4 give-kinds.ps give-kinds.r give-reads.Pre give-reads.Learnt
+give-allows κs a p = (_, (_, refl))
+
+pub press-decides : Decides 4 press-kinds.ps press-kinds.r press-reads.Pre press-reads.Learnt
+press-decides κs a z z′ ws ws′ p e e′ = let q = e ∙ sym e′ in (ap (λ (w : Returned). w .number) q, ap (λ (w : Returned). (w .buffers .state, (w .buffers .area, (w .buffers .screen, (w .buffers .paper, (tt, tt)))))) q)
+
+pub press-allows : Allows 4 press-kinds.ps press-kinds.r press-reads.Pre press-reads.Learnt
+press-allows κs a p = (_, (_, refl))

@@ -1,0 +1,27 @@
+use Rattle.firmware.proofs.Calls.{answer-of}
+use borrow.Author.Needs.{needs}
+use Rattle.firmware.proofs.fixlomand_take.Statement.{statement}
+use Rattle.firmware.proofs.fixlomand_take.Tie as tie
+
+take-requires : tie.Need-take-requires
+take-requires c κs = search needs
+
+same-length : tie.Need-same-length
+same-length c = search needs
+
+same-length-2 : tie.Need-same-length-2
+same-length-2 c = search needs
+
+same-length-3 : tie.Need-same-length-3
+same-length-3 c = search needs
+
+same-length-4 : tie.Need-same-length-4
+same-length-4 c = search needs
+
+returns : tie.Need-returns
+returns c = search answer-of
+
+pub fixlomand-take-spec : {M : Type 1} → statement M
+fixlomand-take-spec =
+    tie.close
+    (tie.spec take-requires same-length same-length-2 same-length-3 same-length-4 returns)

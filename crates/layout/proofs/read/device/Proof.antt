@@ -1,0 +1,23 @@
+use Rattle.base.proofs.Tests.{tests}
+use Rattle.layout.specs.Layout.{deviceOf}
+use Rattle.layout.proofs.read.device.Statement.{statement}
+use Rattle.layout.proofs.read.device.Tie as tie
+
+returns : tie.Need-returns
+unfolding deviceOf
+returns c = search tests
+
+returns-2 : tie.Need-returns-2
+unfolding deviceOf
+returns-2 c = search tests
+
+returns-3 : tie.Need-returns-3
+unfolding deviceOf
+returns-3 c = search tests
+
+returns-4 : tie.Need-returns-4
+unfolding deviceOf
+returns-4 c = search tests
+
+pub device-spec : {M : Type 1} → statement M
+device-spec = tie.close (tie.spec returns returns-2 returns-3 returns-4)

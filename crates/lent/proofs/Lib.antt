@@ -1,0 +1,3 @@
+pub mod Over
+pub mod Refusals
+pub mod Decided
