@@ -1,0 +1,226 @@
+/* fixlomand.h: the core of the Fixlomand stick, for the firmware of a board.
+ *
+ * The stick has two plugs, port 0 and port 1. At each a host sends messages and reads replies, byte by byte; the core
+ * does what they ask with an area of memory for each port, and with a screen, a keyboard and a printer that both ports
+ * share. The core is a library of six functions. It has no memory of its own, starts no thread, waits for nothing and
+ * calls nothing of yours: your firmware lends it four buffers in every call, moves the bytes of the two links, scans
+ * the keys and shows the screen and the paper. What the bytes of the links mean is in docs/HOSTS.md; the firmware need
+ * not know it.
+ *
+ * The functions are proved to do what this header says for every value of every argument, as long as the last section
+ * holds, "What the core cannot test". They are for x86-64 and for one caller at a time.
+ *
+ * Numbers of two or three bytes are low byte first. $ marks hexadecimal.
+ */
+#ifndef FIXLOMAND_H
+#define FIXLOMAND_H
+
+#include <stddef.h>
+#include <stdint.h>
+
+#ifdef __cplusplus
+extern "C" {
+#endif
+
+/* ---- What you lend -------------------------------------------------------------------------------------------------
+ *
+ * Four buffers, the same ones in every call, with exactly these lengths. None needs an alignment.
+ *
+ *   state    what the core remembers between two calls. Its layout is at the end of this header; most firmware never
+ *            looks into it.
+ *   area     the memory that the hosts load and fetch: bytes 0 to 16,383 are port 0's, the rest port 1's.
+ *   screen   a byte for each cell, row by row from the upper left. Mode 0 is text of 40 columns by 24 rows, its cells
+ *            are characters; modes 3 to 8 are graphics, their cells are colours. FIXLOMAND_MODE in the state says
+ *            which it is. You may read it between two calls, to show it.
+ *   paper    what was printed; FIXLOMAND_USED in the state says how many of its bytes. You may read it likewise.
+ */
+#define FIXLOMAND_STATE_LEN 602
+#define FIXLOMAND_AREA_LEN 32768
+#define FIXLOMAND_SCREEN_LEN 61440
+#define FIXLOMAND_PAPER_LEN 4096
+
+/* ---- What a call answers -------------------------------------------------------------------------------------------
+ *
+ * Every answer but FIXLOMAND_DONE is a refusal: then no byte of any buffer has changed. Each is given exactly then when
+ * the words beside it hold; where more than one holds, the order is 2, 3, 1, and then the others.
+ */
+enum {
+    FIXLOMAND_DONE = 0,          /* done */
+    FIXLOMAND_BAD_PORT = 1,      /* the port is above 1 */
+    FIXLOMAND_BAD_LENGTH = 2,    /* a lent buffer, the state too, has another length than the one above */
+    FIXLOMAND_DAMAGED = 3,       /* the state is none that the core can be in ("Damage", below) */
+    FIXLOMAND_NOT_GATHERING = 4, /* take: the port has its message and gathers no byte before the reply is given */
+    FIXLOMAND_NO_REPLY = 5,      /* give: the port has no reply byte to give */
+    FIXLOMAND_CONSOLE_HELD = 6,  /* press: a request is at work at the screen or the keyboard; offer the key again */
+    FIXLOMAND_IDLE = 7,          /* tick: the port has nothing to do */
+    FIXLOMAND_GROUP_HELD = 8     /* tick: the port waits, the other's request is at work at the device it needs */
+};
+
+/* ---- The calls -----------------------------------------------------------------------------------------------------
+ *
+ * A port goes round: it gathers a message, is ready, runs the request, replies, and gathers again. The main loop of a
+ * board does this for both ports in turn, for ever:
+ *
+ *     offer a byte of the link with take       0: it is taken; 4: keep it and offer it again later
+ *     tick the port                            0, 7 and 8 are all in order
+ *     if the link has room for a byte, give    0: send the byte; 5: there is none
+ *     if a key was pressed, press              0: it is stored; 6: keep it and offer it again later
+ *
+ * A tick starts a request or moves one character, so that neither port holds up the other, and each call's time has a
+ * bound that no message can raise: opening a graphics screen, which clears 61,440 cells, takes longest beside the fresh
+ * start. firmware/example/board.c is such a firmware.
+ *
+ * FIXLOMAND_BAD_LENGTH and FIXLOMAND_BAD_PORT tell of a mistake in the firmware, FIXLOMAND_DAMAGED of memory that lost
+ * what it held, as in a brown-out: make a fresh start, and reset both links, so that the hosts know.
+ */
+#define FIXLOMAND_LENT                                                                                                 \
+    uint8_t *state, size_t state_len, uint8_t *area, size_t area_len, uint8_t *screen, size_t screen_len,             \
+        uint8_t *paper, size_t paper_len
+
+/* Fresh start. Answers 0 or 2 only: what the state held before does not matter. Writes every byte of the state and the
+ * area (both areas are zero then) and of the screen (960 cells $20, the rest zero), and none of the paper. */
+uint8_t fixlomand_fresh(FIXLOMAND_LENT);
+
+/* Takes a byte that the port's host sent. Answers 0, 1, 2, 3 or 4. */
+uint8_t fixlomand_take(FIXLOMAND_LENT, uint8_t port, uint8_t byte);
+
+/* Moves the port's request on by one step. Answers 0, 1, 2, 3, 7 or 8. A request ends at most 61,441 ticks after the one
+ * that started it. */
+uint8_t fixlomand_tick(FIXLOMAND_LENT, uint8_t port);
+
+/* Gives the next byte for the port's host: the answer (0, 1, 2, 3 or 5) in the low byte, the reply byte in the high one,
+ * which is 0 beside a refusal. The byte is given once: ask only if you can send it. */
+uint16_t fixlomand_give(FIXLOMAND_LENT, uint8_t port);
+
+/* Stores a pressed key, over an older one that nobody has read. Answers 0, 2, 3 or 6. The code is the key's number, 0 to
+ * 63, plus 64 with shift, plus 128 with control; 255 stands for no key and empties the place. */
+uint8_t fixlomand_press(FIXLOMAND_LENT, uint8_t code);
+
+/* What a key means, for a firmware that wants to know itself; it is lent nothing and changes nothing. lock is 0 none, 1
+ * shift, 2 control; inverse is 0 or 1. Gives the character, 0 to 255; or
+ *   256  no character (also every code above $BF)    257  the key that flips inverse
+ *   258  unlock     259  shift lock    260  control lock     261  end of file
+ *   262  lock or inverse is none of those above, whatever the code */
+uint16_t fixlomand_translate(uint8_t code, uint8_t lock, uint8_t inverse);
+
+/* ---- The state, byte by byte ---------------------------------------------------------------------------------------
+ *
+ *   offset   bytes  what
+ *      0      35    port 0
+ *     35      35    port 1
+ *     70      10    the console: screen, editor and keyboard
+ *     80       2    the printer
+ *     82     260    port 0's room
+ *    342     260    port 1's room
+ *
+ * A port's 35 bytes, from its own offset:
+ *
+ *      0       1    phase: 0 gathering, 1 ready, 2 running, 3 replying
+ *      1      10    ten bytes of numbers, by phase; those not named are 0:
+ *                     gathering    1 tag, 0 to 255
+ *                                  2 length (2), 0 to 65,535
+ *                                  4 taken (3): bytes of the message so far, tag and length too, 0 to 65,537
+ *                                  7 to 10 are 0
+ *                     ready        1 tag, 0 to 255
+ *                                  2 length (2), 0 to 65,535
+ *                                  4 to 10 are 0
+ *                     running      1 kind: 0 GET of one character, 1 GET CHARACTERS, 2 GET RECORD,
+ *                                          3 PUT of one character, 4 PUT CHARACTERS, 5 PUT RECORD
+ *                                  2 device: 1 E, 2 S, 3 K, 4 P
+ *                                  3 control block, 0 to 7
+ *                                  4 left (2): characters still to store or take, 0 to 16,384
+ *                                  6 place (2): address of the next one, 0 to 16,384; of one character any number
+ *                                  8 count (2): characters stored or taken, 0 to 16,384
+ *                                 10 a: the message's A, 0 to 255
+ *                     replying     1 length (2): all bytes of the reply, 4 to 260
+ *                                  3 given (2): bytes given so far, 0 to 259
+ *                                  5 to 10 are 0
+ *     11      24    eight control blocks of three bytes:
+ *                     0 device: 0 closed, 1 E (editor), 2 S (graphics), 3 K (keyboard), 4 P (printer)
+ *                     1 number: 1 to 8; of a closed block 0
+ *                     2 AUX1: 0 to 255; of a closed block 0
+ *
+ * The console's, from offset 70:
+ *
+ *      0       1    mode: 0 (text) or 3 to 8
+ *      1       1    cursor row: in mode 0 at most 23, else at most the mode's rows (one more than its last row)
+ *      2       2    cursor column: in mode 0 from 2 to 39, else less than the mode's columns
+ *      4       1    last character, 0 to 255
+ *      5       1    escape: 0, or 1 after an escape character
+ *      6       1    read column: 2 to 40, or 255 for none
+ *      7       1    key code, 0 to 255; 255 for none
+ *      8       1    lock: 0 none, 1 shift, 2 control
+ *      9       1    inverse: 0 or 1
+ *
+ * with these modes, columns by rows: 0 and 3 40 by 24; 4 and 5 80 by 48; 6 and 7 160 by 96; 8 320 by 192.
+ *
+ * The printer's two bytes at 80 are the paper's used length, 0 to 4,096.
+ *
+ * A room has the value of the message that its port gathers, or its reply: any bytes. So the rooms are never damaged.
+ */
+enum {
+    FIXLOMAND_PORT_LEN = 35, /* port 1 begins here */
+    FIXLOMAND_PHASE = 0,
+    FIXLOMAND_NUMBERS = 1,
+    FIXLOMAND_NUMBERS_LEN = 10,
+    FIXLOMAND_BLOCKS = 11,
+    FIXLOMAND_BLOCK_LEN = 3,
+
+    FIXLOMAND_CONSOLE = 70,
+    FIXLOMAND_MODE = 70,
+    FIXLOMAND_ROW = 71,
+    FIXLOMAND_COLUMN = 72,
+    FIXLOMAND_LAST = 74,
+    FIXLOMAND_ESCAPE = 75,
+    FIXLOMAND_READ_COLUMN = 76,
+    FIXLOMAND_KEY = 77,
+    FIXLOMAND_LOCK = 78,
+    FIXLOMAND_INVERSE = 79,
+    FIXLOMAND_USED = 80,
+
+    FIXLOMAND_ROOMS = 82, /* port 0's room, then port 1's */
+    FIXLOMAND_ROOM_LEN = 260
+};
+
+enum { FIXLOMAND_GATHERING = 0, FIXLOMAND_READY = 1, FIXLOMAND_RUNNING = 2, FIXLOMAND_REPLYING = 3 };
+enum { FIXLOMAND_CLOSED = 0, FIXLOMAND_E = 1, FIXLOMAND_S = 2, FIXLOMAND_K = 3, FIXLOMAND_P = 4 };
+enum { FIXLOMAND_NO_COLUMN = 255, FIXLOMAND_NO_KEY = 255 };
+
+/* ---- Damage --------------------------------------------------------------------------------------------------------
+ *
+ * Every call but the fresh start looks first whether the state is one that the core can be in, and answers 3 if not. It
+ * is damaged if a byte or number is outside its range above, or if one of these holds:
+ *
+ * - An open block is one that no OPEN makes. In AUX1, 4 is R (reading), 8 is W (writing). K is never open with W, P never
+ *   with R, E never with R but without 1 (forced read), S never with 16 (split screen).
+ * - A port gathers as many bytes as its message has, or more: taken is below 3 + length, save that before the header is
+ *   whole the numbers not taken yet are 0. With none taken tag and length are 0, with one taken length is 0, with two
+ *   taken length is below 256.
+ * - A port replies, and given is not below length.
+ * - A running request does not fit
+ *     its block: that is open, on the request's device, with R for a GET and W for a PUT;
+ *     the mode: E runs in mode 0 alone, S in every other mode;
+ *     its buffer: of one character left and count are 0. Otherwise place + left is at most 16,384 and count at most
+ *     place; of CHARACTERS left is not 0; of a RECORD left and count are not both 0.
+ * - Both ports run requests at one group. E, S and K are one group, the console; P is the other.
+ *
+ * So two states that are not answered 3 and differ in some byte before the rooms are two different sticks. Cells, paper,
+ * area and rooms are never damaged: all their values are in range.
+ *
+ * The test finds every state that the core cannot be left in by its rules; it is no checksum. A damaged byte may happen
+ * to make another state that is in order.
+ *
+ * ---- What the core cannot test -------------------------------------------------------------------------------------
+ *
+ * - Each pointer is good for reading and writing as many bytes as its length says.
+ * - The four buffers do not overlap, and none overlaps the core's own code or the caller's stack.
+ * - Nobody else writes them during a call; no interrupt and no other thread calls the core meanwhile.
+ * - Between two calls nobody writes them either. If somebody does, the core still answers, and still reads and writes
+ *   nothing outside them; but then it works on with what it finds, and what it finds may be another host's bytes.
+ */
+
+#ifdef __cplusplus
+}
+#endif
+
+#endif
