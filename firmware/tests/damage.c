@@ -1,0 +1,160 @@
+/* Whether a state is damaged; see damage.h. */
+#include "damage.h"
+
+#include "fixlomand.h"
+
+#include <stddef.h>
+
+const uint16_t mode_columns[9] = {40, 0, 0, 40, 80, 80, 160, 160, 320};
+const uint8_t mode_rows[9] = {24, 0, 0, 24, 48, 48, 96, 96, 192};
+
+enum { R = 4, W = 8, FORCED = 1, SPLIT = 16, PORT_AREA = 16384 };
+
+static unsigned long number(const uint8_t *bytes, unsigned length)
+{
+    unsigned long n = 0;
+    while (length-- > 0)
+        n = 256 * n + bytes[length];
+    return n;
+}
+
+/* "those not named are 0" */
+static int unused(const uint8_t *port, unsigned from)
+{
+    for (unsigned i = from; i <= FIXLOMAND_NUMBERS_LEN; i++)
+        if (port[i] != 0)
+            return 0;
+    return 1;
+}
+
+static const char *block_damage(const uint8_t *block)
+{
+    uint8_t device = block[0], number_of = block[1], aux1 = block[2];
+    if (device > FIXLOMAND_P)
+        return "a block's device";
+    if (device == FIXLOMAND_CLOSED)
+        return number_of != 0 || aux1 != 0 ? "a closed block with numbers" : NULL;
+    if (number_of < 1 || number_of > 8)
+        return "a block's number";
+    if (device == FIXLOMAND_E && (aux1 & R) != 0 && (aux1 & FORCED) == 0)
+        return "E with R and without forced read";
+    if (device == FIXLOMAND_S && (aux1 & SPLIT) != 0)
+        return "S with a split screen";
+    if (device == FIXLOMAND_K && (aux1 & W) != 0)
+        return "K with W";
+    if (device == FIXLOMAND_P && (aux1 & R) != 0)
+        return "P with R";
+    return NULL;
+}
+
+static const char *gathering_damage(const uint8_t *port)
+{
+    unsigned long tag = port[1], length = number(port + 2, 2), taken = number(port + 4, 3);
+    if (!unused(port, 7))
+        return "a gathering with other numbers";
+    if (taken == 0)
+        return tag != 0 || length != 0 ? "a header that is not taken" : NULL;
+    if (taken == 1)
+        return length != 0 ? "a length that is not taken" : NULL;
+    if (taken == 2)
+        return length > 255 ? "a length of which half is taken" : NULL;
+    return taken >= 3 + length ? "a gathering that has all its bytes" : NULL;
+}
+
+static const char *running_damage(const uint8_t *port, uint8_t mode)
+{
+    unsigned kind = port[1], device = port[2], block = port[3];
+    unsigned long left = number(port + 4, 2), place = number(port + 6, 2), count = number(port + 8, 2);
+    const uint8_t *its = port + FIXLOMAND_BLOCKS + FIXLOMAND_BLOCK_LEN * block;
+    if (kind > 5)
+        return "a request's kind";
+    if (device < FIXLOMAND_E || device > FIXLOMAND_P)
+        return "a request's device";
+    if (block > 7)
+        return "a request's block";
+    if (its[0] != device)
+        return "a request on another device than its block";
+    if ((its[2] & (kind < 3 ? R : W)) == 0)
+        return "a request in a direction its block has not";
+    if (device == FIXLOMAND_E ? mode != 0 : device == FIXLOMAND_S && mode == 0)
+        return "a request in another mode";
+    if (kind % 3 == 0)
+        return left != 0 || count != 0 ? "one character with left or count" : NULL;
+    if (place + left > PORT_AREA)
+        return "a buffer past the area";
+    if (count > place)
+        return "a count past the place";
+    if (kind % 3 == 1 ? left == 0 : left + count == 0)
+        return "a request with nothing left";
+    return NULL;
+}
+
+static const char *port_damage(const uint8_t *port, uint8_t mode)
+{
+    for (unsigned i = 0; i < 8; i++) {
+        const char *why = block_damage(port + FIXLOMAND_BLOCKS + FIXLOMAND_BLOCK_LEN * i);
+        if (why != NULL)
+            return why;
+    }
+    switch (port[FIXLOMAND_PHASE]) {
+    case FIXLOMAND_GATHERING:
+        return gathering_damage(port);
+    case FIXLOMAND_READY:
+        return unused(port, 4) ? NULL : "a ready message with other numbers";
+    case FIXLOMAND_RUNNING:
+        return running_damage(port, mode);
+    case FIXLOMAND_REPLYING:
+        if (!unused(port, 5))
+            return "a reply with other numbers";
+        if (number(port + 1, 2) < 4 || number(port + 1, 2) > FIXLOMAND_ROOM_LEN)
+            return "a reply's length";
+        return number(port + 3, 2) >= number(port + 1, 2) ? "a reply that is given whole" : NULL;
+    default:
+        return "a phase";
+    }
+}
+
+static const char *console_damage(const uint8_t *state)
+{
+    unsigned mode = state[FIXLOMAND_MODE], row = state[FIXLOMAND_ROW], reading = state[FIXLOMAND_READ_COLUMN];
+    unsigned long column = number(state + FIXLOMAND_COLUMN, 2);
+    if (mode > 8 || mode_columns[mode] == 0)
+        return "a mode";
+    if (mode == 0 ? row > 23 : row > mode_rows[mode])
+        return "a row";
+    if (mode == 0 ? column < 2 || column > 39 : column >= mode_columns[mode])
+        return "a column";
+    if (reading != FIXLOMAND_NO_COLUMN && (reading < 2 || reading > 40))
+        return "a read column";
+    if (state[FIXLOMAND_ESCAPE] > 1 || state[FIXLOMAND_LOCK] > 2 || state[FIXLOMAND_INVERSE] > 1)
+        return "escape, lock or inverse";
+    return NULL;
+}
+
+static int runs(const uint8_t *state, unsigned port)
+{
+    return state[port * FIXLOMAND_PORT_LEN + FIXLOMAND_PHASE] == FIXLOMAND_RUNNING;
+}
+
+static int holds_printer(const uint8_t *state, unsigned port)
+{
+    return runs(state, port) && state[port * FIXLOMAND_PORT_LEN + 2] == FIXLOMAND_P;
+}
+
+int holds_console(const uint8_t *state, unsigned port)
+{
+    return runs(state, port) && state[port * FIXLOMAND_PORT_LEN + 2] != FIXLOMAND_P;
+}
+
+const char *damage(const uint8_t *state)
+{
+    const char *why = console_damage(state);
+    for (unsigned port = 0; port < 2 && why == NULL; port++)
+        why = port_damage(state + port * FIXLOMAND_PORT_LEN, state[FIXLOMAND_MODE]);
+    if (why == NULL && number(state + FIXLOMAND_USED, 2) > FIXLOMAND_PAPER_LEN)
+        why = "the paper's used length";
+    if (why == NULL && ((holds_console(state, 0) && holds_console(state, 1)) ||
+                        (holds_printer(state, 0) && holds_printer(state, 1))))
+        why = "both ports at one group";
+    return why;
+}

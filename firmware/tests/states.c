@@ -1,0 +1,554 @@
+/* states [CALLS [SEED]]: a million calls on states that somebody may hand over.
+ *
+ * Half of the calls are on states in order, made at random, of which one byte after the other gets every value. The rest
+ * are on random bytes, on states in order, on such states with one wrong byte, and on what the calls make of them. Every
+ * call must end in an answer of its own row of the table, answer 3 exactly when damage.c, which is
+ * written from the header alone, finds the state damaged, change nothing unless it answers 0, and leave a state in
+ * order. The buffers stand between guard pages; what of area, screen and paper a call may not write it is lent at a
+ * place where it can only be read. */
+#include "damage.h"
+#include "fixlomand.h"
+#include "guard.h"
+
+#include <inttypes.h>
+#include <stdio.h>
+#include <stdlib.h>
+#include <string.h>
+
+enum { FRESH, TAKE, TICK, GIVE, PRESS, CALLS, ANSWERS = 9, HALF = 16384 };
+
+static const char *const names[CALLS] = {"fresh", "take", "tick", "give", "press"};
+static uint8_t *state, *area, *screen, *paper;
+/* where nothing can be written, and where one port's half of the area can */
+static uint8_t *area_view, *screen_view, *paper_view, *half_view[2];
+static uint8_t state_before[FIXLOMAND_STATE_LEN], area_before[FIXLOMAND_AREA_LEN];
+static uint8_t screen_before[FIXLOMAND_SCREEN_LEN], paper_before[FIXLOMAND_PAPER_LEN];
+static unsigned long counts[CALLS][ANSWERS];
+static uint64_t seed;
+
+/* ---- random numbers ---- */
+
+/* xorshift64*: the same numbers on every machine */
+static uint32_t random_number(void)
+{
+    seed ^= seed >> 12;
+    seed ^= seed << 25;
+    seed ^= seed >> 27;
+    return (uint32_t)((seed * UINT64_C(2685821657736338717)) >> 32);
+}
+
+static unsigned below(unsigned n)
+{
+    return random_number() % n;
+}
+
+static int one_in(unsigned n)
+{
+    return below(n) == 0;
+}
+
+/* A number from low to high; the ends come often. */
+static unsigned between(unsigned low, unsigned high)
+{
+    if (one_in(4))
+        return one_in(2) ? low : high;
+    return low + below(high - low + 1);
+}
+
+static void put(uint8_t *bytes, unsigned number)
+{
+    bytes[0] = (uint8_t)number;
+    bytes[1] = (uint8_t)(number >> 8);
+}
+
+static void put_random(uint8_t *bytes, size_t length)
+{
+    uint32_t some = 0;
+    for (size_t i = 0; i < length; i++, some >>= 8) {
+        if (i % 4 == 0)
+            some = random_number();
+        bytes[i] = (uint8_t)some;
+    }
+}
+
+/* ---- states in order ---- */
+
+/* An AUX1 that OPEN takes for the device. */
+static uint8_t random_aux1(uint8_t device)
+{
+    unsigned aux1 = below(256);
+    if (device == FIXLOMAND_E && (aux1 & 4) != 0)
+        aux1 |= 1;
+    if (device == FIXLOMAND_S)
+        aux1 &= ~16u;
+    if (device == FIXLOMAND_K)
+        aux1 &= ~8u;
+    if (device == FIXLOMAND_P)
+        aux1 &= ~4u;
+    return (uint8_t)aux1;
+}
+
+static void random_block(uint8_t *block, uint8_t device)
+{
+    block[0] = device;
+    block[1] = device == FIXLOMAND_CLOSED ? 0 : (uint8_t)between(1, 8);
+    block[2] = device == FIXLOMAND_CLOSED ? 0 : random_aux1(device);
+}
+
+/* A message that does something, whole in the port's room: a CALL at a specification that prepare_area has put there, a
+ * LOAD or a FETCH; now and then rubbish. */
+static void random_ready(uint8_t *port, uint8_t *room)
+{
+    static const uint8_t commands[] = {3, 3, 5, 7, 9, 11, 12, 13, 14, 0};
+    port[1] = (uint8_t)(0x10 + below(3));
+    if (one_in(16))
+        port[1] = (uint8_t)below(256);
+    put_random(room, FIXLOMAND_ROOM_LEN);
+    switch (port[1]) {
+    case 0x10:
+        put(port + 2, 9);
+        room[0] = (uint8_t)below(one_in(16) ? 256 : 8);
+        room[1] = commands[below(sizeof commands)];
+        put(room + 2, one_in(16) ? between(0, 65535) : 8 * below(8));
+        put(room + 4, one_in(16) ? between(0, 65535) : between(0, 300));
+        room[6] = (uint8_t)below(64);
+        room[7] = (uint8_t)below(10);
+        break;
+    case 0x11:
+        put(port + 2, between(3, 258));
+        put(room, one_in(2) ? between(HALF - 300, HALF) : between(64, 65535));
+        break;
+    case 0x12:
+        put(port + 2, 4);
+        put(room, one_in(2) ? between(HALF - 300, HALF) : between(0, 65535));
+        put(room + 2, between(0, 300));
+        break;
+    default:
+        put(port + 2, between(0, 65535));
+        break;
+    }
+    if (one_in(16))
+        put(port + 2, between(0, 65535));
+}
+
+/* A request at a block that is opened for it. */
+static void random_running(uint8_t *port, uint8_t mode)
+{
+    uint8_t kind = (uint8_t)below(6), *block;
+    uint8_t device = kind < 3 ? (uint8_t)(1 + below(3)) : one_in(2) ? FIXLOMAND_P : (uint8_t)(1 + below(2));
+    unsigned place = between(0, HALF), left = between(0, HALF - place);
+    if (device == FIXLOMAND_E || device == FIXLOMAND_S)
+        device = mode == 0 ? FIXLOMAND_E : FIXLOMAND_S;
+    port[1] = kind;
+    port[2] = device;
+    port[3] = (uint8_t)below(8);
+    block = port + FIXLOMAND_BLOCKS + FIXLOMAND_BLOCK_LEN * port[3];
+    random_block(block, device);
+    block[2] |= kind < 3 ? 4 : 8;
+    if (device == FIXLOMAND_E && (block[2] & 4) != 0)
+        block[2] |= 1;
+    if (kind % 3 == 0) {
+        put(port + 6, below(65536));
+    } else {
+        if (left == 0 && (kind % 3 == 1 || place == 0))
+            left = place > 0 ? (place--, 1) : 1;
+        put(port + 4, left);
+        put(port + 6, place);
+        put(port + 8, left > 0 ? between(0, place) : between(1, place));
+    }
+    port[10] = (uint8_t)below(256);
+}
+
+static void random_port(uint8_t *port, uint8_t *room, uint8_t mode)
+{
+    unsigned length, taken;
+    memset(port, 0, FIXLOMAND_PORT_LEN);
+    for (unsigned i = 0; i < 8; i++)
+        random_block(port + FIXLOMAND_BLOCKS + FIXLOMAND_BLOCK_LEN * i, (uint8_t)below(5));
+    port[FIXLOMAND_PHASE] = (uint8_t)below(4);
+    switch (port[FIXLOMAND_PHASE]) {
+    case FIXLOMAND_GATHERING:
+        random_ready(port, room);
+        length = port[2] + 256u * port[3];
+        taken = between(0, 2 + length);
+        put(port + 4, taken & 65535);
+        port[6] = (uint8_t)(taken >> 16);
+        if (taken < 3)
+            port[3] = 0;
+        if (taken < 2)
+            port[2] = 0;
+        if (taken < 1)
+            port[1] = 0;
+        break;
+    case FIXLOMAND_READY:
+        random_ready(port, room);
+        break;
+    case FIXLOMAND_RUNNING:
+        random_running(port, mode);
+        break;
+    default:
+        length = between(4, FIXLOMAND_ROOM_LEN);
+        put(port + 1, length);
+        put(port + 3, between(0, length - 1));
+        break;
+    }
+}
+
+static void random_console(uint8_t *s)
+{
+    static const uint8_t modes[] = {0, 0, 0, 3, 4, 5, 6, 7, 8};
+    uint8_t mode = modes[below(sizeof modes)];
+    s[FIXLOMAND_MODE] = mode;
+    s[FIXLOMAND_ROW] = (uint8_t)between(0, mode == 0 ? 23 : mode_rows[mode]);
+    put(s + FIXLOMAND_COLUMN, mode == 0 ? between(2, 39) : between(0, mode_columns[mode] - 1u));
+    s[FIXLOMAND_LAST] = (uint8_t)below(256);
+    s[FIXLOMAND_ESCAPE] = (uint8_t)below(2);
+    s[FIXLOMAND_READ_COLUMN] = one_in(2) ? FIXLOMAND_NO_COLUMN : (uint8_t)between(2, 40);
+    s[FIXLOMAND_KEY] = (uint8_t)below(256);
+    s[FIXLOMAND_LOCK] = (uint8_t)below(3);
+    s[FIXLOMAND_INVERSE] = (uint8_t)below(2);
+    put(s + FIXLOMAND_USED, between(0, FIXLOMAND_PAPER_LEN));
+}
+
+/* A state in which each part is in order. */
+static void random_parts(uint8_t *s)
+{
+    put_random(s + FIXLOMAND_ROOMS, FIXLOMAND_STATE_LEN - FIXLOMAND_ROOMS);
+    random_console(s);
+    for (unsigned side = 0; side < 2; side++)
+        random_port(s + side * FIXLOMAND_PORT_LEN, s + FIXLOMAND_ROOMS + side * FIXLOMAND_ROOM_LEN, s[FIXLOMAND_MODE]);
+    if (damage(s) != NULL && strcmp(damage(s), "both ports at one group") != 0)
+        fail("states: a state made to be in order is not: %s", damage(s));
+}
+
+static void random_in_order(uint8_t *s)
+{
+    do
+        random_parts(s);
+    while (damage(s) != NULL);
+}
+
+/* One byte before the rooms becomes another. */
+static void one_wrong_byte(uint8_t *s)
+{
+    uint8_t *byte = s + below(FIXLOMAND_ROOMS);
+    uint8_t old = *byte;
+    switch (below(4)) {
+    case 0:
+        *byte = (uint8_t)(old ^ 1u << below(8));
+        break;
+    case 1:
+        *byte = (uint8_t)(old + (one_in(2) ? 1 : 255));
+        break;
+    default:
+        *byte = (uint8_t)(old + 1 + below(255));
+        break;
+    }
+}
+
+/* Specifications where the random CALLs look for them. */
+static void prepare_area(void)
+{
+    static const char *const some[] = {"E:", "S:", "K:", "P:", "E1:", "S8:", "K9:", "X:"};
+    put_random(area, FIXLOMAND_AREA_LEN);
+    for (unsigned port = 0; port < 2; port++)
+        for (unsigned i = 0; i < 8; i++)
+            memcpy(area + port * HALF + 8 * i, some[i], strlen(some[i]));
+}
+
+/* ---- one call ---- */
+
+static unsigned long place;
+static unsigned which, port;
+static uint8_t operand;
+
+static void trouble(const char *what)
+{
+    fprintf(stderr, "state before the call:");
+    for (unsigned i = 0; i < FIXLOMAND_ROOMS; i++)
+        fprintf(stderr, "%s%02X", i == 0 || i == 35 || i == 70 || i == 80 ? "\n  " : " ", state_before[i]);
+    fputc('\n', stderr);
+    fail("states: call %lu, %s at port %u with %u: %s", place, names[which], port, operand, what);
+}
+
+/* The only answer that the call may give; -1 for a tick that may be answered 0 or 8. */
+static int expected(void)
+{
+    const uint8_t *its = state + (port & 1) * FIXLOMAND_PORT_LEN;
+    uint8_t phase = its[FIXLOMAND_PHASE];
+    if (which == FRESH)
+        return FIXLOMAND_DONE;
+    if (damage(state) != NULL)
+        return FIXLOMAND_DAMAGED;
+    if (which == PRESS)
+        return holds_console(state, 0) || holds_console(state, 1) ? FIXLOMAND_CONSOLE_HELD : FIXLOMAND_DONE;
+    if (port > 1)
+        return FIXLOMAND_BAD_PORT;
+    if (which == TAKE)
+        return phase == FIXLOMAND_GATHERING ? FIXLOMAND_DONE : FIXLOMAND_NOT_GATHERING;
+    if (which == GIVE)
+        return phase == FIXLOMAND_REPLYING ? FIXLOMAND_DONE : FIXLOMAND_NO_REPLY;
+    if (phase == FIXLOMAND_RUNNING)
+        return FIXLOMAND_DONE;
+    if (phase != FIXLOMAND_READY)
+        return FIXLOMAND_IDLE;
+    return state[(1 - port) * FIXLOMAND_PORT_LEN + FIXLOMAND_PHASE] == FIXLOMAND_RUNNING ? -1 : FIXLOMAND_DONE;
+}
+
+#define LENT                                                                                                           \
+    state, FIXLOMAND_STATE_LEN, its_area, FIXLOMAND_AREA_LEN, its_screen, FIXLOMAND_SCREEN_LEN, its_paper,            \
+        FIXLOMAND_PAPER_LEN
+
+/* Makes the call; a call that is to be refused can write nothing but the state. */
+static unsigned call(int refused)
+{
+    int ticks = which == TICK && !refused;
+    uint8_t *its_area = which == FRESH ? area : ticks ? half_view[port] : area_view;
+    uint8_t *its_screen = which == FRESH || ticks ? screen : screen_view;
+    uint8_t *its_paper = ticks ? paper : paper_view;
+    switch (which) {
+    case FRESH:
+        return fixlomand_fresh(LENT);
+    case TAKE:
+        return fixlomand_take(LENT, (uint8_t)port, operand);
+    case TICK:
+        return fixlomand_tick(LENT, (uint8_t)port);
+    case GIVE:
+        return fixlomand_give(LENT, (uint8_t)port);
+    default:
+        return fixlomand_press(LENT, operand);
+    }
+}
+
+/* Eight bytes at a time: an emulator may do a library's string instructions byte by byte. */
+static void keep(uint8_t *to, const uint8_t *from, size_t length)
+{
+    for (size_t i = 0; i < length; i += 8) {
+        uint64_t some;
+        memcpy(&some, from + i, 8);
+        volatile uint64_t one = some; /* or the compiler makes one such instruction of the loop */
+        some = one;
+        memcpy(to + i, &some, 8);
+    }
+}
+
+static int same(const uint8_t *now, const uint8_t *before, size_t from, size_t to)
+{
+    return memcmp(now + from, before + from, to - from) == 0;
+}
+
+/* After 0: what a call may not touch, and that the state is one in order. */
+static void check_done(unsigned given)
+{
+    size_t other = (1 - (port & 1)) * FIXLOMAND_PORT_LEN;
+    size_t other_room = FIXLOMAND_ROOMS + (1 - (port & 1)) * FIXLOMAND_ROOM_LEN;
+    if (damage(state) != NULL)
+        trouble("leaves a damaged state");
+    if (which == FRESH)
+        return;
+    if (which == PRESS) {
+        if (!same(state, state_before, 0, FIXLOMAND_KEY) ||
+            !same(state, state_before, FIXLOMAND_KEY + 1, FIXLOMAND_STATE_LEN) || state[FIXLOMAND_KEY] != operand)
+            trouble("does not store the key and nothing else");
+        return;
+    }
+    if (!same(state, state_before, other, other + FIXLOMAND_PORT_LEN) ||
+        !same(state, state_before, other_room, other_room + FIXLOMAND_ROOM_LEN))
+        trouble("changes the other port");
+    if (which != TICK && !same(state, state_before, FIXLOMAND_CONSOLE, FIXLOMAND_ROOMS))
+        trouble("changes console or printer");
+    if (which == GIVE) {
+        const uint8_t *its = state_before + port * FIXLOMAND_PORT_LEN;
+        if (given != state_before[FIXLOMAND_ROOMS + port * FIXLOMAND_ROOM_LEN + its[3] + 256u * its[4]])
+            trouble("does not give the room's next byte");
+    }
+}
+
+/* Every fresh start leaves the same, whatever was there. */
+static void check_fresh(void)
+{
+    static uint8_t first[FIXLOMAND_STATE_LEN];
+    static int has_first;
+    if (!has_first)
+        memcpy(first, state, sizeof first);
+    has_first = 1;
+    if (!same(state, first, 0, sizeof first))
+        trouble("leaves another state than the first fresh start did");
+    for (size_t i = 0; i < FIXLOMAND_AREA_LEN; i++)
+        if (area[i] != 0)
+            trouble("leaves an area that is not zero");
+    for (size_t i = 0; i < FIXLOMAND_SCREEN_LEN; i++)
+        if (screen[i] != (i < 960 ? 0x20 : 0))
+            trouble("leaves another screen than a fresh one");
+}
+
+static void make_call(void)
+{
+    int want = expected();
+    int either = want < 0;
+    unsigned answer, given;
+    memcpy(state_before, state, FIXLOMAND_STATE_LEN);
+    if (either) {
+        keep(area_before, area, FIXLOMAND_AREA_LEN);
+        keep(screen_before, screen, FIXLOMAND_SCREEN_LEN);
+        keep(paper_before, paper, FIXLOMAND_PAPER_LEN);
+    }
+    guard_doing = names[which];
+    guard_number = place;
+    answer = call(want > 0);
+    given = answer >> 8;
+    answer &= 255;
+    if (either && (answer == FIXLOMAND_DONE || answer == FIXLOMAND_GROUP_HELD))
+        want = (int)answer;
+    if ((int)answer != want) {
+        char text[200];
+        const char *why = damage(state_before);
+        snprintf(text, sizeof text, "answered %u, not %d%s%s", answer, want, why ? "; damaged is " : "",
+                 why ? why : "");
+        trouble(text);
+    }
+    counts[which][answer]++;
+    if (answer != FIXLOMAND_DONE) {
+        if (given != 0)
+            trouble("gives a byte beside a refusal");
+        if (!same(state, state_before, 0, FIXLOMAND_STATE_LEN))
+            trouble("is refused and changes the state");
+        if (either && (!same(area, area_before, 0, FIXLOMAND_AREA_LEN) ||
+                       !same(screen, screen_before, 0, FIXLOMAND_SCREEN_LEN) ||
+                       !same(paper, paper_before, 0, FIXLOMAND_PAPER_LEN)))
+            trouble("is refused and changes area, screen or paper");
+        return;
+    }
+    check_done(given);
+    if (which == FRESH) {
+        check_fresh();
+        prepare_area();
+    }
+}
+
+/* ---- all of them ---- */
+
+static void say_counts(void)
+{
+    printf("states: %-6s", "");
+    for (unsigned answer = 0; answer < ANSWERS; answer++)
+        printf("%10u", answer);
+    printf("\n");
+    for (unsigned i = 0; i < CALLS; i++) {
+        printf("states: %-6s", names[i]);
+        for (unsigned answer = 0; answer < ANSWERS; answer++)
+            printf("%10lu", counts[i][answer]);
+        printf("\n");
+    }
+}
+
+static void next_state(void)
+{
+    static uint8_t base[FIXLOMAND_STATE_LEN];
+    switch (below(16)) {
+    case 0:
+        put_random(state, FIXLOMAND_STATE_LEN);
+        break;
+    case 1:
+    case 2:
+    case 3:
+        random_in_order(base);
+        memcpy(state, base, sizeof base);
+        break;
+    case 4: /* what the last calls made of it, if that is in order */
+        if (damage(state) == NULL)
+            memcpy(base, state, sizeof base);
+        memcpy(state, base, sizeof base);
+        one_wrong_byte(state);
+        break;
+    case 5:
+    case 6:
+    case 7:
+    case 8:
+        memcpy(state, base, sizeof base);
+        one_wrong_byte(state);
+        break;
+    case 9: /* damaged only if both ports run at one group */
+        random_parts(state);
+        break;
+    default: /* go on */
+        break;
+    }
+}
+
+static unsigned long calls;
+
+/* The next call, and how far the test is. */
+static void make_next_call(void)
+{
+    operand = (uint8_t)below(256);
+    place++;
+    make_call();
+    if (place % (calls / 10 > 0 ? calls / 10 : 1) == 0) {
+        printf("states: %lu of %lu calls\n", place, calls);
+        fflush(stdout);
+    }
+}
+
+/* Every value of every byte before the rooms, in turn, in a state that is in order else. The port is above 1, so that the
+ * answer is 3 or 1 and nothing moves on. */
+static void every_byte(void)
+{
+    random_in_order(state);
+    for (unsigned at = 0; at < FIXLOMAND_ROOMS; at++) {
+        uint8_t right = state[at];
+        for (unsigned value = 0; value < 256; value++) {
+            state[at] = (uint8_t)value;
+            which = TAKE + below(3);
+            port = 2 + below(254);
+            make_next_call();
+        }
+        state[at] = right;
+    }
+}
+
+static void any_call(void)
+{
+    which = one_in(1000) ? FRESH : 1 + below(4);
+    port = one_in(32) ? below(256) : below(2);
+    next_state();
+    make_next_call();
+}
+
+static void run(void)
+{
+    unsigned long damaged = 0;
+    state = guarded("state", FIXLOMAND_STATE_LEN, seed % 2 == 0 ? LEFT : RIGHT);
+    while (place + 256 * FIXLOMAND_ROOMS <= calls / 2)
+        every_byte();
+    random_in_order(state);
+    while (place < calls)
+        any_call();
+    for (unsigned i = 0; i < CALLS; i++)
+        damaged += counts[i][FIXLOMAND_DAMAGED];
+    say_counts();
+    printf("states: %lu calls, each with its answer, %lu of them 3; nothing changed unless it was 0\n", calls, damaged);
+}
+
+int main(int words, char **word)
+{
+    calls = words > 1 ? strtoul(word[1], NULL, 10) : 1000000;
+    seed = words > 2 ? strtoull(word[2], NULL, 10) : 6;
+    if (calls == 0 || seed == 0)
+        fail("states: CALLS and SEED are numbers above 0");
+    area = shared("area", FIXLOMAND_AREA_LEN, RIGHT);
+    area_view = view_of_shared(0, 0);
+    half_view[0] = view_of_shared(0, HALF);
+    half_view[1] = view_of_shared(HALF, 2 * HALF);
+    screen = shared("screen", FIXLOMAND_SCREEN_LEN, RIGHT);
+    screen_view = view_of_shared(0, 0);
+    paper = shared("paper", FIXLOMAND_PAPER_LEN, RIGHT);
+    paper_view = view_of_shared(0, 0);
+    guard_watch();
+    prepare_area();
+    put_random(screen, FIXLOMAND_SCREEN_LEN);
+    put_random(paper, FIXLOMAND_PAPER_LEN);
+    run();
+    guards_free();
+    return 0;
+}
