@@ -1,0 +1,495 @@
+/* bench: how fast the library is, and how deep its stack gets. It tests nothing but that each request ends as it should;
+ * what it prints depends on the machine, and under an emulator only the proportions say something.
+ *
+ *   bench          calls a second, kind by kind; whole requests; ticks of short and of long requests
+ *   bench stack    the bytes of stack of the deepest call, kind by kind */
+#define _XOPEN_SOURCE 700 /* clock_gettime, ucontext */
+#include "fixlomand.h"
+
+#include <stdio.h>
+#include <stdlib.h>
+#include <string.h>
+#include <time.h>
+#include <ucontext.h>
+
+enum { OPEN = 3, GET_RECORD = 5, GET_CHARACTERS = 7, PUT_CHARACTERS = 11, CLOSE = 12 };
+enum { R = 4, W = 8, FORCED = 1, PORT_AREA = 16384, REPLY_LEN = 260 };
+/* where the specifications are in each port's area; buffers may lie over them once the blocks are open */
+enum { AT_E = 0, AT_S = 2, AT_K = 4, AT_P = 6 };
+/* the blocks: port 0 has E, S and K open, port 1 P */
+enum { BLOCK_E = 0, BLOCK_S = 1, BLOCK_K = 2, BLOCK_P = 0 };
+
+static uint8_t state[FIXLOMAND_STATE_LEN], area[FIXLOMAND_AREA_LEN];
+static uint8_t screen[FIXLOMAND_SCREEN_LEN], paper[FIXLOMAND_PAPER_LEN];
+
+#define LENT state, sizeof state, area, sizeof area, screen, sizeof screen, paper, sizeof paper
+
+static void want(int right, const char *what)
+{
+    if (!right) {
+        fprintf(stderr, "bench: %s did not end as it should\n", what);
+        exit(1);
+    }
+}
+
+static double now(void)
+{
+    struct timespec t;
+    clock_gettime(CLOCK_MONOTONIC, &t);
+    return (double)t.tv_sec + (double)t.tv_nsec / 1e9;
+}
+
+/* ---- requests ---- */
+
+static uint8_t reply[REPLY_LEN];
+
+static void send(uint8_t port, const uint8_t *message, size_t length)
+{
+    for (size_t i = 0; i < length; i++)
+        want(fixlomand_take(LENT, port, message[i]) == FIXLOMAND_DONE, "take");
+}
+
+static void send_call(uint8_t port, unsigned block, unsigned command, unsigned address, unsigned length, unsigned aux1,
+                      unsigned aux2)
+{
+    uint8_t m[12] = {0x10, 9, 0, (uint8_t)block, (uint8_t)command};
+    m[5] = (uint8_t)address;
+    m[6] = (uint8_t)(address >> 8);
+    m[7] = (uint8_t)length;
+    m[8] = (uint8_t)(length >> 8);
+    m[9] = (uint8_t)aux1;
+    m[10] = (uint8_t)aux2;
+    send(port, m, sizeof m);
+}
+
+/* Seconds spent in ticks, and how many. */
+static double tick_time;
+static unsigned long tick_count;
+
+/* Ticks while the port runs; how many ticks. */
+static unsigned long run(uint8_t port)
+{
+    unsigned long ticks = 0;
+    double begin = now();
+    do {
+        want(fixlomand_tick(LENT, port) == FIXLOMAND_DONE, "tick");
+        ticks++;
+    } while (state[port * FIXLOMAND_PORT_LEN] == FIXLOMAND_RUNNING);
+    tick_time += now() - begin;
+    tick_count += ticks;
+    return ticks;
+}
+
+static size_t receive(uint8_t port)
+{
+    size_t length = 0;
+    uint16_t given;
+    while (((given = fixlomand_give(LENT, port)) & 255) == FIXLOMAND_DONE) {
+        want(length < sizeof reply, "give");
+        reply[length++] = (uint8_t)(given >> 8);
+    }
+    return length;
+}
+
+/* A whole CALL; how many ticks. */
+static unsigned long call(uint8_t port, unsigned block, unsigned command, unsigned address, unsigned length,
+                          unsigned aux1, unsigned aux2, unsigned status)
+{
+    unsigned long ticks;
+    send_call(port, block, command, address, length, aux1, aux2);
+    ticks = run(port);
+    want(receive(port) == 7 && reply[3] == status, "a CALL");
+    return ticks;
+}
+
+static void specifications(void)
+{
+    memcpy(area, "E:S:K:P:", 8);
+    memcpy(area + PORT_AREA, "E:S:K:P:", 8);
+}
+
+static void open_screen(unsigned mode)
+{
+    specifications();
+    call(0, BLOCK_S, CLOSE, 0, 0, 0, 0, 1);
+    call(0, BLOCK_S, OPEN, AT_S, 0, R | W, mode, 1);
+}
+
+static void start(void)
+{
+    want(fixlomand_fresh(LENT) == FIXLOMAND_DONE, "fresh start");
+    specifications();
+    call(0, BLOCK_E, OPEN, AT_E, 0, R | W | FORCED, 0, 1);
+    call(0, BLOCK_K, OPEN, AT_K, 0, R, 0, 1);
+    call(1, BLOCK_P, OPEN, AT_P, 0, W, 0, 1);
+}
+
+/* A new paper, and the cursor home: no message does either alone, so the state is written between two calls, by its
+ * layout. */
+static void new_paper(void)
+{
+    state[FIXLOMAND_USED] = state[FIXLOMAND_USED + 1] = 0;
+}
+
+static void home(void)
+{
+    state[FIXLOMAND_ROW] = state[FIXLOMAND_COLUMN] = state[FIXLOMAND_COLUMN + 1] = 0;
+}
+
+/* ---- calls a second ---- */
+
+/* Kinds of work: each does it once and says how many calls that were. */
+static unsigned long fresh_once(void)
+{
+    want(fixlomand_fresh(LENT) == FIXLOMAND_DONE, "fresh start");
+    return 1;
+}
+
+static unsigned long take_many(void)
+{
+    /* an unknown tag's value is dropped, so that it can be long */
+    static const uint8_t header[] = {0x77, 0xFF, 0xFF};
+    send(0, header, sizeof header);
+    for (unsigned i = 0; i < 65535; i++)
+        fixlomand_take(LENT, 0, 1);
+    want(run(0) == 1 && receive(0) == 4 && reply[3] == 0x92, "an unknown tag");
+    return 65535 + 3 + 1 + 5;
+}
+
+static unsigned long give_many(void)
+{
+    static const uint8_t fetch[] = {0x12, 4, 0, 0, 0, 0, 1};
+    send(0, fetch, sizeof fetch);
+    want(run(0) == 1 && receive(0) == 260 && reply[3] == 1, "FETCH");
+    return 7 + 1 + 261;
+}
+
+static unsigned long load_once(void)
+{
+    static uint8_t load[261] = {0x11, 2, 1, 64};
+    send(0, load, sizeof load);
+    want(run(0) == 1 && receive(0) == 4 && reply[3] == 1, "LOAD");
+    return 261 + 1 + 5;
+}
+
+static unsigned long press_many(void)
+{
+    for (unsigned i = 0; i < 1000; i++)
+        fixlomand_press(LENT, (uint8_t)i);
+    return 1000;
+}
+
+static unsigned long idle_many(void)
+{
+    for (unsigned i = 0; i < 1000; i++)
+        fixlomand_tick(LENT, 0);
+    return 1000;
+}
+
+static unsigned long damaged_many(void)
+{
+    state[FIXLOMAND_MODE] ^= 1;
+    for (unsigned i = 0; i < 1000; i++)
+        fixlomand_tick(LENT, 0);
+    state[FIXLOMAND_MODE] ^= 1;
+    return 1000;
+}
+
+static unsigned long key_once(void)
+{
+    want(fixlomand_press(LENT, 0x3F) == FIXLOMAND_DONE, "press");
+    return 1 + 12 + call(0, BLOCK_K, GET_CHARACTERS, 64, 1, 0, 0, 1) + 8;
+}
+
+static unsigned long translate_many(void)
+{
+    unsigned sum = 0;
+    for (unsigned i = 0; i < 10000; i++)
+        sum += fixlomand_translate((uint8_t)i, (uint8_t)(i % 3), (uint8_t)(i & 1));
+    want(sum > 0, "translate");
+    return 10000;
+}
+
+static unsigned length_now;
+
+static unsigned long put_editor(void)
+{
+    return 12 + call(0, BLOCK_E, PUT_CHARACTERS, 0, length_now, 0, 0, 1) + 8;
+}
+
+static unsigned long get_editor(void)
+{
+    return 12 + call(0, BLOCK_E, GET_CHARACTERS, 0, length_now, 0, 0, 1) + 8;
+}
+
+static unsigned long put_screen(void)
+{
+    home();
+    return 12 + call(0, BLOCK_S, PUT_CHARACTERS, 0, length_now, 0, 0, 1) + 8;
+}
+
+static unsigned long put_printer(void)
+{
+    new_paper();
+    return 12 + call(1, BLOCK_P, PUT_CHARACTERS, 0, length_now, 0, 0, 1) + 8;
+}
+
+static unsigned long record_screen(void)
+{
+    unsigned long ticks;
+    home();
+    ticks = call(0, BLOCK_S, GET_RECORD, 64, 1, 0, 0, 0x8D);
+    want(ticks == 61442, "GET RECORD of a mode 8 screen (61,441 ticks after its start)");
+    return 12 + ticks + 8;
+}
+
+static unsigned long open_once(void)
+{
+    open_screen(8);
+    return 2 * (12 + 1 + 8);
+}
+
+enum { CALL, TICK };
+
+/* Seconds for a call of the work, or for a tick of it: those of the fastest of some turns, since what disturbs a turn only
+ * makes it slower. */
+static double measure(unsigned long (*work)(void), int of)
+{
+    double best = 0, begin = now();
+    do {
+        unsigned long calls = 0;
+        double turn = now(), spent;
+        tick_time = 0;
+        tick_count = 0;
+        do {
+            calls += work();
+            spent = now() - turn;
+        } while (spent < 0.02);
+        spent = of == TICK ? tick_time / (double)tick_count : spent / (double)calls;
+        if (best == 0 || spent < best)
+            best = spent;
+    } while (now() - begin < 0.3);
+    return best;
+}
+
+static void say(const char *what, unsigned long (*work)(void))
+{
+    double seconds = measure(work, CALL);
+    printf("%-48s%12.1f%16.0f\n", what, seconds * 1e9, 1 / seconds);
+    fflush(stdout);
+}
+
+/* The same for a whole request, with its calls and how often it can be made. */
+static void say_request(const char *what, unsigned long (*work)(void))
+{
+    double seconds = measure(work, CALL);
+    unsigned long calls = work();
+    printf("%-48s%12.1f%16.0f%12lu%20.1f\n", what, seconds * 1e9, 1 / seconds, calls, 1 / seconds / (double)calls);
+    fflush(stdout);
+}
+
+static void prepare(unsigned mode, unsigned length)
+{
+    start();
+    if (mode > 0)
+        open_screen(mode);
+    memset(area, 'A', sizeof area);
+    length_now = length;
+}
+
+static void say_kinds(void)
+{
+    printf("%-48s%12s%16s\n", "kind of call", "ns a call", "calls a second");
+    say("fresh start", fresh_once);
+    prepare(0, 0);
+    say("take a byte", take_many);
+    say("give a byte (a FETCH's reply)", give_many);
+    say("press a key", press_many);
+    say("tick, nothing ready", idle_many);
+    say("tick, damaged state", damaged_many);
+    say("key translation", translate_many);
+}
+
+static void say_requests(void)
+{
+    printf("\n%-48s%12s%16s%12s%20s\n", "whole requests: take, tick, give", "ns a call", "calls a second", "calls",
+           "requests a second");
+    prepare(0, 0);
+    say_request("LOAD of 256", load_once);
+    say_request("FETCH of 256", give_many);
+    say_request("a key pressed, and GET of it", key_once);
+    prepare(0, 16384);
+    say_request("PUT CHARACTERS of 16,384 to E, scrolling", put_editor);
+    prepare(0, 16384);
+    say_request("GET CHARACTERS of 16,384 from E", get_editor);
+    prepare(8, 16384);
+    say_request("PUT CHARACTERS of 16,384 to S, mode 8", put_screen);
+    prepare(8, 1);
+    say_request("GET RECORD of a mode 8 screen, 61,441 ticks", record_screen);
+    prepare(0, 4096);
+    say_request("PUT CHARACTERS of 4,096 to P", put_printer);
+    prepare(8, 0);
+    say_request("CLOSE of S and OPEN in mode 8", open_once);
+}
+
+/* ns a tick for requests of four lengths, the longest last. */
+static void say_growth(const char *what, unsigned mode, unsigned longest, unsigned long (*work)(void))
+{
+    printf("%-36s", what);
+    for (unsigned length = longest / 64; length <= longest; length *= 4) {
+        prepare(mode, length);
+        printf("%8u:%8.1f", length, measure(work, TICK) * 1e9);
+        fflush(stdout);
+    }
+    printf("\n");
+}
+
+static void say_lengths(void)
+{
+    printf("\nns a tick, by the request's length: it does not grow with it\n");
+    say_growth("PUT CHARACTERS to S, mode 8", 8, 16384, put_screen);
+    say_growth("PUT CHARACTERS to E, scrolling", 0, 16384, put_editor);
+    say_growth("GET CHARACTERS from E", 0, 16384, get_editor);
+    say_growth("PUT CHARACTERS to P", 0, 4096, put_printer);
+}
+
+/* ---- stack ---- */
+
+enum { STACK_LEN = 1 << 18, PAINT = 0xC5 };
+
+static uint8_t stack[STACK_LEN];
+static ucontext_t here, there;
+static void (*stack_work)(void);
+
+static void on_stack(void)
+{
+    stack_work();
+}
+
+/* The bytes below the stack's end that the work has written. */
+static size_t depth(void (*work)(void))
+{
+    size_t clean = 0;
+    memset(stack, PAINT, sizeof stack);
+    want(getcontext(&there) == 0, "getcontext");
+    there.uc_stack.ss_sp = stack;
+    there.uc_stack.ss_size = sizeof stack;
+    there.uc_link = &here;
+    stack_work = work;
+    makecontext(&there, on_stack, 0);
+    want(swapcontext(&here, &there) == 0, "swapcontext");
+    while (clean < sizeof stack && stack[clean] == PAINT)
+        clean++;
+    return sizeof stack - clean;
+}
+
+static void work_nothing(void)
+{
+}
+
+static void work_fresh(void)
+{
+    fixlomand_fresh(LENT);
+}
+
+static void work_take(void)
+{
+    fixlomand_take(LENT, 0, 0x11);
+}
+
+static void work_tick0(void)
+{
+    fixlomand_tick(LENT, 0);
+}
+
+static void work_tick1(void)
+{
+    fixlomand_tick(LENT, 1);
+}
+
+static void work_give(void)
+{
+    fixlomand_give(LENT, 0);
+}
+
+static void work_press(void)
+{
+    fixlomand_press(LENT, 0x3F);
+}
+
+static void work_translate(void)
+{
+    fixlomand_translate(0x3F, 1, 0);
+}
+
+static size_t deepest;
+
+static void say_depth(const char *what, void (*work)(void))
+{
+    size_t bytes = depth(work) - depth(work_nothing);
+    if (bytes > deepest)
+        deepest = bytes;
+    printf("  %-48s%8zu\n", what, bytes);
+}
+
+/* A CALL's start tick, and then its first character's. */
+static void say_call(const char *what, uint8_t port, unsigned block, unsigned command, unsigned length, unsigned aux1,
+                     unsigned aux2)
+{
+    char text[64];
+    send_call(port, block, command, command == OPEN ? AT_S : 0, length, aux1, aux2);
+    snprintf(text, sizeof text, "tick, %s, start", what);
+    say_depth(text, port == 0 ? work_tick0 : work_tick1);
+    if (length > 0) {
+        snprintf(text, sizeof text, "tick, %s, a character", what);
+        say_depth(text, port == 0 ? work_tick0 : work_tick1);
+        run(port);
+    }
+    receive(port);
+}
+
+static void say_stack(void)
+{
+    static const uint8_t fetch[] = {0x12, 4, 0, 0, 0, 0, 1};
+    static uint8_t load[261] = {0x11, 2, 1, 64};
+    printf("stack, bytes\n");
+    say_depth("fresh start", work_fresh);
+    start();
+    say_depth("tick, nothing ready", work_tick0);
+    say_depth("press", work_press);
+    say_depth("translate", work_translate);
+    say_depth("take", work_take);
+    send(0, load + 1, sizeof load - 1);
+    say_depth("tick, LOAD of 256", work_tick0);
+    say_depth("give", work_give);
+    receive(0);
+    send(0, fetch, sizeof fetch);
+    say_depth("tick, FETCH of 256", work_tick0);
+    receive(0);
+    area[0] = 0x9B; /* from the last row: scrolls */
+    state[FIXLOMAND_ROW] = 23;
+    say_call("PUT to E, a new row", 0, BLOCK_E, PUT_CHARACTERS, 2, 0, 0);
+    say_call("GET from E", 0, BLOCK_E, GET_CHARACTERS, 2, 0, 0);
+    say_call("GET from K", 0, BLOCK_K, GET_RECORD, 0, 0, 0);
+    say_depth("tick, GET from K, the character", work_tick0);
+    receive(0);
+    say_call("PUT to P", 1, BLOCK_P, PUT_CHARACTERS, 2, 0, 0);
+    specifications();
+    say_call("OPEN of S, mode 8", 0, BLOCK_S, OPEN, 0, R | W, 8);
+    say_call("PUT to S", 0, BLOCK_S, PUT_CHARACTERS, 2, 0, 0);
+    say_call("GET from S", 0, BLOCK_S, GET_CHARACTERS, 2, 0, 0);
+    say_call("PUT to E, which opens it again", 0, BLOCK_E, PUT_CHARACTERS, 2, 0, 0);
+    printf("  %-48s%8zu\n", "deepest", deepest);
+}
+
+int main(int words, char **word)
+{
+    if (words > 1 && strcmp(word[1], "stack") == 0) {
+        say_stack();
+        return 0;
+    }
+    say_kinds();
+    say_requests();
+    say_lengths();
+    return 0;
+}
