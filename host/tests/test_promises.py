@@ -14,7 +14,9 @@ CRATES = REPOSITORY / "crates"
 PROMISES = REPOSITORY / "docs" / "PROMISES.md"
 DECISIONS = REPOSITORY / "docs" / "DECISIONS.md"
 
-FILE = re.compile(r"[\w.-]+(/[\w.-]+)*/[\w.-]+\.(antt|rt|rs|py|md)|bench/stdout")
+FILE = re.compile(r"[\w.-]+(/[\w.-]+)*/[\w.-]+\.(antt|rt|rs|py|md|c|h)|bench/stdout")
+BESIDE = ("host/", "model/", "docs/", "firmware/include/", "firmware/tests/", "firmware/example/")
+"""Where a path is below the repository and not below crates/."""
 EDIT = re.compile(r"[a-z]+/\w+")
 WORDS = {"bench", "play", "rt ci", "./test", "crate/name", "crates/", "host/", "model/", "docs/"}
 WORDS |= {"specs", "src", "Decided.antt", "requires", "ensures", "match", "u8", "0x"}
@@ -30,6 +32,8 @@ DECLARED = {
     ".rs": (r"\bfn {}\b",),
     ".py": (r"\b(?:def|class) {}\b", r"^{}\b.* = "),
     ".md": (),
+    ".c": (),
+    ".h": (),
 }
 """How a name is declared, by the kind of file."""
 PART = {".antt": r"^ *pub record {}\b(?:.|\n)*?(?=\n\n|\Z)", ".rt": r"^impl {}\b(?:.|\n)*?(?=\n}})"}
@@ -66,7 +70,7 @@ def faults(text: str) -> list[str]:
             elif word == "./stick cases":
                 played = True
             elif FILE.fullmatch(word):
-                below = REPOSITORY if word.startswith(("host/", "model/", "docs/")) else CRATES
+                below = REPOSITORY if word.startswith(BESIDE) else CRATES
                 file, played = below / word, False
                 if not file.is_file():
                     wrong.append(f"no file {word}")
