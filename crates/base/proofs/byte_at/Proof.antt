@@ -1,3 +1,5 @@
+-- `byte_at` meets its contract, by `byte-past`.
+-- Assumes nothing.
 use Rattle.base.proofs.Lists.{byte-past}
 use borrow.Author.Needs.{needs}
 use Rattle.base.proofs.byte_at.Statement.{statement}

@@ -1,3 +1,5 @@
+-- `set_byte` meets its contract, by `set-past`.
+-- Assumes nothing.
 use Rattle.base.proofs.Lists.{set-past}
 use borrow.Author.Needs.{needs}
 use Rattle.base.proofs.set_byte.Statement.{statement}

@@ -1,3 +1,5 @@
+-- `colon_of` meets its contract, by `tests`.
+-- Assumes nothing.
 use Rattle.base.proofs.Tests.{tests}
 use Rattle.blocks.proofs.colon_of.Statement.{statement}
 use Rattle.blocks.proofs.colon_of.Tie as tie

@@ -1,3 +1,5 @@
+-- `device_of` meets its contract, by `tests`.
+-- Assumes nothing.
 use Rattle.base.proofs.Tests.{tests}
 use Rattle.blocks.specs.Opening.{deviceOf}
 use Rattle.blocks.proofs.device_of.Statement.{statement}

@@ -1,3 +1,5 @@
+-- `made` meets its contract, by `block-open`.
+-- Assumes nothing.
 use Rattle.blocks.proofs.Laws.{block-open}
 use borrow.Author.Needs.{needs}
 use Rattle.blocks.proofs.made.Statement.{statement}

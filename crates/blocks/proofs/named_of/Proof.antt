@@ -1,3 +1,5 @@
+-- `named_of` meets its contract, by `letter-unknown`, `letter-past` and `letter-known`.
+-- Assumes nothing.
 use Rattle.blocks.proofs.Laws.{letter-unknown, letter-past, letter-known}
 use borrow.Author.Needs.{needs}
 use Rattle.blocks.proofs.named_of.Statement.{statement}

@@ -1,3 +1,5 @@
+-- `number_of` meets its contract, by `number-low`, `number-high`, `number-past` and `number-digit`.
+-- Assumes nothing.
 use Rattle.blocks.proofs.Laws.{number-low, number-high, number-past, number-digit}
 use borrow.Author.Needs.{needs}
 use Rattle.blocks.proofs.number_of.Statement.{statement}

@@ -1,3 +1,5 @@
+-- `offers` meets its contract, by `offers-forced`, `offers-unread`, `offers-screen`, `offers-keys` and `offers-paper`.
+-- Assumes nothing.
 use Rattle.blocks.proofs.Laws.{offers-forced, offers-unread, offers-screen, offers-keys, offers-paper}
 use borrow.Author.Needs.{needs}
 use Rattle.blocks.proofs.offers.Statement.{statement}

@@ -1,3 +1,5 @@
+-- `open_made` meets its contract, by `open-low`, `open-high`, `open-offered` and `open-refused`.
+-- Assumes nothing.
 use Rattle.blocks.proofs.Laws.{open-low, open-high, open-offered, open-refused}
 use borrow.Author.Needs.{needs}
 use Rattle.blocks.proofs.open_made.Statement.{statement}

@@ -1,3 +1,5 @@
+-- `specification_at` meets its contract, by `address-past` and `address-in`.
+-- Assumes nothing.
 use Rattle.blocks.proofs.Laws.{address-past, address-in}
 use borrow.Author.Needs.{needs}
 use Rattle.blocks.proofs.specification_at.Statement.{statement}

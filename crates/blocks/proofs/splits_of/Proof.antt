@@ -1,3 +1,5 @@
+-- `splits_of` meets its contract, by `splits-screen`.
+-- Assumes nothing.
 use Rattle.blocks.proofs.Laws.{splits-screen}
 use borrow.Author.Needs.{needs}
 use Rattle.blocks.proofs.splits_of.Statement.{statement}

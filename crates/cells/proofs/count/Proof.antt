@@ -1,3 +1,5 @@
+-- `count` meets its contract, by `count-bound` and `count-of`.
+-- Assumes nothing.
 use Rattle.cells.proofs.Shapes.{count-bound, count-of}
 use borrow.Author.Needs.{needs}
 use Rattle.cells.proofs.count.Statement.{statement}

@@ -1,3 +1,5 @@
+-- `fill` meets its contract, by `count-in`, `part-count` and `fill-law`.
+-- Assumes nothing.
 use Rattle.cells.proofs.Parts.{count-in, part-count, fill-law}
 use borrow.Author.Needs.{needs}
 use Rattle.cells.proofs.fill.Statement.{statement}

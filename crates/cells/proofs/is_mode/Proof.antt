@@ -1,3 +1,5 @@
+-- `is_mode` meets its contract, by `tests`.
+-- Assumes nothing.
 use Rattle.base.proofs.Tests.{tests}
 use Rattle.cells.proofs.is_mode.Statement.{statement}
 use Rattle.cells.proofs.is_mode.Tie as tie

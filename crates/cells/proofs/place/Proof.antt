@@ -1,3 +1,5 @@
+-- `place` meets its contract, by `product-below`.
+-- Assumes nothing.
 use native.Mathlib.Omega.{arith}
 use Rattle.cells.proofs.Shapes.{product-below}
 use borrow.Author.Needs.{needs}

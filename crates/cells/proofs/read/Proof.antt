@@ -1,3 +1,5 @@
+-- `read` meets its contract, by `some-colours`, `colours-byte` and `read-law`.
+-- Assumes nothing.
 use Rattle.cells.proofs.Shapes.{some-colours, colours-byte, read-law}
 use borrow.Author.Needs.{needs}
 use Rattle.cells.proofs.read.Statement.{statement}

@@ -1,3 +1,5 @@
+-- `reduce` meets its contract, by `shape-colours`, `count-in`, `part-count` and `reduce-law`.
+-- Assumes nothing.
 use Rattle.cells.proofs.Shapes.{shape-colours}
 use Rattle.cells.proofs.Parts.{count-in, part-count, reduce-law}
 use borrow.Author.Needs.{needs}

@@ -1,3 +1,5 @@
+-- `row_of` meets its contract, by `tests`.
+-- Assumes nothing.
 use Rattle.base.proofs.Tests.{tests}
 use Rattle.cells.specs.Modes.{rowOf}
 use borrow.Author.Needs.{needs}

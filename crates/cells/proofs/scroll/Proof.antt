@@ -1,3 +1,5 @@
+-- `scroll` meets its contract, by `rows-part` and `scroll-law`.
+-- Assumes nothing.
 use Rattle.cells.proofs.Parts.{rows-part, scroll-law}
 use borrow.Author.Needs.{needs}
 use Rattle.cells.proofs.scroll.Statement.{statement}

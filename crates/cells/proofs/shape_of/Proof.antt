@@ -1,3 +1,5 @@
+-- `shape_of` meets its contract, by `shape-row` and `shape-none`.
+-- Assumes nothing.
 use Rattle.cells.specs.Modes.{modes}
 use Rattle.cells.proofs.Shapes.{shape-row, shape-none}
 use borrow.Author.Needs.{needs}

@@ -1,3 +1,5 @@
+-- `write` meets its contract, by `some-colours`, `colours-byte` and `write-law`.
+-- Assumes nothing.
 use Rattle.cells.proofs.Shapes.{some-colours, colours-byte, write-law}
 use borrow.Author.Needs.{needs}
 use Rattle.cells.proofs.write.Statement.{statement}

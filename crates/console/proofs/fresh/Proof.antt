@@ -1,3 +1,5 @@
+-- `fresh` meets its contract, by `fresh-law`.
+-- Assumes nothing.
 use Rattle.console.proofs.Acts.{fresh-law}
 use borrow.Author.Needs.{needs}
 use Rattle.console.proofs.fresh.Statement.{statement}

@@ -1,3 +1,5 @@
+-- `open` meets its contract, by `open-e`, `open-s` and `open-k`.
+-- Assumes nothing.
 use Rattle.console.proofs.Acts.{open-e, open-s, open-k}
 use borrow.Author.Needs.{needs}
 use Rattle.console.proofs.open.Statement.{statement}

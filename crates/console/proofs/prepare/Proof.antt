@@ -1,3 +1,5 @@
+-- `prepare` meets its contract, by `prepare-e`, `prepare-s` and `prepare-k`.
+-- Assumes nothing.
 use Rattle.console.proofs.Acts.{prepare-e, prepare-s, prepare-k}
 use borrow.Author.Needs.{needs}
 use Rattle.console.proofs.prepare.Statement.{statement}

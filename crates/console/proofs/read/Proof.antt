@@ -1,3 +1,5 @@
+-- `read` meets its contract, by `read-e`, `read-s` and `read-k`.
+-- Assumes nothing.
 use Rattle.console.proofs.Acts.{read-e, read-s, read-k}
 use borrow.Author.Needs.{needs}
 use Rattle.console.proofs.read.Statement.{statement}

@@ -1,3 +1,5 @@
+-- `write` meets its contract, by `write-e`, `write-s` and `write-k`.
+-- Assumes nothing.
 use Rattle.console.proofs.Acts.{write-e, write-s, write-k}
 use borrow.Author.Needs.{needs}
 use Rattle.console.proofs.write.Statement.{statement}

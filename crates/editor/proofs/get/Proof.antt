@@ -1,3 +1,5 @@
+-- `get` meets its contract, by `get-cell` and `get-row`.
+-- Assumes nothing.
 use Rattle.editor.proofs.Gets.{get-cell, get-row}
 use borrow.Author.Needs.{needs}
 use Rattle.editor.proofs.get.Statement.{statement}

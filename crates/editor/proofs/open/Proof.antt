@@ -1,3 +1,5 @@
+-- `open` meets its contract, by `open-law`.
+-- Assumes nothing.
 use Rattle.editor.proofs.Puts.{open-law}
 use borrow.Author.Needs.{needs}
 use Rattle.editor.proofs.open.Statement.{statement}

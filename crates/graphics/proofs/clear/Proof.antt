@@ -1,3 +1,5 @@
+-- `clear` meets its contract, by `clear-law`.
+-- Assumes nothing.
 use Rattle.graphics.proofs.Acts.{clear-law}
 use borrow.Author.Needs.{needs}
 use Rattle.graphics.proofs.clear.Statement.{statement}

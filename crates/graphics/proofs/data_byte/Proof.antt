@@ -1,3 +1,5 @@
+-- `data_byte` meets its contract, by `data-law`.
+-- Assumes nothing.
 use Rattle.graphics.proofs.Acts.{data-law}
 use borrow.Author.Needs.{needs}
 use Rattle.graphics.proofs.data_byte.Statement.{statement}

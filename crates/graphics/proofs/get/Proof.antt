@@ -1,3 +1,5 @@
+-- `get` meets its contract, by `get-cell` and `get-past`.
+-- Assumes nothing.
 use Rattle.graphics.proofs.Acts.{get-cell, get-past}
 use borrow.Author.Needs.{needs}
 use Rattle.graphics.proofs.get.Statement.{statement}

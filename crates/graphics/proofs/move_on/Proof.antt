@@ -1,3 +1,5 @@
+-- `move_on` meets its contract, by `on-right` and `on-next`.
+-- Assumes nothing.
 use Rattle.graphics.proofs.Acts.{on-right, on-next}
 use borrow.Author.Needs.{needs}
 use Rattle.graphics.proofs.move_on.Statement.{statement}

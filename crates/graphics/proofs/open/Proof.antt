@@ -1,3 +1,5 @@
+-- `open` meets its contract, by `open-bit`, `open-low`, `open-high` and `open-law`.
+-- Assumes nothing.
 use Rattle.graphics.proofs.Acts.{open-bit, open-low, open-high, open-law}
 use borrow.Author.Needs.{needs}
 use Rattle.graphics.proofs.open.Statement.{statement}

@@ -1,3 +1,5 @@
+-- `put` meets its contract, by `put-clear`, `put-past`, `put-row` and `put-data`.
+-- Assumes nothing.
 use Rattle.graphics.proofs.Acts.{put-clear, put-past, put-row, put-data}
 use borrow.Author.Needs.{needs}
 use Rattle.graphics.proofs.put.Statement.{statement}

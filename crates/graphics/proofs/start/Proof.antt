@@ -1,3 +1,5 @@
+-- `start` meets its contract, by `start-kept` and `start-zero`.
+-- Assumes nothing.
 use Rattle.graphics.proofs.Acts.{start-kept, start-zero}
 use borrow.Author.Needs.{needs}
 use Rattle.graphics.proofs.start.Statement.{statement}

@@ -1,3 +1,5 @@
+-- `advance` meets its contract, by `advance-e`, `advance-s`, `advance-k` and `advance-p`.
+-- Assumes nothing.
 use Rattle.port.proofs.Acts.{advance-e, advance-s, advance-k, advance-p}
 use borrow.Author.Needs.{needs}
 use Rattle.port.proofs.advance.Statement.{statement}

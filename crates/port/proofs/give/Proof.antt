@@ -1,3 +1,5 @@
+-- `give` meets its contract, by `give-gathering`, `give-ready`, `give-running` and `give-replying`.
+-- Assumes nothing.
 use Rattle.port.proofs.Acts.{give-gathering, give-ready, give-running, give-replying}
 use borrow.Author.Needs.{needs}
 use Rattle.port.proofs.give.Statement.{statement}

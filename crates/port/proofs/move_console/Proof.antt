@@ -1,3 +1,5 @@
+-- `move_console` meets its contract, by `console-move`.
+-- Assumes nothing.
 use Rattle.port.proofs.Acts.{console-move}
 use borrow.Author.Needs.{needs}
 use Rattle.port.proofs.move_console.Statement.{statement}

@@ -1,3 +1,5 @@
+-- `start` meets its contract, by `start-free`, `start-console` and `start-printer`.
+-- Assumes nothing.
 use Rattle.port.proofs.Acts.{start-free, start-console, start-printer}
 use borrow.Author.Needs.{needs}
 use Rattle.port.proofs.start.Statement.{statement}

@@ -1,3 +1,5 @@
+-- `take` meets its contract, by `take-gathering`, `take-ready`, `take-running` and `take-replying`.
+-- Assumes nothing.
 use Rattle.port.proofs.Acts.{take-gathering, take-ready, take-running, take-replying}
 use borrow.Author.Needs.{needs}
 use Rattle.port.proofs.take.Statement.{statement}

@@ -1,3 +1,5 @@
+-- `tick` meets its contract, by `goes-on`, `tick-gathering`, `tick-ready`, `tick-running` and `tick-replying`.
+-- Assumes nothing.
 use Rattle.port.proofs.Acts.{goes-on, tick-gathering, tick-ready, tick-running, tick-replying}
 use borrow.Author.Needs.{needs}
 use Rattle.port.proofs.tick.Statement.{statement}

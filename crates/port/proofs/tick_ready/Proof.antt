@@ -1,3 +1,5 @@
+-- `tick_ready` meets its contract, by `ready-held` and `ready-start`.
+-- Assumes nothing.
 use Rattle.port.proofs.Acts.{ready-held, ready-start}
 use borrow.Author.Needs.{needs}
 use Rattle.port.proofs.tick_ready.Statement.{statement}

@@ -1,3 +1,5 @@
+-- `tick_running` meets its contract, by `running-tick`.
+-- Assumes nothing.
 use Rattle.port.proofs.Acts.{running-tick}
 use borrow.Author.Needs.{needs}
 use Rattle.port.proofs.tick_running.Statement.{statement}

@@ -1,3 +1,5 @@
+-- `fresh` meets its contract, by `lengths-fit`, `fresh-done` and `fresh-refused`.
+-- Assumes nothing.
 use Rattle.stick.proofs.Guards.{lengths-fit}
 use Rattle.stick.proofs.Acts.{fresh-done, fresh-refused}
 use borrow.Author.Needs.{needs}

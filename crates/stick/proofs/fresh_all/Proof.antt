@@ -1,3 +1,5 @@
+-- `fresh_all` meets its contract, by `fresh-law`.
+-- Assumes nothing.
 use Rattle.stick.proofs.Acts.{fresh-law}
 use borrow.Author.Needs.{needs}
 use Rattle.stick.proofs.fresh_all.Statement.{statement}

@@ -1,3 +1,5 @@
+-- `fresh_stick` meets its contract, by `fresh-with`.
+-- Assumes nothing.
 use Rattle.stick.proofs.Acts.{fresh-with}
 use borrow.Author.Needs.{needs}
 use Rattle.stick.proofs.fresh_stick.Statement.{statement}

@@ -1,3 +1,5 @@
+-- `give` meets its contract, by `guarded-of`, `give-port-0`, `give-port-1` and `give-refused`.
+-- Assumes nothing.
 use Rattle.stick.proofs.Guards.{guarded-of}
 use Rattle.stick.proofs.Acts.{give-port-0, give-port-1, give-refused}
 use borrow.Author.Needs.{needs}

@@ -1,3 +1,5 @@
+-- `give_0` meets its contract, by `room-first` and `give-0`.
+-- Assumes nothing.
 use Rattle.stick.proofs.Acts.{room-first, give-0}
 use borrow.Author.Needs.{needs}
 use Rattle.stick.proofs.give_0.Statement.{statement}

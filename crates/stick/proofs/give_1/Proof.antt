@@ -1,3 +1,5 @@
+-- `give_1` meets its contract, by `give-1`.
+-- Assumes nothing.
 use Rattle.stick.proofs.Acts.{give-1}
 use borrow.Author.Needs.{needs}
 use Rattle.stick.proofs.give_1.Statement.{statement}

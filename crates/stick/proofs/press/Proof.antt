@@ -1,3 +1,5 @@
+-- `press` meets its contract, by `press-done` and `press-refused`.
+-- Assumes nothing.
 use Rattle.stick.proofs.Acts.{press-done, press-refused}
 use borrow.Author.Needs.{needs}
 use Rattle.stick.proofs.press.Statement.{statement}

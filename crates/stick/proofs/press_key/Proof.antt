@@ -1,3 +1,5 @@
+-- `press_key` meets its contract, by `press-held` and `press-free`.
+-- Assumes nothing.
 use Rattle.stick.proofs.Acts.{press-held, press-free}
 use borrow.Author.Needs.{needs}
 use Rattle.stick.proofs.press_key.Statement.{statement}

@@ -1,3 +1,5 @@
+-- `take` meets its contract, by `guarded-of`, `take-port-0`, `take-port-1` and `take-refused`.
+-- Assumes nothing.
 use Rattle.stick.proofs.Guards.{guarded-of}
 use Rattle.stick.proofs.Acts.{take-port-0, take-port-1, take-refused}
 use borrow.Author.Needs.{needs}

@@ -1,3 +1,5 @@
+-- `take_0` meets its contract, by `room-first` and `take-0`.
+-- Assumes nothing.
 use Rattle.stick.proofs.Acts.{room-first, take-0}
 use borrow.Author.Needs.{needs}
 use Rattle.stick.proofs.take_0.Statement.{statement}

@@ -1,3 +1,5 @@
+-- `take_1` meets its contract, by `take-1`.
+-- Assumes nothing.
 use Rattle.stick.proofs.Acts.{take-1}
 use borrow.Author.Needs.{needs}
 use Rattle.stick.proofs.take_1.Statement.{statement}

@@ -1,3 +1,5 @@
+-- `tick` meets its contract, by `guarded-of`, `tick-port-0`, `tick-port-1` and `tick-refused`.
+-- Assumes nothing.
 use Rattle.stick.proofs.Guards.{guarded-of}
 use Rattle.stick.proofs.Acts.{tick-port-0, tick-port-1, tick-refused}
 use borrow.Author.Needs.{needs}

@@ -1,3 +1,5 @@
+-- `tick_0` meets its contract, by `ticks-0`, `room-first`, `area-first` and `tick-0`.
+-- Assumes nothing.
 use Rattle.stick.proofs.Guards.{ticks-0}
 use Rattle.stick.proofs.Acts.{room-first, area-first, tick-0}
 use borrow.Author.Needs.{needs}

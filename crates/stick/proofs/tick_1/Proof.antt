@@ -1,3 +1,5 @@
+-- `tick_1` meets its contract, by `ticks-1` and `tick-1`.
+-- Assumes nothing.
 use Rattle.stick.proofs.Guards.{ticks-1}
 use Rattle.stick.proofs.Acts.{tick-1}
 use borrow.Author.Needs.{needs}

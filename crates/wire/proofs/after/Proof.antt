@@ -1,3 +1,5 @@
+-- `after` meets its contract, by `tests`.
+-- Assumes nothing.
 use Rattle.base.proofs.Tests.{tests}
 use Rattle.wire.specs.Messages.{afterOf}
 use borrow.Author.Needs.{needs}

@@ -1,3 +1,5 @@
+-- `bad_status` meets its contract, by `tests`.
+-- Assumes nothing.
 use Rattle.base.proofs.Tests.{tests}
 use Rattle.wire.specs.Messages.{badStatus}
 use Rattle.wire.proofs.bad_status.Statement.{statement}

@@ -1,3 +1,5 @@
+-- `call_of` meets its contract, by `call-read`.
+-- Assumes nothing.
 use Rattle.wire.proofs.Laws.{call-read}
 use borrow.Author.Needs.{needs}
 use Rattle.wire.proofs.call_of.Statement.{statement}

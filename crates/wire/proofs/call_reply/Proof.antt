@@ -1,3 +1,5 @@
+-- `call_reply` meets its contract, by `call-made`.
+-- Assumes nothing.
 use Rattle.wire.proofs.Stores.{call-made}
 use borrow.Author.Needs.{needs}
 use Rattle.wire.proofs.call_reply.Statement.{statement}

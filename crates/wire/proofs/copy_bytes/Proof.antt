@@ -1,3 +1,5 @@
+-- `copy_bytes` meets its contract, by `copy-none`, `copy-turn` and `copy-all`.
+-- Assumes nothing.
 use mathlib.Core.Path.{_≡_}
 use Prim.Native.Nat.{_≤_, _-_}
 use borrow.Author.Needs.{needs}

@@ -1,3 +1,5 @@
+-- `fetch_reply` meets its contract, by `fetch-few`, `fetch-many`, `fetch-past` and `fetch-made`.
+-- Assumes nothing.
 use Rattle.wire.proofs.Stores.{fetch-few, fetch-many, fetch-past, fetch-made}
 use borrow.Author.Needs.{needs}
 use Rattle.wire.proofs.fetch_reply.Statement.{statement}

@@ -1,3 +1,5 @@
+-- `field_is_good` meets its contract, by `tests`.
+-- Assumes nothing.
 use Rattle.base.proofs.Tests.{tests}
 use Rattle.wire.specs.Messages.{goodField}
 use Rattle.wire.proofs.field_is_good.Statement.{statement}

@@ -1,3 +1,5 @@
+-- `gather_fits` meets its contract, by `tests`.
+-- Assumes nothing.
 use Rattle.base.proofs.Tests.{tests}
 use Rattle.wire.specs.Fits.{gatherFits}
 use borrow.Author.Needs.{needs}

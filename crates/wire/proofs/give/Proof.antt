@@ -1,3 +1,5 @@
+-- `give` meets its contract, by `give-last` and `give-more`.
+-- Assumes nothing.
 use Rattle.wire.proofs.Stores.{give-last, give-more}
 use borrow.Author.Needs.{needs}
 use Rattle.wire.proofs.give.Statement.{statement}

@@ -1,3 +1,5 @@
+-- `keep` meets its contract, by `keep-good` and `keep-bad`.
+-- Assumes nothing.
 use Rattle.wire.proofs.Laws.{keep-good, keep-bad}
 use borrow.Author.Needs.{needs}
 use Rattle.wire.proofs.keep.Statement.{statement}

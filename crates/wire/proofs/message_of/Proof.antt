@@ -1,3 +1,5 @@
+-- `message_of` meets its contract, by `load-size`, `says-bad`, `says-call`, `says-load` and `says-fetch`.
+-- Assumes nothing.
 use Rattle.wire.proofs.Laws.{load-size, says-bad, says-call, says-load, says-fetch}
 use borrow.Author.Needs.{needs}
 use Rattle.wire.proofs.message_of.Statement.{statement}

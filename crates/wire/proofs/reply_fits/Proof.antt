@@ -1,3 +1,5 @@
+-- `reply_fits` meets its contract, by `tests`.
+-- Assumes nothing.
 use Rattle.base.proofs.Tests.{tests}
 use Rattle.wire.specs.Fits.{replyFits}
 use borrow.Author.Needs.{needs}

@@ -1,3 +1,5 @@
+-- `set_header` meets its contract, by `header-set`.
+-- Assumes nothing.
 use Rattle.wire.proofs.Stores.{header-set}
 use borrow.Author.Needs.{needs}
 use Rattle.wire.proofs.set_header.Statement.{statement}

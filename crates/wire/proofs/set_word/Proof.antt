@@ -1,3 +1,5 @@
+-- `set_word` meets its contract, by `word-set`.
+-- Assumes nothing.
 use Rattle.wire.proofs.Stores.{word-set}
 use borrow.Author.Needs.{needs}
 use Rattle.wire.proofs.set_word.Statement.{statement}

@@ -1,3 +1,5 @@
+-- `status_reply` meets its contract, by `status-made`.
+-- Assumes nothing.
 use Rattle.wire.proofs.Stores.{status-made}
 use borrow.Author.Needs.{needs}
 use Rattle.wire.proofs.status_reply.Statement.{statement}

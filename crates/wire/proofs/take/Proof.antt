@@ -1,3 +1,5 @@
+-- `take` meets its contract, by `take-tag`, `take-low`, `take-high` and `take-value`.
+-- Assumes nothing.
 use Rattle.wire.proofs.Laws.{take-tag, take-low, take-high, take-value}
 use borrow.Author.Needs.{needs}
 use Rattle.wire.proofs.take.Statement.{statement}

@@ -1,3 +1,5 @@
+-- `fresh` meets its contract, by `fresh-port`.
+-- Assumes nothing.
 use Rattle.blocks.proofs.Laws.{fresh-port}
 use borrow.Author.Needs.{needs}
 use Rattle.blocks.proofs.Port.fresh.Statement.{statement}

@@ -1,3 +1,5 @@
+-- `block` meets its contract, by `block-past`.
+-- Assumes nothing.
 use Rattle.blocks.proofs.Laws.{block-past}
 use borrow.Author.Needs.{needs}
 use Rattle.blocks.proofs.Table.block.Statement.{statement}

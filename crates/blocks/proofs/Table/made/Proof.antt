@@ -1,3 +1,5 @@
+-- `made` meets its contract, by `turn-made`, `turn-damaged` and `turn-last`.
+-- Assumes nothing.
 use mathlib.Core.Path.{_≡_}
 use Prim.Native.Nat.{_≤_, _-_}
 use borrow.Author.Needs.{needs}

@@ -1,3 +1,5 @@
+-- `with_block` meets its contract, by `with-past`.
+-- Assumes nothing.
 use Rattle.blocks.proofs.Laws.{with-past}
 use borrow.Author.Needs.{needs}
 use Rattle.blocks.proofs.Table.with_block.Statement.{statement}

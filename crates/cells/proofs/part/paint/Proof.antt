@@ -1,3 +1,5 @@
+-- `paint` meets its contract, by `paint-step` and `painted`.
+-- Assumes nothing.
 use Prim.Native.Nat.{_≤_, _-_}
 use mathlib.Core.Path.{_≡_, refl}
 use mathlib.Core.List.{_++_}

@@ -1,3 +1,5 @@
+-- `raise` meets its contract, by `raise-step` and `raised-all`.
+-- Assumes nothing.
 use Prim.Native.Nat.{_≤_, _-_, _+_}
 use mathlib.Core.Path.{_≡_, refl}
 use mathlib.Core.List.{_++_}

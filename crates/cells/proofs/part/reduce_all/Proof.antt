@@ -1,3 +1,5 @@
+-- `reduce_all` meets its contract, by `cell-byte`, `reduce-step` and `reduced-all`.
+-- Assumes nothing.
 use Prim.Native.Nat.{_≤_, _-_}
 use mathlib.Core.Path.{_≡_, refl}
 use mathlib.Core.List.{_++_}

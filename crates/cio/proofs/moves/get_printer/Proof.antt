@@ -1,3 +1,5 @@
+-- `get_printer` meets its contract, by `get-law`.
+-- Assumes nothing.
 use Rattle.cio.proofs.Starts.{get-law}
 use borrow.Author.Needs.{needs}
 use Rattle.cio.proofs.moves.get_printer.Statement.{statement}

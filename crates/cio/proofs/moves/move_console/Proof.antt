@@ -1,3 +1,5 @@
+-- `move_console` meets its contract, by `moves-get`, `moves-put`, `move-get` and `move-put`.
+-- Assumes nothing.
 use Rattle.cio.proofs.Starts.{moves-get, moves-put, move-get, move-put}
 use borrow.Author.Needs.{needs}
 use Rattle.cio.proofs.moves.move_console.Statement.{statement}

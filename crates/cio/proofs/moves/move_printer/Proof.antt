@@ -1,3 +1,5 @@
+-- `move_printer` meets its contract, by `spans-get`, `spans-put`, `move-get` and `move-put`.
+-- Assumes nothing.
 use Rattle.cio.proofs.Starts.{spans-get, spans-put, move-get, move-put}
 use borrow.Author.Needs.{needs}
 use Rattle.cio.proofs.moves.move_printer.Statement.{statement}

@@ -1,3 +1,5 @@
+-- `put_printer` meets its contract, by `put-law`.
+-- Assumes nothing.
 use Rattle.cio.proofs.Starts.{put-law}
 use borrow.Author.Needs.{needs}
 use Rattle.cio.proofs.moves.put_printer.Statement.{statement}

@@ -1,3 +1,5 @@
+-- `area_plan` meets its contract, by `area-one`, `area-in` and `area-past`.
+-- Assumes nothing.
 use Rattle.cio.proofs.Plans.{area-one, area-in, area-past}
 use borrow.Author.Needs.{needs}
 use Rattle.cio.proofs.plan.area_plan.Statement.{statement}

@@ -1,3 +1,5 @@
+-- `call_plan` meets its contract, by `call-high` and `call-low`.
+-- Assumes nothing.
 use Rattle.cio.proofs.Plans.{call-high, call-low}
 use borrow.Author.Needs.{needs}
 use Rattle.cio.proofs.plan.call_plan.Statement.{statement}

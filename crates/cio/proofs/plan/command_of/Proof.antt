@@ -1,3 +1,5 @@
+-- `command_of` meets its contract, by `tests`.
+-- Assumes nothing.
 use Rattle.base.proofs.Tests.{tests}
 use Rattle.cio.specs.Plan.{commandOf}
 use Rattle.cio.proofs.plan.command_of.Statement.{statement}

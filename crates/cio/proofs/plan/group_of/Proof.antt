@@ -1,3 +1,5 @@
+-- `group_of` meets its contract, by `group-free`, `group-console` and `group-printer`.
+-- Assumes nothing.
 use Rattle.cio.proofs.Plans.{group-free, group-console, group-printer}
 use borrow.Author.Needs.{needs}
 use Rattle.cio.proofs.plan.group_of.Statement.{statement}

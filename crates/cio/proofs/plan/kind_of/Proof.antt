@@ -1,3 +1,5 @@
+-- `kind_of` meets its contract, by `kind-get` and `kind-put`.
+-- Assumes nothing.
 use Rattle.cio.proofs.Plans.{kind-get, kind-put}
 use Rattle.cio.proofs.plan.kind_of.Statement.{statement}
 use Rattle.cio.proofs.plan.kind_of.Tie as tie

@@ -1,3 +1,5 @@
+-- `open_plan` meets its contract, by `open-refused` and `open-names`.
+-- Assumes nothing.
 use Rattle.cio.proofs.Plans.{open-refused, open-names}
 use borrow.Author.Needs.{needs}
 use Rattle.cio.proofs.plan.open_plan.Statement.{statement}

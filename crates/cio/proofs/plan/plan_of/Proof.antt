@@ -1,3 +1,5 @@
+-- `plan_of` meets its contract, by `plan-call`, `plan-load`, `plan-fetch` and `plan-bad`.
+-- Assumes nothing.
 use Rattle.cio.proofs.Plans.{plan-call, plan-load, plan-fetch, plan-bad}
 use borrow.Author.Needs.{needs}
 use Rattle.cio.proofs.plan.plan_of.Statement.{statement}

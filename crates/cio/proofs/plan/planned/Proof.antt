@@ -1,3 +1,5 @@
+-- `planned` meets its contract, by `planned-e`, `planned-s`, `planned-k` and `planned-p`.
+-- Assumes nothing.
 use Rattle.cio.proofs.Plans.{planned-e, planned-s, planned-k, planned-p}
 use borrow.Author.Needs.{needs}
 use Rattle.cio.proofs.plan.planned.Statement.{statement}

@@ -1,3 +1,5 @@
+-- `transfer_plan` meets its contract, by `transfer-read`, `transfer-83`, `transfer-write` and `transfer-87`.
+-- Assumes nothing.
 use Rattle.cio.proofs.Plans.{transfer-read, transfer-83, transfer-write, transfer-87}
 use borrow.Author.Needs.{needs}
 use Rattle.cio.proofs.plan.transfer_plan.Statement.{statement}

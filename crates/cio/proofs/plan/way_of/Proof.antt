@@ -1,3 +1,5 @@
+-- `way_of` meets its contract, by `way-one`, `way-record` and `way-characters`.
+-- Assumes nothing.
 use Rattle.cio.proofs.Plans.{way-one, way-record, way-characters}
 use Rattle.cio.proofs.plan.way_of.Statement.{statement}
 use Rattle.cio.proofs.plan.way_of.Tie as tie

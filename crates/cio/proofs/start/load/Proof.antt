@@ -1,3 +1,5 @@
+-- `load` meets its contract, by `load-in` and `load-past`.
+-- Assumes nothing.
 use Rattle.cio.proofs.Starts.{load-in, load-past}
 use borrow.Author.Needs.{needs}
 use Rattle.cio.proofs.start.load.Statement.{statement}

@@ -1,3 +1,5 @@
+-- `over` meets its contract, by `over-law`.
+-- Assumes nothing.
 use Rattle.cio.proofs.Starts.{over-law}
 use borrow.Author.Needs.{needs}
 use Rattle.cio.proofs.start.over.Statement.{statement}

@@ -1,3 +1,5 @@
+-- `prepared` meets its contract, by `prepared-run` and `prepared-refused`.
+-- Assumes nothing.
 use Rattle.cio.proofs.Starts.{prepared-run, prepared-refused}
 use borrow.Author.Needs.{needs}
 use Rattle.cio.proofs.start.prepared.Statement.{statement}

@@ -1,3 +1,5 @@
+-- `run_errand` meets its contract, by `errand-status`, `errand-load`, `errand-fetch` and `errand-bad`.
+-- Assumes nothing.
 use Rattle.cio.proofs.Starts.{errand-status, errand-load, errand-fetch, errand-bad}
 use borrow.Author.Needs.{needs}
 use Rattle.cio.proofs.start.run_errand.Statement.{statement}

@@ -1,3 +1,5 @@
+-- `settle` meets its contract, by `settle-stay`, `settle-status`, `settle-special` and `settle-refused`.
+-- Assumes nothing.
 use Rattle.cio.proofs.Starts.{settle-stay, settle-status, settle-special, settle-refused}
 use borrow.Author.Needs.{needs}
 use Rattle.cio.proofs.start.settle.Statement.{statement}

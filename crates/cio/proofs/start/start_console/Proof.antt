@@ -1,3 +1,5 @@
+-- `start_console` meets its contract, by `start-close`, `start-answer`, `start-open` and `start-transfer`.
+-- Assumes nothing.
 use Rattle.cio.proofs.Starts.{start-close, start-answer, start-open, start-transfer}
 use borrow.Author.Needs.{needs}
 use Rattle.cio.proofs.start.start_console.Statement.{statement}

@@ -1,3 +1,5 @@
+-- `start_printer` meets its contract, by `start-close`, `start-answer`, `start-open` and `start-transfer-still`.
+-- Assumes nothing.
 use Rattle.cio.proofs.Starts.{start-close, start-answer, start-open, start-transfer-still}
 use borrow.Author.Needs.{needs}
 use Rattle.cio.proofs.start.start_printer.Statement.{statement}

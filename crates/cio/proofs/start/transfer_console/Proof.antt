@@ -1,3 +1,5 @@
+-- `transfer_console` meets its contract, by `transfer-law`.
+-- Assumes nothing.
 use Rattle.cio.proofs.Starts.{transfer-law}
 use borrow.Author.Needs.{needs}
 use Rattle.cio.proofs.start.transfer_console.Statement.{statement}

@@ -1,3 +1,5 @@
+-- `after_get` meets its contract, by `got-character` and `got-refused`.
+-- Assumes nothing.
 use Rattle.cio.proofs.Transfers.{got-character, got-refused}
 use borrow.Author.Needs.{needs}
 use Rattle.cio.proofs.transfer.after_get.Statement.{statement}

@@ -1,3 +1,5 @@
+-- `after_put` meets its contract, by `sent-success` and `sent-refused`.
+-- Assumes nothing.
 use Rattle.cio.proofs.Transfers.{sent-success, sent-refused}
 use borrow.Author.Needs.{needs}
 use Rattle.cio.proofs.transfer.after_put.Statement.{statement}

@@ -1,3 +1,5 @@
+-- `byte_to_send` meets its contract, by `send-one`, `send-characters`, `send-eol` and `send-record`.
+-- Assumes nothing.
 use Rattle.cio.proofs.Transfers.{send-one, send-characters, send-eol, send-record}
 use borrow.Author.Needs.{needs}
 use Rattle.cio.proofs.transfer.byte_to_send.Statement.{statement}

@@ -1,3 +1,5 @@
+-- `get_character` meets its contract, by `span-characters`, `span-same`, `character-one` and `character-way`.
+-- Assumes nothing.
 use Rattle.cio.proofs.Transfers.{span-characters, span-same, character-one, character-way}
 use borrow.Author.Needs.{needs}
 use Rattle.cio.proofs.transfer.get_character.Statement.{statement}

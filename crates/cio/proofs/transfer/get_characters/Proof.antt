@@ -1,3 +1,5 @@
+-- `get_characters` meets its contract, by `got-characters`.
+-- Assumes nothing.
 use Rattle.cio.proofs.Transfers.{got-characters}
 use borrow.Author.Needs.{needs}
 use Rattle.cio.proofs.transfer.get_characters.Statement.{statement}

@@ -1,3 +1,5 @@
+-- `get_record` meets its contract, by `drop-end`, `drop-on`, `got-record` and `span-record`.
+-- Assumes nothing.
 use Rattle.cio.proofs.Transfers.{drop-end, drop-on, got-record, span-record}
 use borrow.Author.Needs.{needs}
 use Rattle.cio.proofs.transfer.get_record.Statement.{statement}

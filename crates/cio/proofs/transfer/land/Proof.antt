@@ -1,3 +1,5 @@
+-- `land` meets its contract, by `land-on` and `land-off`.
+-- Assumes nothing.
 use Rattle.cio.proofs.Transfers.{land-on, land-off}
 use borrow.Author.Needs.{needs}
 use Rattle.cio.proofs.transfer.land.Statement.{statement}

@@ -1,3 +1,5 @@
+-- `onward` meets its contract, by `onward-end` and `onward-on`.
+-- Assumes nothing.
 use Rattle.cio.proofs.Transfers.{onward-end, onward-on}
 use borrow.Author.Needs.{needs}
 use Rattle.cio.proofs.transfer.onward.Statement.{statement}

@@ -1,3 +1,5 @@
+-- `put_character` meets its contract, by `span-characters`, `span-same`, `sent-one`, `sent-characters` and `sent-record`.
+-- Assumes nothing.
 use Rattle.cio.proofs.Transfers.{span-characters, span-same, sent-one, sent-characters, sent-record}
 use borrow.Author.Needs.{needs}
 use Rattle.cio.proofs.transfer.put_character.Statement.{statement}

@@ -1,3 +1,5 @@
+-- `put_record` meets its contract, by `sent-record-end`, `sent-record-on` and `span-record`.
+-- Assumes nothing.
 use Rattle.cio.proofs.Transfers.{sent-record-end, sent-record-on, span-record}
 use borrow.Author.Needs.{needs}
 use Rattle.cio.proofs.transfer.put_record.Statement.{statement}

@@ -1,3 +1,5 @@
+-- `record_next` meets its contract, by `record-end` and `record-on`.
+-- Assumes nothing.
 use Rattle.cio.proofs.Transfers.{record-end, record-on}
 use borrow.Author.Needs.{needs}
 use Rattle.cio.proofs.transfer.record_next.Statement.{statement}

@@ -1,3 +1,5 @@
+-- `open_editor` meets its contract, by `open-E`.
+-- Assumes nothing.
 use Rattle.console.proofs.Acts.{open-E}
 use borrow.Author.Needs.{needs}
 use Rattle.console.proofs.each.open_editor.Statement.{statement}

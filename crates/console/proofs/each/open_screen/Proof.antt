@@ -1,3 +1,5 @@
+-- `open_screen` meets its contract, by `open-S`.
+-- Assumes nothing.
 use Rattle.console.proofs.Acts.{open-S}
 use borrow.Author.Needs.{needs}
 use Rattle.console.proofs.each.open_screen.Statement.{statement}

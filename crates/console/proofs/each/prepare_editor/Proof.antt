@@ -1,3 +1,5 @@
+-- `prepare_editor` meets its contract, by `prepare-same` and `prepare-open`.
+-- Assumes nothing.
 use Rattle.console.proofs.Acts.{prepare-same, prepare-open}
 use borrow.Author.Needs.{needs}
 use Rattle.console.proofs.each.prepare_editor.Statement.{statement}

@@ -1,3 +1,5 @@
+-- `prepare_screen` meets its contract, by `tests`.
+-- Assumes nothing.
 use Rattle.base.proofs.Tests.{tests}
 use Rattle.console.specs.Handlers.{prepareS}
 use Rattle.console.proofs.each.prepare_screen.Statement.{statement}

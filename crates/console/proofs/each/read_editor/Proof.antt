@@ -1,3 +1,5 @@
+-- `read_editor` meets its contract, by `read-E`.
+-- Assumes nothing.
 use Rattle.console.proofs.Acts.{read-E}
 use borrow.Author.Needs.{needs}
 use Rattle.console.proofs.each.read_editor.Statement.{statement}

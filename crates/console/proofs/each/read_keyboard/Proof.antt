@@ -1,3 +1,5 @@
+-- `read_keyboard` meets its contract, by `read-K`.
+-- Assumes nothing.
 use Rattle.console.proofs.Acts.{read-K}
 use borrow.Author.Needs.{needs}
 use Rattle.console.proofs.each.read_keyboard.Statement.{statement}

@@ -1,3 +1,5 @@
+-- `read_screen` meets its contract, by `read-S`.
+-- Assumes nothing.
 use Rattle.console.proofs.Acts.{read-S}
 use borrow.Author.Needs.{needs}
 use Rattle.console.proofs.each.read_screen.Statement.{statement}

@@ -1,3 +1,5 @@
+-- `write_editor` meets its contract, by `write-E`.
+-- Assumes nothing.
 use Rattle.console.proofs.Acts.{write-E}
 use borrow.Author.Needs.{needs}
 use Rattle.console.proofs.each.write_editor.Statement.{statement}

@@ -1,3 +1,5 @@
+-- `write_screen` meets its contract, by `write-S`.
+-- Assumes nothing.
 use Rattle.console.proofs.Acts.{write-S}
 use borrow.Author.Needs.{needs}
 use Rattle.console.proofs.each.write_screen.Statement.{statement}

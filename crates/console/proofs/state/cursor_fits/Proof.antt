@@ -1,3 +1,5 @@
+-- `cursor_fits` meets its contract, by `cursor-row`, `cursor-low`, `cursor-text`, `cursor-past` and `cursor-picture`.
+-- Assumes nothing.
 use Rattle.console.proofs.Acts.{cursor-row, cursor-low, cursor-text, cursor-past, cursor-picture}
 use borrow.Author.Needs.{needs}
 use Rattle.console.proofs.state.cursor_fits.Statement.{statement}

@@ -1,3 +1,5 @@
+-- `keys_fit` meets its contract, by `tests`.
+-- Assumes nothing.
 use Rattle.base.proofs.Tests.{tests}
 use Rattle.console.specs.Fit.{keysFit}
 use Rattle.console.proofs.state.keys_fit.Statement.{statement}

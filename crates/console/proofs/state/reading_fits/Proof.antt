@@ -1,3 +1,5 @@
+-- `reading_fits` meets its contract, by `reading-none`, `reading-low` and `reading-at`.
+-- Assumes nothing.
 use Rattle.console.proofs.Acts.{reading-none, reading-low, reading-at}
 use borrow.Author.Needs.{needs}
 use Rattle.console.proofs.state.reading_fits.Statement.{statement}

@@ -1,3 +1,5 @@
+-- `act_of` meets its contract: by its own tests and what its callees ensure.
+-- Assumes nothing.
 use borrow.Author.Tests.{ne-eqb}
 use Rattle.editor.specs.Decide.{actOf}
 use borrow.Author.Needs.{needs}

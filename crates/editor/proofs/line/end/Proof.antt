@@ -1,3 +1,5 @@
+-- `end` meets its contract, by `end-found`, `end-blank` and `end-none`.
+-- Assumes nothing.
 use mathlib.Core.Path.{_≡_, refl}
 use Prim.Native.Nat.{_≤_, _+_, _*_}
 use Rattle.editor.specs.Get.{heldOf}

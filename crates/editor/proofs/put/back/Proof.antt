@@ -1,3 +1,5 @@
+-- `back` meets its contract, by `back-left` and `back-margin`.
+-- Assumes nothing.
 use Rattle.editor.proofs.Puts.{back-left, back-margin}
 use borrow.Author.Needs.{needs}
 use Rattle.editor.proofs.put.back.Statement.{statement}

@@ -1,3 +1,5 @@
+-- `clear` meets its contract, by `clear-law`.
+-- Assumes nothing.
 use Rattle.editor.proofs.Puts.{clear-law}
 use borrow.Author.Needs.{needs}
 use Rattle.editor.proofs.put.clear.Statement.{statement}

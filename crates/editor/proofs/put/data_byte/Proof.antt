@@ -1,3 +1,5 @@
+-- `data_byte` meets its contract, by `data-row` and `data-right`.
+-- Assumes nothing.
 use Rattle.editor.proofs.Puts.{data-row, data-right}
 use borrow.Author.Needs.{needs}
 use Rattle.editor.proofs.put.data_byte.Statement.{statement}

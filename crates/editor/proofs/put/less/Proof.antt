@@ -1,3 +1,5 @@
+-- `less` meets its contract, by `tests`.
+-- Assumes nothing.
 use Rattle.base.proofs.Tests.{tests}
 use Rattle.editor.specs.Text.{lessOf}
 use borrow.Author.Needs.{needs}

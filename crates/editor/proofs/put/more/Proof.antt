@@ -1,3 +1,5 @@
+-- `more` meets its contract, by `tests`.
+-- Assumes nothing.
 use Rattle.base.proofs.Tests.{tests}
 use Rattle.editor.specs.Text.{moreOf}
 use borrow.Author.Needs.{needs}

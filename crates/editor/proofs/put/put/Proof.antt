@@ -1,3 +1,5 @@
+-- `put` meets its contract, by `put-law`.
+-- Assumes nothing.
 use Rattle.editor.proofs.Puts.{put-law}
 use borrow.Author.Needs.{needs}
 use Rattle.editor.proofs.put.put.Statement.{statement}

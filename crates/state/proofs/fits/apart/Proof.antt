@@ -1,3 +1,5 @@
+-- `apart` meets its contract, by `apart-not` and `apart-is`.
+-- Assumes nothing.
 use Rattle.state.proofs.Tested.{apart-not, apart-is}
 use borrow.Author.Needs.{needs}
 use Rattle.state.proofs.fits.apart.Statement.{statement}

@@ -1,3 +1,5 @@
+-- `block_fits` meets its contract, by `block-closed`, `block-same` and `block-another`.
+-- Assumes nothing.
 use Rattle.state.proofs.Tested.{block-closed, block-same, block-another}
 use borrow.Author.Needs.{needs}
 use Rattle.state.proofs.fits.block_fits.Statement.{statement}

@@ -1,3 +1,5 @@
+-- `buffer_fits` meets its contract, by `buffer-way`.
+-- Assumes nothing.
 use Rattle.state.proofs.Tested.{buffer-way}
 use borrow.Author.Needs.{needs}
 use Rattle.state.proofs.fits.buffer_fits.Statement.{statement}

@@ -1,3 +1,5 @@
+-- `characters_fit` meets its contract, by `tests`.
+-- Assumes nothing.
 use Rattle.base.proofs.Tests.{tests}
 use Rattle.cio.specs.Transfer.{spanFits}
 use borrow.Author.Needs.{needs}

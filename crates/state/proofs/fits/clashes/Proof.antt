@@ -1,3 +1,5 @@
+-- `clashes` meets its contract, by `clash-nobody`.
+-- Assumes nothing.
 use Rattle.state.proofs.Tested.{clash-nobody}
 use borrow.Author.Needs.{needs}
 use Rattle.state.proofs.fits.clashes.Statement.{statement}

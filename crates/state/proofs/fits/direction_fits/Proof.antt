@@ -1,3 +1,5 @@
+-- `direction_fits` meets its contract, by `allows-get` and `allows-put`.
+-- Assumes nothing.
 use Rattle.state.proofs.Tested.{allows-get, allows-put}
 use borrow.Author.Needs.{needs}
 use Rattle.state.proofs.fits.direction_fits.Statement.{statement}

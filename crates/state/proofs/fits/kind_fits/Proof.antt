@@ -1,3 +1,5 @@
+-- `kind_fits` meets its contract, by `spans-get` and `spans-put`.
+-- Assumes nothing.
 use Rattle.state.proofs.Tested.{spans-get, spans-put}
 use borrow.Author.Needs.{needs}
 use Rattle.state.proofs.fits.kind_fits.Statement.{statement}

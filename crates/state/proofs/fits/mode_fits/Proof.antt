@@ -1,3 +1,5 @@
+-- `mode_fits` meets its contract, by `mode-e`, `mode-s`, `mode-k` and `mode-p`.
+-- Assumes nothing.
 use Rattle.state.proofs.Tested.{mode-e, mode-s, mode-k, mode-p}
 use borrow.Author.Needs.{needs}
 use Rattle.state.proofs.fits.mode_fits.Statement.{statement}

@@ -1,3 +1,5 @@
+-- `one_fits` meets its contract, by `tests`.
+-- Assumes nothing.
 use Rattle.base.proofs.Tests.{tests}
 use Rattle.cio.specs.Transfer.{spanFits}
 use Rattle.state.proofs.fits.one_fits.Statement.{statement}

@@ -1,3 +1,5 @@
+-- `phase_fits` meets its contract, by `phase-gather`, `phase-ready`, `phase-run` and `phase-reply`.
+-- Assumes nothing.
 use Rattle.state.proofs.Tested.{phase-gather, phase-ready, phase-run, phase-reply}
 use borrow.Author.Needs.{needs}
 use Rattle.state.proofs.fits.phase_fits.Statement.{statement}

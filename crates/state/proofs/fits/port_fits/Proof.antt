@@ -1,3 +1,5 @@
+-- `port_fits` meets its contract, by `port-blocks` and `port-phase`.
+-- Assumes nothing.
 use Rattle.state.proofs.Tested.{port-blocks, port-phase}
 use borrow.Author.Needs.{needs}
 use Rattle.state.proofs.fits.port_fits.Statement.{statement}

@@ -1,3 +1,5 @@
+-- `run_fits` meets its contract, by `run-high`, `run-block`, `run-mode` and `run-span`.
+-- Assumes nothing.
 use Rattle.state.proofs.Tested.{run-high, run-block, run-mode, run-span}
 use borrow.Author.Needs.{needs}
 use Rattle.state.proofs.fits.run_fits.Statement.{statement}

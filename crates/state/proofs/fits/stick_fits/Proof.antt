@@ -1,3 +1,5 @@
+-- `stick_fits` meets its contract, by `stick-0`, `stick-1`, `stick-console`, `stick-used` and `stick-apart`.
+-- Assumes nothing.
 use Rattle.state.proofs.Tested.{stick-0, stick-1, stick-console, stick-used, stick-apart}
 use borrow.Author.Needs.{needs}
 use Rattle.state.proofs.fits.stick_fits.Statement.{statement}

@@ -1,3 +1,5 @@
+-- `lengths_fit` meets its contract, by `lengths-rooms`, `lengths-area`, `lengths-screen`, `lengths-paper` and `lengths-all`.
+-- Assumes nothing.
 use Rattle.stick.proofs.Guards.{lengths-rooms, lengths-area, lengths-screen, lengths-paper, lengths-all}
 use Rattle.stick.proofs.guard.lengths_fit.Statement.{statement}
 use Rattle.stick.proofs.guard.lengths_fit.Tie as tie

@@ -1,3 +1,5 @@
+-- `refusal` meets its contract, by `refusal-0`, `refusal-1`, `refusal-2` and `refusal-3`.
+-- Assumes nothing.
 use Rattle.stick.proofs.Guards.{refusal-0, refusal-1, refusal-2, refusal-3}
 use borrow.Author.Needs.{needs}
 use Rattle.stick.proofs.guard.refusal.Statement.{statement}

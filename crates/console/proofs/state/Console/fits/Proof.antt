@@ -1,3 +1,5 @@
+-- `fits` meets its contract, by `fit-mode`, `fit-cursor`, `fit-reading` and `fit-keys`.
+-- Assumes nothing.
 use Rattle.console.proofs.Acts.{fit-mode, fit-cursor, fit-reading, fit-keys}
 use borrow.Author.Needs.{needs}
 use Rattle.console.proofs.state.Console.fits.Statement.{statement}

@@ -1,3 +1,5 @@
+-- `fresh` meets its contract, by `fresh-state`.
+-- Assumes nothing.
 use Rattle.console.proofs.Acts.{fresh-state}
 use borrow.Author.Needs.{needs}
 use Rattle.console.proofs.state.Console.fresh.Statement.{statement}

@@ -1,3 +1,5 @@
+-- `press` meets its contract, by `press-law`.
+-- Assumes nothing.
 use Rattle.console.proofs.Acts.{press-law}
 use borrow.Author.Needs.{needs}
 use Rattle.console.proofs.state.Console.press.Statement.{statement}
