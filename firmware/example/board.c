@@ -15,6 +15,11 @@ struct board board;
 
 /* ---- when something is wrong ---- */
 
+/* Pressed keys that the core has not stored yet, the oldest first. */
+enum { TYPED = 8 };
+static uint8_t typed[TYPED];
+static unsigned typed_length;
+
 /* A byte of each link that the core has not taken yet. */
 static struct {
     int full;
@@ -27,6 +32,7 @@ static void start(void)
     uint8_t answer = fixlomand_fresh(LENT);
     if (answer != FIXLOMAND_DONE)
         board_fault(answer);
+    typed_length = 0;
     for (unsigned port = 0; port < PORTS; port++) {
         waiting[port].full = 0;
         link_reset(port);
@@ -84,11 +90,11 @@ static int give(uint8_t port)
     if (!link_has_room(port))
         return 0;
     given = fixlomand_give(LENT, port);
-    answer = given & 0xFF;
+    answer = FIXLOMAND_ANSWER(given);
     if (answer == FIXLOMAND_NO_REPLY)
         return 0;
     if (answer == FIXLOMAND_DONE)
-        link_write(port, (uint8_t)(given >> 8));
+        link_write(port, FIXLOMAND_BYTE(given));
     else
         unexpected(answer);
     return 1;
@@ -96,11 +102,7 @@ static int give(uint8_t port)
 
 /* ---- the keys ---- */
 
-enum { SCAN_TIME = 5, SCANS = 3, NO_KEY = -1, SEVERAL_KEYS = -2, TYPED = 8 };
-
-/* Pressed keys that the core has not stored yet, the oldest first. */
-static uint8_t typed[TYPED];
-static unsigned typed_length;
+enum { SCAN_TIME = 5, SCANS = 3, NO_KEY = -1, SEVERAL_KEYS = -2 };
 
 /* The one closed switch of the matrix. With more than one closed, a matrix without diodes shows some that are open: so
  * then it is none of them. */
@@ -150,11 +152,13 @@ static void press(void)
     answer = fixlomand_press(LENT, typed[0]);
     if (answer == FIXLOMAND_CONSOLE_HELD)
         return;
+    if (answer != FIXLOMAND_DONE) {
+        unexpected(answer);
+        return;
+    }
     typed_length--;
     for (unsigned i = 0; i < typed_length; i++)
         typed[i] = typed[i + 1];
-    if (answer != FIXLOMAND_DONE)
-        unexpected(answer);
 }
 
 /* ---- the loop ---- */

@@ -48,6 +48,7 @@ static struct plug {
     int file;
     uint8_t in[PIECE], out[PIECE];
     size_t in_at, in_length, out_length;
+    uint32_t flushed;
 } plugs[PORTS];
 
 static void plug_in(struct plug *plug)
@@ -78,6 +79,7 @@ void board_begin(void)
 static void flush(struct plug *plug)
 {
     ssize_t written;
+    plug->flushed = board_clock();
     if (plug->out_length == 0)
         return;
     written = write(plug->file, plug->out, plug->out_length);
@@ -101,11 +103,13 @@ int link_read(unsigned port, uint8_t *byte)
     return 1;
 }
 
+/* What is written goes out in pieces, but within a millisecond or so, however busy the other port is. */
 int link_has_room(unsigned port)
 {
-    if (plugs[port].out_length == PIECE)
-        flush(&plugs[port]);
-    return plugs[port].out_length < PIECE;
+    struct plug *plug = &plugs[port];
+    if (plug->out_length > 0 && (plug->out_length == PIECE || board_clock() != plug->flushed))
+        flush(plug);
+    return plug->out_length < PIECE;
 }
 
 void link_write(unsigned port, uint8_t byte)
@@ -155,9 +159,15 @@ static void type_on(void)
     since = board_clock();
 }
 
+static void read_lines(void);
+
+/* The keys are typed at standard input: so a scan looks there too. */
 uint8_t matrix_row(unsigned row)
 {
     uint8_t key = pending[0] & 63;
+    struct pollfd input = {STDIN_FILENO, POLLIN, 0};
+    if (row == 0 && poll(&input, 1, 0) > 0)
+        read_lines();
     type_on();
     return is_closed() && key / 8 == row ? (uint8_t)(1 << key % 8) : 0;
 }
@@ -229,19 +239,20 @@ static void tell_names(void)
     told = 1;
     printf("laptop: %s\n", ptsname(plugs[0].file));
     printf("phone: %s\n", ptsname(plugs[1].file));
+    fprintf(stderr, "board: type a key code in hexadecimal (3F is A), show or damage; it ends with its input\n");
     fflush(stdout);
 }
 
 void board_idle(void)
 {
     struct pollfd files[1 + PORTS] = {{STDIN_FILENO, POLLIN, 0}};
-    tell_names();
     for (unsigned port = 0; port < PORTS; port++) {
         flush(&plugs[port]);
         files[1 + port].fd = plugs[port].file;
         /* a byte that waits for the core would end the sleep at once, again and again */
         files[1 + port].events = plugs[port].in_at == plugs[port].in_length ? POLLIN : 0;
     }
+    tell_names();
     if (poll(files, 1 + PORTS, 1) > 0 && (files[0].revents & (POLLIN | POLLHUP)) != 0)
         read_lines();
 }

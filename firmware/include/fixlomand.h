@@ -3,12 +3,20 @@
  * The stick has two plugs, port 0 and port 1. At each a host sends messages and reads replies, byte by byte; the core
  * does what they ask with an area of memory for each port, and with a screen, a keyboard and a printer that both ports
  * share. The core is a library of six functions. It has no memory of its own, starts no thread, waits for nothing and
- * calls nothing of yours: your firmware lends it four buffers in every call, moves the bytes of the two links, scans
+ * calls no function of your firmware, which lends it four buffers in every call, moves the bytes of the two links, scans
  * the keys and shows the screen and the paper. What the bytes of the links mean is in docs/HOSTS.md; the firmware need
  * not know it.
  *
- * The functions are proved to do what this header says for every value of every argument, as long as the last section
- * holds, "What the core cannot test". They are for x86-64 and for one caller at a time.
+ * The answers, and every byte that a call leaves, are proved for every value of every argument; what is said of whole
+ * requests is proved for calls after a fresh start; as long as the last section holds, "What the core cannot test". Times
+ * and stack are measured, not proved (firmware/measure).
+ *
+ * firmware/build, or rt staticlib firmware, writes target/staticlib/libfirmware.a, for x86-64: link it after your own
+ * objects, as in
+ *     gcc -Ifirmware/include mine.c target/staticlib/libfirmware.a
+ * It needs memmove and memset, and nothing else; it has no data and no bss. Calls follow the System V ABI: the code uses
+ * xmm registers, and the 128 bytes below the stack pointer (red zone), so that an interrupt on the same stack must save
+ * the one and step over the other.
  *
  * Numbers of two or three bytes are low byte first. $ marks hexadecimal.
  */
@@ -24,15 +32,18 @@ extern "C" {
 
 /* ---- What you lend -------------------------------------------------------------------------------------------------
  *
- * Four buffers, the same ones in every call, with exactly these lengths. None needs an alignment.
+ * Four buffers, the same ones in every call, with exactly these lengths. None needs an alignment. They stay yours: the
+ * core keeps no pointer after it has returned. Several sticks, each with its own four buffers, are independent.
  *
  *   state    what the core remembers between two calls. Its layout is at the end of this header; most firmware never
  *            looks into it.
  *   area     the memory that the hosts load and fetch: bytes 0 to 16,383 are port 0's, the rest port 1's.
  *   screen   a byte for each cell, row by row from the upper left. Mode 0 is text of 40 columns by 24 rows, its cells
- *            are characters; modes 3 to 8 are graphics, their cells are colours. FIXLOMAND_MODE in the state says
- *            which it is. You may read it between two calls, to show it.
- *   paper    what was printed; FIXLOMAND_USED in the state says how many of its bytes. You may read it likewise.
+ *            are characters (ATASCII); modes 3 to 8 are graphics, their cells are colours: 0 to 3 in modes 3, 5 and
+ *            7, 0 and 1 in modes 4, 6 and 8. FIXLOMAND_MODE in the state says which it is; cells past the mode's are
+ *            not shown. You may read it between two calls, to show it; only a tick and a fresh start change it.
+ *   paper    what was printed; FIXLOMAND_USED in the state says how many of its bytes. You may read it likewise. It
+ *            only fills: at 4,096 the hosts are told that it is full, and only a fresh start empties it.
  */
 #define FIXLOMAND_STATE_LEN 602
 #define FIXLOMAND_AREA_LEN 32768
@@ -41,22 +52,24 @@ extern "C" {
 
 /* ---- What a call answers -------------------------------------------------------------------------------------------
  *
- * Every answer but FIXLOMAND_DONE is a refusal: then no byte of any buffer has changed. Each is given exactly then when
- * the words beside it hold; where more than one holds, the order is 2, 3, 1, and then the others.
+ * Every answer but FIXLOMAND_DONE is a refusal: then no byte of any buffer has changed. Each is given exactly when the
+ * words beside it hold; where more than one holds, the order is 2, 3, 1 (length, damage, port), and then the others.
  */
 enum {
     FIXLOMAND_DONE = 0,          /* done */
     FIXLOMAND_BAD_PORT = 1,      /* the port is above 1 */
     FIXLOMAND_BAD_LENGTH = 2,    /* a lent buffer, the state too, has another length than the one above */
-    FIXLOMAND_DAMAGED = 3,       /* the state is none that the core can be in ("Damage", below) */
-    FIXLOMAND_NOT_GATHERING = 4, /* take: the port has its message and gathers no byte before the reply is given */
+    FIXLOMAND_DAMAGED = 3,       /* the state is damaged, as "Damage" below defines it */
+    FIXLOMAND_NOT_GATHERING = 4, /* take: the port has its message, and gathers again when its whole reply is given */
     FIXLOMAND_NO_REPLY = 5,      /* give: the port has no reply byte to give */
     FIXLOMAND_CONSOLE_HELD = 6,  /* press: a request is at work at the screen or the keyboard; offer the key again */
-    FIXLOMAND_IDLE = 7,          /* tick: the port has nothing to do */
+    FIXLOMAND_IDLE = 7,          /* tick: the port gathers or replies, and has nothing to do */
     FIXLOMAND_GROUP_HELD = 8     /* tick: the port waits, the other's request is at work at the device it needs */
 };
 
 /* ---- The calls -----------------------------------------------------------------------------------------------------
+ *
+ * Make a fresh start once at power-up, before any other call: buffers of zeros, or of anything else, are no stick yet.
  *
  * A port goes round: it gathers a message, is ready, runs the request, replies, and gathers again. The main loop of a
  * board does this for both ports in turn, for ever:
@@ -66,19 +79,32 @@ enum {
  *     if the link has room for a byte, give    0: send the byte; 5: there is none
  *     if a key was pressed, press              0: it is stored; 6: keep it and offer it again later
  *
- * A tick starts a request or moves one character, so that neither port holds up the other, and each call's time has a
- * bound that no message can raise: opening a graphics screen, which clears 61,440 cells, takes longest beside the fresh
+ * A tick starts a request or moves one character, so that a port waits only while the other's request is at work at the
+ * device group it needs (8). A device that comes free goes to the port that is ticked first: tick the ports in turn, and
+ * do not start a port's next request before the other has been ticked once since the last one ended, or that one may wait
+ * for ever. Tick both ports always, also one whose link is unplugged: a running request that is not
+ * ticked keeps its device. Opening or clearing a graphics screen, up to 61,440 cells, takes longest beside the fresh
  * start. firmware/example/board.c is such a firmware.
  *
+ * No call resets one port alone. A host that drops out in the middle of a message leaves its port gathering: the bytes
+ * that it sends when it is back are taken as the rest of that message (docs/HOSTS.md says how a host finds its place).
+ *
+ * Of the state a take and a give change the port's first 11 bytes and its room, a press the key code, a tick the port's
+ * 35 bytes and room, the console and the printer; a tick also the port's own half of the area, and screen or paper.
+ *
  * FIXLOMAND_BAD_LENGTH and FIXLOMAND_BAD_PORT tell of a mistake in the firmware, FIXLOMAND_DAMAGED of memory that lost
- * what it held, as in a brown-out: make a fresh start, and reset both links, so that the hosts know.
+ * what it held, as in a brown-out: make a fresh start, drop the bytes and keys that you hold, and reset both links (on
+ * USB: detach and attach), so that the hosts know. The test sees the state alone: area, screen and paper may be lost
+ * without it. So after a reset that the hardware reports as a brown-out make a fresh start without asking. A forgotten
+ * fresh start is found: a state of zeros is damaged.
  */
 #define FIXLOMAND_LENT                                                                                                 \
     uint8_t *state, size_t state_len, uint8_t *area, size_t area_len, uint8_t *screen, size_t screen_len,             \
         uint8_t *paper, size_t paper_len
 
 /* Fresh start. Answers 0 or 2 only: what the state held before does not matter. Writes every byte of the state and the
- * area (both areas are zero then) and of the screen (960 cells $20, the rest zero), and none of the paper. */
+ * area (both areas are zero then) and of the screen (960 cells $20, the rest zero), and none of the paper. The state is
+ * then all zero but cursor column 2, read column and key code 255, and lock 1 (shift). */
 uint8_t fixlomand_fresh(FIXLOMAND_LENT);
 
 /* Takes a byte that the port's host sent. Answers 0, 1, 2, 3 or 4. */
@@ -91,9 +117,17 @@ uint8_t fixlomand_tick(FIXLOMAND_LENT, uint8_t port);
 /* Gives the next byte for the port's host: the answer (0, 1, 2, 3 or 5) in the low byte, the reply byte in the high one,
  * which is 0 beside a refusal. The byte is given once: ask only if you can send it. */
 uint16_t fixlomand_give(FIXLOMAND_LENT, uint8_t port);
+#define FIXLOMAND_ANSWER(given) ((uint8_t)((given) & 0xFF))
+#define FIXLOMAND_BYTE(given) ((uint8_t)((given) >> 8))
 
-/* Stores a pressed key, over an older one that nobody has read. Answers 0, 2, 3 or 6. The code is the key's number, 0 to
- * 63, plus 64 with shift, plus 128 with control; 255 stands for no key and empties the place. */
+/* Stores a pressed key, over an older one that nobody has read. Answers 0, 2, 3 or 6. The code is the key's number, plus
+ * 64 with shift, plus 128 with control; a code above 191 is read as no character; 255 stands for no key and empties the
+ * place. The keys' numbers, those not named are no key:
+ *
+ *    0 L   1 J   2 ;   5 K   6 +   7 *   8 O  10 P  11 U  12 RETURN     13 I  14 -  15 =
+ *   16 V  18 C  21 B  22 X  23 Z  24 4  26 3  27 6  28 ESC        29 5  30 2  31 1
+ *   32 ,  33 space  34 .  35 N  37 M  38 /  39 inverse  40 R  42 E  43 Y  44 TAB  45 T  46 W  47 Q
+ *   48 9  50 0  51 7  52 BACKSPACE  53 8  54 <  55 >  56 F  57 H  58 D  60 CAPS  61 G  62 S  63 A */
 uint8_t fixlomand_press(FIXLOMAND_LENT, uint8_t code);
 
 /* What a key means, for a firmware that wants to know itself; it is lent nothing and changes nothing. lock is 0 none, 1
@@ -188,18 +222,18 @@ enum { FIXLOMAND_NO_COLUMN = 255, FIXLOMAND_NO_KEY = 255 };
 
 /* ---- Damage --------------------------------------------------------------------------------------------------------
  *
- * Every call but the fresh start looks first whether the state is one that the core can be in, and answers 3 if not. It
- * is damaged if a byte or number is outside its range above, or if one of these holds:
+ * Every call but the fresh start looks, after the lengths, whether the state is damaged, and answers 3 if it is. It is
+ * damaged if a byte or number is outside its range above, or if one of these holds:
  *
  * - An open block is one that no OPEN makes. In AUX1, 4 is R (reading), 8 is W (writing). K is never open with W, P never
- *   with R, E never with R but without 1 (forced read), S never with 16 (split screen).
- * - A port gathers as many bytes as its message has, or more: taken is below 3 + length, save that before the header is
- *   whole the numbers not taken yet are 0. With none taken tag and length are 0, with one taken length is 0, with two
- *   taken length is below 256.
+ *   with R; E with R always has 1 (forced read), and S never has 16 (split screen).
+ * - A port gathers as many bytes as its message has, or more: taken is 3 + length or more, and 3 at least. Or a number of
+ *   the header is there that is not taken yet: taken is 0 and tag or length is not 0; or it is 1 and length is not 0; or
+ *   it is 2 and length is above 255.
  * - A port replies, and given is not below length.
  * - A running request does not fit
  *     its block: that is open, on the request's device, with R for a GET and W for a PUT;
- *     the mode: E runs in mode 0 alone, S in every other mode;
+ *     the mode: E runs in mode 0 alone, S in every other mode, K and P in any;
  *     its buffer: of one character left and count are 0. Otherwise place + left is at most 16,384 and count at most
  *     place; of CHARACTERS left is not 0; of a RECORD left and count are not both 0.
  * - Both ports run requests at one group. E, S and K are one group, the console; P is the other.
@@ -207,14 +241,17 @@ enum { FIXLOMAND_NO_COLUMN = 255, FIXLOMAND_NO_KEY = 255 };
  * So two states that are not answered 3 and differ in some byte before the rooms are two different sticks. Cells, paper,
  * area and rooms are never damaged: all their values are in range.
  *
- * The test finds every state that the core cannot be left in by its rules; it is no checksum. A damaged byte may happen
- * to make another state that is in order.
+ * Every state that the calls leave after a fresh start passes the test. Some others pass too, such as a graphics cursor
+ * below the last row in a column other than 0, and the core works on with them. It is no checksum: a damaged byte may
+ * happen to make another state that is in order.
  *
  * ---- What the core cannot test -------------------------------------------------------------------------------------
  *
- * - Each pointer is good for reading and writing as many bytes as its length says.
- * - The four buffers do not overlap, and none overlaps the core's own code or the caller's stack.
- * - Nobody else writes them during a call; no interrupt and no other thread calls the core meanwhile.
+ * - Each pointer is good for reading and writing as many bytes as its length says. (With length 0 it may be NULL.)
+ * - The four buffers do not overlap, and none overlaps the core's own code, or the stack below the caller's frame, which
+ *   the call uses (firmware/measure prints how much). Nothing writes into that stack during the call.
+ * - Nobody else writes them during a call; no interrupt and no other thread calls the core with them meanwhile. Who reads
+ *   them during a call, as a display's DMA, may see half a change.
  * - Between two calls nobody writes them either. If somebody does, the core still answers, and still reads and writes
  *   nothing outside them; but then it works on with what it finds, and what it finds may be another host's bytes.
  */

@@ -104,6 +104,27 @@ class Board(unittest.TestCase):
         self.wait_for(read, f"key ${code:02X}")
         return got[0]
 
+    def test_a_long_request_holds_nobody_up(self) -> None:
+        """While the laptop reads a whole graphics screen, a request of 61,441 ticks, the phone's LOADs are answered as ever."""
+        picture = self.laptop.open("S:", READ | WRITE, 8)
+        ends: list[errors.StickError] = []
+
+        def read_all() -> None:
+            try:
+                picture.get_record(1)
+            except errors.StickError as end:
+                ends.append(end)
+
+        laptop = threading.Thread(target=read_all)
+        laptop.start()
+        loads = 0
+        while laptop.is_alive():
+            self.phone.load(0, b"x")
+            loads += 1
+        laptop.join()
+        self.assertIsInstance(ends[0], errors.CursorPastLastRow)
+        self.assertGreater(loads, 50)
+
     def test_both_ends(self) -> None:
         printer = self.laptop.open("P2:", WRITE)
         editor = self.phone.open("E:", READ | WRITE | FORCED)
@@ -176,13 +197,15 @@ class Board(unittest.TestCase):
         self.lines[1].write(bytes.fromhex("11 05 00 00 00 45"))
         self.lines[1].close()
         self.assertEqual(editor.put_record(b"still here"), 10)
-        again = Line(self.paths[1], patience=0.2)
+        again = Line(self.paths[1], patience=3.0)
         self.addCleanup(again.close)
         self.lines[1] = again
         reply = b""
         while not reply:
             again.write(b"\0")
-            reply = again.read(300)
+            reply = again.read(4)
+        while len(reply) < 4:
+            reply += again.read(4 - len(reply))
         again.patience = PATIENCE
         phone = Stick(again)
         phone.close_all()

@@ -2,18 +2,20 @@
 -- Assumes nothing.
 use mathlib.Core.Path.{_≡_, refl, sym, _∙_, ap, subst}
 use mathlib.Core.Bool.{true}
-use mathlib.Core.List.{List, _++_}
+use mathlib.Core.List.{List}
 use Prim.Native.Nat.{ℕ, _%_, _≤_}
 use native.Mathlib.Omega.{arith}
-use lib.ListN.{length, drop}
-use Rattle.state.specs.declared.Stick.{Stick}
+use lib.ListN.{length, take}
 use Rattle.layout.specs.Layout.{headOf, stickOf}
 use Rattle.layout.specs.Stands.{stands}
 use Rattle.layout.specs.InBytes.{Bytes}
-use Rattle.layout.proofs.WriteRead.{state-back}
+use Rattle.layout.proofs.ReadWrite.{read-write, head-stands, head-length}
+use Rattle.layout.proofs.Undamaged.{in-bytes}
+use Rattle.layout.proofs.WriteRead.{head-back}
 use Rattle.stick.specs.Stick.{Guarded}
 use Rattle.lent.specs.Calls.{Buffers, buffers, lentOf}
 use Rattle.firmware.specs.Answers.{Returned}
+use Rattle.firmware.proofs.Decided as firmware
 use Rattle.rules.specs.Answers.{Damaged}
 use Rattle.rules.proofs.Answers as answers
 use Rattle.serial.specs.Core.{Call}
@@ -24,14 +26,16 @@ use Rattle.serial.proofs.Image.{reached-imaged}
 use Rattle.demands.specs.Real.{real}
 use Rattle.demands.specs.Sticks as sticks
 use Rattle.demands.specs.Told.{Kept, not-lent, lent-on}
+use Rattle.demands.specs.Demand1.{TranslateAnswers}
+use Rattle.demands.proofs.Demand1.{translate-answers}
 use Rattle.demands.proofs.Lawful.{lawful}
 use Rattle.demands.proofs.Course.{course}
 use Rattle.demands.proofs.Linked as linked
 use Rattle.boundary.specs.Bytes.{standsFor, leftBy, Started, bytes, Written}
-use Rattle.boundary.specs.Told.{Fresh, freshFrom, freshLeaves, Any, any-fresh, any-take, any-tick, any-give, any-press, Aside, CRun, here, then, above, aside}
+use Rattle.boundary.specs.Told.{Translate, Fresh, freshFrom, freshLeaves, Any, any-fresh, any-take, any-tick, any-give, any-press, Aside, CRun, here, then, above, aside}
 use Rattle.boundary.specs.Boundary.{LengthsFit, Boundary}
 use Rattle.boundary.proofs.Bytes.{images, follows, written-stands, written-lengths, started-is}
-use Rattle.boundary.proofs.Told.{takes-low, ticks-low, presses-low, exact, fresh-all, any-stays, any-still, two-short, code-call, code-buffers, can-call}
+use Rattle.boundary.proofs.Told.{takes-low, ticks-low, presses-low, exact, fresh-all, any-stays, any-still, two-short, code-call, code-buffers, can-call, kept}
 
 -- what a reached state stands for
 module _ (b : Buffers) (r : Reached real bytes b) where
@@ -63,9 +67,11 @@ never-3 {b} r (any-tick o) e = undamaged b r (exact (any-tick o) .stick (fits b 
 never-3 {b} r (any-give o) e = undamaged b r (exact (any-give o) .stick (fits b r) (written-stands b (whole b r)) .first .damaged .0 e)
 never-3 {b} r (any-press o) e = undamaged b r (exact (any-press o) .stick (fits b r) (written-stands b (whole b r)) .damaged .0 (low (presses-low o) e))
 
-one-state : (x y : List ℕ) → Bytes x → Bytes y → length x ≡ 602 → length y ≡ 602 → stands x ≡ true → stands y ≡ true → stickOf x ≡ stickOf y → drop 82 x ≡ drop 82 y → x ≡ y
-one-state x y v w l m s t e d =
-    sym (state-back x v s (omega (arith, l))) ∙ ap (λ (q : Stick). headOf q ++ drop 82 x) e ∙ ap (λ (q : List ℕ). headOf (stickOf y) ++ q) d ∙ state-back y w t (omega (arith, m))
+one-head : (x y : List ℕ) → Bytes x → Bytes y → length x ≡ 602 → length y ≡ 602 → stands x ≡ true → stands y ≡ true → stickOf x ≡ stickOf y → take 82 x ≡ take 82 y
+one-head x y v w l m s t e = sym (head-back x v s (omega (arith, l))) ∙ ap headOf e ∙ head-back y w t (omega (arith, m))
+
+translated : (o : Translate) → TranslateAnswers (o .args .0) (o .args .1 .0) (o .args .1 .1 .0) (o .result)
+translated o = subst (λ (r : ℕ). TranslateAnswers (o .args .0) (o .args .1 .0) (o .args .1 .1 .0) r) (sym (o .told)) (translate-answers (o .args .0) (o .args .1 .0) (o .args .1 .1 .0))
 
 -- a fresh start that gives 0 begins a run
 started : (o : Fresh) → o .result ≡ 0 → Started (freshLeaves o .buffers)
@@ -107,9 +113,19 @@ code-run (aside a q t rs) ok s r e =
 
 pub boundary : Boundary
 boundary = record {
+  fresh-open = record { asks-nothing = λ κs a. tt; answers = firmware.fresh-allows };
+  take-open = record { asks-nothing = λ κs a. tt; answers = firmware.take-allows };
+  tick-open = record { asks-nothing = λ κs a. tt; answers = firmware.tick-allows };
+  give-open = record { asks-nothing = λ κs a. tt; answers = firmware.give-allows };
+  press-open = record { asks-nothing = λ κs a. tt; answers = firmware.press-allows };
+  translate-open = record { asks-nothing = λ κs a. tt; answers = firmware.translate-allows };
   exactly = exact;
   still = any-still;
-  one-state = one-state;
+  translates = translated;
+  decodes = λ s w rooms. (read-write s rooms w, (head-stands s rooms, head-length s));
+  fits-in = λ s t e. in-bytes s t e;
+  one-head = one-head;
+  fresh-is = λ o. o .told;
   fresh-writes = λ o e. ap (λ (x : Returned). x .buffers .state) (o .told) ∙ fresh-all (freshFrom o) (sym (ap (λ (x : Returned). x .number) (o .told)) ∙ e);
   demand1-run = follow.demand1 real bytes follows lawful;
   demand2 = follow.demand2 real bytes follows lawful;
@@ -118,6 +134,7 @@ boundary = record {
   demand3-unfinished = follow.unfinished real bytes follows lawful;
   follows = follows;
   never-3 = never-3;
+  kept = kept;
   call-is = code-call;
   can-call = can-call;
   link = λ o e cs ok b r.

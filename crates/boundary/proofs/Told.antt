@@ -11,9 +11,11 @@ use contract.Lifetimes.{Lfts}
 use denote.Ref.{RefT}
 use borrow.Fn.Kind.{PK, RK}
 use borrow.Fn.Kinds.{In, Out, Dens}
+use lib.Seq.{drop-at}
 use Rattle.base.specs.Decides.{Allows, Told}
 use Rattle.base.proofs.Choices.{by-test}
 use Rattle.state.specs.declared.Stick.{Stick}
+use Rattle.state.specs.Fits.{stickFits}
 use Rattle.stick.specs.Stick.{Lent, Outcome}
 use Rattle.stick.specs.Stick as stick
 use Rattle.stick.specs.Calls.{freshStick, freshOf, takeOf, tickOf, giveOf, pressOf}
@@ -21,6 +23,7 @@ use Rattle.layout.specs.Layout.{headOf, stickOf}
 use Rattle.layout.specs.Stands.{stands}
 use Rattle.layout.specs.InBytes.{Bytes}
 use Rattle.layout.proofs.WriteRead.{state-back}
+use Rattle.layout.proofs.ReadWrite.{head-length}
 use Rattle.lent.specs.Calls.{Buffers, buffers, Left, left, refused, lengthsFit, lentOf, leftOf, overBytes, freshBytes, takeBytes, tickBytes, giveBytes, pressBytes}
 use Rattle.firmware.specs.Answers.{Returned, answerOf, bothOf}
 use Rattle.firmware.proofs.Decided as firmware
@@ -34,14 +37,15 @@ use Rattle.firmware.proofs.fixlomand_press.Kinds as press-kinds
 use Rattle.firmware.proofs.fixlomand_press.Reads as press-reads
 use Rattle.rules.specs.Answers.{OtherLength, TakeAnswers, TickAnswers, GiveAnswers, PressAnswers}
 use Rattle.rules.proofs.Answers.{take-answers, take-still, take-most, tick-answers, tick-still, tick-most, give-answers, give-still, give-most, press-answers, press-still, press-most}
-use Rattle.rules.proofs.FreshStart.{fresh-done}
+use Rattle.rules.proofs.NeverDamaged as never
+use Rattle.rules.proofs.FreshStart.{fresh-undamaged, fresh-done}
 use Rattle.serial.specs.Core.{Call}
 use Rattle.serial.specs.Core as calls
 use Rattle.demands.specs.Real.{real}
 use Rattle.demands.specs.Sticks.{portNumber}
 use Rattle.boundary.specs.Bytes.{leftBy}
 use Rattle.boundary.specs.Told.{returnedBy, freshFrom, Take, takeFrom, Tick, tickFrom, Give, giveFrom, Press, pressFrom, ByC, took, ticked, gave, pressed, Any, any-fresh, any-take, any-tick, any-give, any-press}
-use Rattle.boundary.specs.Boundary.{LengthsFit, BytesAnswers, FreshBytes, Exactly}
+use Rattle.boundary.specs.Boundary.{LengthsFit, BytesAnswers, FreshBytes, Exactly, TakesByte, Undamaged}
 use Rattle.boundary.proofs.Bytes.{lengths-true, lengths-of, over-done, over-stray, over-short, fresh-long, fresh-short, lent-lengths}
 
 -- by what a call over bytes comes to
@@ -279,3 +283,68 @@ module _ (b : Buffers) where
   can-call (calls.tick p) = (_, ticked (tick-call (portNumber p)) p refl)
   can-call (calls.give p) = (_, gave (give-call (portNumber p)) p refl)
   can-call (calls.press code) = (_, pressed (press-call code))
+
+-- a call that is done leaves what an undamaged stick is written as
+abbrev fit : Left → Type 0
+fit l = l .answer ≡ 0 → Undamaged (l .buffers .state)
+
+left-undamaged : (o : Outcome) → stickFits (o .stick) ≡ true → Undamaged (leftOf o .buffers .state)
+left-undamaged o e = record {
+  stick = o .stick;
+  fits = e;
+  written = sym (ap (λ (xs : List ℕ). headOf (o .stick) ++ xs) (drop-at (headOf (o .stick)) (o .lent .rooms) 82 (head-length (o .stick))));
+}
+
+-- a call that is not refused with 3 is of an undamaged stick
+over-kept : (call : Stick → Lent → Outcome) (b : Buffers) → ((stickFits (stickOf (b .state)) ≡ false) → stick.LengthsFit (lentOf b) → made call b .answer ≡ 3)
+    → (stickFits (stickOf (b .state)) ≡ true → stickFits (made call b .stick) ≡ true) → fit (overBytes call b)
+over-kept call b three keeps =
+    over-by fit call b
+    (λ n e. let z : _≡_ {A = ℕ} 2 0 = e in absurd (omega (arith, z)))
+    (λ f t e. let z : _≡_ {A = ℕ} 3 0 = e in absurd (omega (arith, z)))
+    (λ f t e. by-test (stickFits (stickOf (b .state)))
+    (λ u. left-undamaged (made call b) (keeps u))
+    (λ u. let z : _≡_ {A = ℕ} 3 0 = sym (three u (lent-lengths b f)) ∙ e in absurd (omega (arith, z))))
+
+module _ (b : Buffers) where
+  take-kept : (port byte : ℕ) → byte < 256 → fit (takeBytes b port byte)
+  unfolding takeBytes
+  take-kept port byte h = over-kept (λ s l. takeOf s l port byte) b
+      (λ u l. take-answers (stickOf (b .state)) (lentOf b) port byte .first .damaged .1 (record { lengths = l; damaged = u }))
+      (λ u. never.never-damaged (never.take-byte (lentOf b) port byte) h (stickOf (b .state)) u)
+
+  tick-kept : (port : ℕ) → fit (tickBytes b port)
+  unfolding tickBytes
+  tick-kept port = over-kept (λ s l. tickOf s l port) b
+      (λ u l. tick-answers (stickOf (b .state)) (lentOf b) port .first .damaged .1 (record { lengths = l; damaged = u }))
+      (λ u. never.never-damaged (never.tick (lentOf b) port) tt (stickOf (b .state)) u)
+
+  give-kept : (port : ℕ) → fit (giveBytes b port)
+  unfolding giveBytes
+  give-kept port = over-kept (λ s l. giveOf s l port) b
+      (λ u l. give-answers (stickOf (b .state)) (lentOf b) port .first .damaged .1 (record { lengths = l; damaged = u }))
+      (λ u. never.never-damaged (never.give (lentOf b) port) tt (stickOf (b .state)) u)
+
+  press-kept : (code : ℕ) → fit (pressBytes b code)
+  unfolding pressBytes
+  press-kept code = over-kept (λ s l. pressOf s l code) b
+      (λ u l. press-answers (stickOf (b .state)) (lentOf b) code .damaged .1 (record { lengths = l; damaged = u }))
+      (λ u. never.never-damaged (never.press (lentOf b) code) tt (stickOf (b .state)) u)
+
+  fresh-kept : fit (freshBytes b)
+  fresh-kept = fresh-by b fit
+      (λ n e. let z : _≡_ {A = ℕ} 2 0 = e in absurd (omega (arith, z)))
+      (λ f e. left-undamaged (freshOf freshStick (lentOf b)) (subst (λ (o : Outcome). stickFits (o .stick) ≡ true) (sym (fresh-done (lentOf b) (lent-lengths b f) freshStick)) fresh-undamaged))
+
+one-kept : (l : Left) → l .answer ≤ 8 → fit l → (r : Returned) → r ≡ answerOf l → r .number % 256 ≡ 0 → Undamaged (r .buffers .state)
+one-kept l h k r e z = subst (λ (x : Returned). Undamaged (x .buffers .state)) (sym e) (k (sym (low-is (l .answer) h) ∙ sym (ap (λ (x : Returned). x .number % 256) e) ∙ z))
+
+two-kept : (l : Left) → l .answer ≤ 8 → fit l → (r : Returned) → r ≡ bothOf l → r .number % 256 ≡ 0 → Undamaged (r .buffers .state)
+two-kept l h k r e z = subst (λ (x : Returned). Undamaged (x .buffers .state)) (sym e) (k (sym (both-low (l .answer) (l .byte) h) ∙ sym (ap (λ (x : Returned). x .number % 256) e) ∙ z))
+
+pub kept : {b : Buffers} {r : Returned} (c : Any b r) → TakesByte c → r .number % 256 ≡ 0 → Undamaged (r .buffers .state)
+kept (any-fresh o) t z = one-kept (freshBytes (freshFrom o)) (fresh-low (freshFrom o)) (fresh-kept (freshFrom o)) _ (o .told) z
+kept (any-take o) t z = one-kept (takeBytes (takeFrom o) (o .args .1 .1 .1 .1 .0) (o .args .1 .1 .1 .1 .1 .0)) (take-low (takeFrom o) _ _) (take-kept (takeFrom o) _ _ t) _ (o .told) z
+kept (any-tick o) t z = one-kept (tickBytes (tickFrom o) (o .args .1 .1 .1 .1 .0)) (tick-low (tickFrom o) _) (tick-kept (tickFrom o) _) _ (o .told) z
+kept (any-give o) t z = two-kept (giveBytes (giveFrom o) (o .args .1 .1 .1 .1 .0)) (give-low (giveFrom o) _) (give-kept (giveFrom o) _) _ (o .told) z
+kept (any-press o) t z = one-kept (pressBytes (pressFrom o) (o .args .1 .1 .1 .1 .0)) (press-low (pressFrom o) _) (press-kept (pressFrom o) _) _ (o .told) z

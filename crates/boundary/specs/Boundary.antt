@@ -1,18 +1,33 @@
 -- The three demands of what the port firmware calls: five functions over a state that is lent as bytes, and key translation, on one
--- page.
+-- page. That "every call returns, nothing is read or written outside its buffer" is what the check asks of every function; that C's
+-- pointer and length are the slice is the toolchain's. That each promise decides is in `firmware/proofs/Decided.antt`.
 -- Assumes nothing.
 use mathlib.Core.Path.{_≡_}
 use mathlib.Core.Logic.{_↔_}
 use mathlib.Core.Bool.{true, false}
 use mathlib.Core.List.{List, _++_}
 use Prim.Native.Nat.{ℕ, _%_, _<_}
-use lib.ListN.{length, drop, replicate}
+use lib.ListN.{length, take, drop, replicate}
 use Rattle.layout.specs.Layout.{headLength, headOf, stickOf}
 use Rattle.layout.specs.Stands.{stands}
-use Rattle.layout.specs.InBytes.{Bytes}
+use Rattle.layout.specs.InBytes.{Bytes, InBytes, Typed}
+use Rattle.state.specs.declared.Stick.{Stick}
+use Rattle.state.specs.Fits.{stickFits}
 use Rattle.stick.specs.Calls.{freshStick}
-use Rattle.lent.specs.Calls.{Buffers, lentOf}
-use Rattle.firmware.specs.Answers.{Returned}
+use Rattle.lent.specs.Calls.{Buffers, lentOf, freshBytes}
+use Rattle.firmware.specs.Answers.{Returned, answerOf}
+use Rattle.firmware.proofs.fixlomand_fresh.Kinds as fresh-kinds
+use Rattle.firmware.proofs.fixlomand_fresh.Reads as fresh-reads
+use Rattle.firmware.proofs.fixlomand_take.Kinds as take-kinds
+use Rattle.firmware.proofs.fixlomand_take.Reads as take-reads
+use Rattle.firmware.proofs.fixlomand_tick.Kinds as tick-kinds
+use Rattle.firmware.proofs.fixlomand_tick.Reads as tick-reads
+use Rattle.firmware.proofs.fixlomand_give.Kinds as give-kinds
+use Rattle.firmware.proofs.fixlomand_give.Reads as give-reads
+use Rattle.firmware.proofs.fixlomand_press.Kinds as press-kinds
+use Rattle.firmware.proofs.fixlomand_press.Reads as press-reads
+use Rattle.firmware.proofs.fixlomand_translate.Kinds as translate-kinds
+use Rattle.firmware.proofs.fixlomand_translate.Reads as translate-reads
 use Rattle.rules.specs.Answers.{TakeAnswers, TickAnswers, GiveAnswers, PressAnswers}
 use Rattle.serial.specs.Core.{Call}
 use Rattle.serial.specs.Run.{OkCalls, Begun, Reached, after, begin}
@@ -22,8 +37,9 @@ use Rattle.serial.specs.Demand3.{Demand3, UnfinishedRule}
 use Rattle.serial.specs.Follows.{Follows}
 use Rattle.demands.specs.Real.{real}
 use Rattle.demands.specs.Course.{CourseRule}
+use Rattle.demands.specs.Demand1.{Open, TranslateAnswers}
 use Rattle.boundary.specs.Bytes.{leftBy, bytes}
-use Rattle.boundary.specs.Told.{returnedBy, Fresh, freshLeaves, takeFrom, tickFrom, giveFrom, pressFrom, freshFrom, ByC, Any, any-fresh, any-take, any-tick, any-give, any-press, CRun}
+use Rattle.boundary.specs.Told.{returnedBy, Translate, Fresh, freshLeaves, takeFrom, tickFrom, giveFrom, pressFrom, freshFrom, ByC, Any, any-fresh, any-take, any-tick, any-give, any-press, CRun}
 
 -- each lent buffer of its length, the state too
 pub record LengthsFit (b : Buffers) : Type 0 where
@@ -59,14 +75,39 @@ pub record Linked (o : Fresh) (cs : List (Call real)) (b : Buffers) : Type 0 whe
   pub begins : Begun real bytes (freshLeaves o .buffers)
   pub comes : after real bytes cs (begin real bytes (freshLeaves o .buffers)) .world ≡ b
 
+-- what is taken is a byte
+abbrev pub TakesByte : {b : Buffers} {r : Returned} → Any b r → Type 0
+TakesByte (any-fresh o) = Unit {0}
+TakesByte (any-take o) = o .args .1 .1 .1 .1 .1 .0 < 256
+TakesByte (any-tick o) = Unit {0}
+TakesByte (any-give o) = Unit {0}
+TakesByte (any-press o) = Unit {0}
+
+-- the state is written from an undamaged stick
+pub record Undamaged (state : List ℕ) : Type 0 where
+  pub stick : Stick
+  pub fits : stickFits stick ≡ true
+  pub written : state ≡ headOf stick ++ drop headLength state
+
 pub record Boundary : Type 0 where
-  -- 1. "each refusal gives the number in the tables of document 01 and changes only what they say": every byte of every buffer stays, and
+  -- 1. "No entry point trusts its caller to have checked."
+  pub fresh-open : Open 4 fresh-kinds.ps fresh-kinds.r fresh-reads.Pre fresh-reads.Learnt
+  pub take-open : Open 4 take-kinds.ps take-kinds.r take-reads.Pre take-reads.Learnt
+  pub tick-open : Open 4 tick-kinds.ps tick-kinds.r tick-reads.Pre tick-reads.Learnt
+  pub give-open : Open 4 give-kinds.ps give-kinds.r give-reads.Pre give-reads.Learnt
+  pub press-open : Open 4 press-kinds.ps press-kinds.r press-reads.Pre press-reads.Learnt
+  pub translate-open : Open 0 translate-kinds.ps translate-kinds.r translate-reads.Pre translate-reads.Learnt
+  -- "each refusal gives the number in the tables of document 01 and changes only what they say": every byte of every buffer stays, and
   -- the byte beside it is 0. That a lent state is made of bytes is its type's.
   pub exactly : {b : Buffers} {r : Returned} (c : Any b r) → Exactly c
   pub still : {b : Buffers} {r : Returned} → Any b r → Bytes (b .state) → (r .number % 256 ≡ 0 → ⊥) → (r .buffers ≡ b) × (r .number < 256)
-  -- two states that stand for one stick, with the same rooms, are one
-  pub one-state : (x y : List ℕ) → Bytes x → Bytes y → length x ≡ 602 → length y ≡ 602 → stands x ≡ true → stands y ≡ true → stickOf x ≡ stickOf y → drop headLength x ≡ drop headLength y → x ≡ y
-  -- a fresh start writes every byte of the state
+  pub translates : (o : Translate) → TranslateAnswers (o .args .0) (o .args .1 .0) (o .args .1 .1 .0) (o .result)
+  -- decoding what was encoded gives it back, of every undamaged stick; and two heads that stand for one stick are one
+  pub decodes : (s : Stick) → InBytes s → (rooms : List ℕ) → (stickOf (headOf s ++ rooms) ≡ s) × ((stands (headOf s ++ rooms) ≡ true) × (length (headOf s) ≡ headLength))
+  pub fits-in : (s : Stick) → Typed s → stickFits s ≡ true → InBytes s
+  pub one-head : (x y : List ℕ) → Bytes x → Bytes y → length x ≡ 602 → length y ≡ 602 → stands x ≡ true → stands y ≡ true → stickOf x ≡ stickOf y → take headLength x ≡ take headLength y
+  -- a fresh start writes every byte of the state, whatever it held, and leaves the paper's bytes
+  pub fresh-is : (o : Fresh) → freshLeaves o ≡ answerOf (freshBytes (freshFrom o))
   pub fresh-writes : (o : Fresh) → o .result ≡ 0 → freshLeaves o .buffers .state ≡ headOf freshStick ++ replicate 520 0
   -- 1 to 3 in a run, of the bytes as of the stick
   pub demand1-run : serial.Demand1 real bytes
@@ -75,8 +116,9 @@ pub record Boundary : Type 0 where
   pub demand3 : Demand3 real bytes
   pub demand3-unfinished : UnfinishedRule real bytes
   pub follows : Follows real bytes
-  -- "No state reached from fresh by these calls is damaged."
+  -- "No state reached from fresh by these calls is damaged."; and no call that is done damages a state that is handed in
   pub never-3 : {b : Buffers} {r : Returned} → Reached real bytes b → Any b r → r .number % 256 ≡ 3 → ⊥
+  pub kept : {b : Buffers} {r : Returned} (c : Any b r) → TakesByte c → r .number % 256 ≡ 0 → Undamaged (r .buffers .state)
   -- the link
   pub call-is : {b : Buffers} {c : Call real} {r : Returned} → ByC b c r → r ≡ returnedBy c (leftBy c b)
   pub can-call : (b : Buffers) (c : Call real) → (r : Returned) × ByC b c r

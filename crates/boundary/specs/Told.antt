@@ -17,6 +17,8 @@ use Rattle.firmware.proofs.fixlomand_give.Kinds as give-kinds
 use Rattle.firmware.proofs.fixlomand_give.Reads as give-reads
 use Rattle.firmware.proofs.fixlomand_press.Kinds as press-kinds
 use Rattle.firmware.proofs.fixlomand_press.Reads as press-reads
+use Rattle.firmware.proofs.fixlomand_translate.Kinds as translate-kinds
+use Rattle.firmware.proofs.fixlomand_translate.Reads as translate-reads
 use Rattle.serial.specs.Machine.{Port}
 use Rattle.serial.specs.Core.{Call, take, tick, give, press}
 use Rattle.demands.specs.Real.{real}
@@ -29,6 +31,9 @@ returnedBy (take p byte) l = answerOf l
 returnedBy (tick p) l = answerOf l
 returnedBy (give p) l = bothOf l
 returnedBy (press code) l = answerOf l
+
+abbrev pub Translate : Type 0
+Translate = Told 0 translate-kinds.ps translate-kinds.r translate-reads.Learnt
 
 abbrev pub Fresh : Type 0
 Fresh = Told 4 fresh-kinds.ps fresh-kinds.r fresh-reads.Learnt

@@ -96,7 +96,7 @@ module _ (code lock inverse : ℕ) where
       second true b e = absurd (true≢false e)
       second false b e = e
 
-  translate-answers : TranslateAnswers code lock inverse (translateOf code lock inverse)
+  pub translate-answers : TranslateAnswers code lock inverse (translateOf code lock inverse)
   translate-answers = record {
     other = (λ e a. let l = below-262 a in omega (arith, e, l), other-is);
     past = past-is;
