@@ -4,5 +4,7 @@ pub mod ReadWrite
 pub mod Undamaged
 pub mod Reading
 pub mod Judging
+pub mod Fitting
 pub mod Writing
+pub mod Parts
 pub mod Decided

@@ -80,6 +80,21 @@ join-set l l1 part xs ys n e f k h =
     let z : n ≡ 0 + length xs = omega arith in
     back-tail n l1 part ∙ rw (f, part-tail n l1) (tail-set l1 ys n m ∙ rw (e, z) (sets-more l xs ys 0))
 
+-- a part of the head, in its place
+module _ (l part bs : List ℕ) where
+  part-set : (n : ℕ) → n + length bs ≤ length l → part ≡ sets (take (length l - n) (drop n l)) 0 bs → take n l ++ (part ++ drop (length l - n) (drop n l)) ≡ sets l n bs
+  part-set n h e = back-tail n l part ∙ rw (e, part-tail n l) (tail-set l bs n h)
+
+module _ (l part : List ℕ) (h : Headed l) where
+  pub phase-in : (p : Phase) → part ≡ sets (take (length l - 35) (drop 35 l)) 0 (phaseBytes p) → take 35 l ++ (part ++ drop (length l - 35) (drop 35 l)) ≡ sets l 35 (phaseBytes p)
+  phase-in p e = part-set l part (phaseBytes p) 35 (omega (arith, phase-length p, h .head)) e
+
+  pub console-in : (c : Console) → part ≡ sets (take (length l - 70) (drop 70 l)) 0 (consoleBytes c) → take 70 l ++ (part ++ drop (length l - 70) (drop 70 l)) ≡ sets l 70 (consoleBytes c)
+  console-in c e = part-set l part (consoleBytes c) 70 (omega (arith, console-length c, h .head)) e
+
+  pub printer-in : (u : Printer) → part ≡ sets (take (length l - 80) (drop 80 l)) 0 (printerBytes u) → take 80 l ++ (part ++ drop (length l - 80) (drop 80 l)) ≡ sets l 80 (printerBytes u)
+  printer-in u e = part-set l part (printerBytes u) 80 (omega (arith, printer-length u, h .head)) e
+
 module _ (l l1 part : List ℕ) where
   pub port-written : (p : Port) → 35 ≤ length l → l1 ≡ sets l 0 (phaseBytes (p .phase)) → part ≡ sets (take (length l1 - 11) (drop 11 l1)) 0 (tableBytes (p .table))
       → take 11 l1 ++ (part ++ drop (length l1 - 11) (drop 11 l1)) ≡ sets l 0 (portBytes p)

@@ -1,3 +1,4 @@
 pub mod Layout
 pub mod Stands
 pub mod InBytes
+pub mod Parts

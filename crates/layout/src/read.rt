@@ -88,7 +88,7 @@ fn block_of(number: u8, unit: u8, aux1: u8) -> ControlBlock
 }
 
 // The block whose three bytes begin at this place.
-fn block(bytes: &[u8], place: usize) -> ControlBlock
+pub fn block(bytes: &[u8], place: usize) -> ControlBlock
     requires { ⌜ place + 3 ≤ length (now bytes) ⌝ }
     ensures { λ r. ⌜ r ≡ blockIn (now (bytes .entry)) place ⌝ }
 {
@@ -159,7 +159,7 @@ fn reply(bytes: &[u8]) -> Reply
     }
 }
 
-fn phase(bytes: &[u8]) -> Phase
+pub fn phase(bytes: &[u8]) -> Phase
     requires { ⌜ 11 ≤ length (now bytes) ⌝ }
     ensures { λ r. ⌜ r ≡ phaseOf (now (bytes .entry)) ⌝ }
 {
@@ -194,7 +194,7 @@ fn reading(byte: u8) -> ReadColumn
     ReadColumn::At(word(byte, 0))
 }
 
-fn console(bytes: &[u8]) -> Console
+pub fn console(bytes: &[u8]) -> Console
     requires { ⌜ 10 ≤ length (now bytes) ⌝ }
     ensures { λ r. ⌜ r ≡ consoleOf (now (bytes .entry)) ⌝ }
 {
@@ -214,7 +214,7 @@ fn console(bytes: &[u8]) -> Console
     }
 }
 
-fn printer(bytes: &[u8]) -> Printer
+pub fn printer(bytes: &[u8]) -> Printer
     requires { ⌜ 2 ≤ length (now bytes) ⌝ }
     ensures { λ r. ⌜ r ≡ printerOf (now (bytes .entry)) ⌝ }
 {

@@ -168,7 +168,8 @@ fn reply(bytes: &mut [u8], reply: Reply)
     bytes[10] = 0;
 }
 
-fn phase(bytes: &mut [u8], phase: Phase)
+// The phase of port 0.
+pub fn phase(bytes: &mut [u8], phase: Phase)
     requires { ⌜ 11 ≤ length (now bytes) ⌝ }
     ensures { λ _. ⌜ now (bytes .exit) ≡ sets (now (bytes .entry)) 0 (phaseBytes phase) ⌝ }
 {
@@ -261,4 +262,26 @@ pub fn stick(bytes: &mut [u8], stick: Stick)
     let printer = stick.printer;
     ports(bytes, port0, port1);
     devices(&mut bytes[70..], console, printer);
+}
+
+// The phase of port 1, the console and the printer, each in its place; every other byte stays.
+pub fn phase_1(bytes: &mut [u8], next: Phase)
+    requires { ⌜ Headed (now bytes) ⌝ }
+    ensures { λ _. ⌜ now (bytes .exit) ≡ sets (now (bytes .entry)) 35 (phaseBytes next) ⌝ }
+{
+    phase(&mut bytes[35..], next);
+}
+
+pub fn console_in(bytes: &mut [u8], next: Console)
+    requires { ⌜ Headed (now bytes) ⌝ }
+    ensures { λ _. ⌜ now (bytes .exit) ≡ sets (now (bytes .entry)) 70 (consoleBytes next) ⌝ }
+{
+    console(&mut bytes[70..], next);
+}
+
+pub fn printer_in(bytes: &mut [u8], next: Printer)
+    requires { ⌜ Headed (now bytes) ⌝ }
+    ensures { λ _. ⌜ now (bytes .exit) ≡ sets (now (bytes .entry)) 80 (printerBytes next) ⌝ }
+{
+    printer(&mut bytes[80..], next);
 }
