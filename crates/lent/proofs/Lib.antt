@@ -1,3 +1,5 @@
 pub mod Over
 pub mod Refusals
+pub mod Passing
+pub mod Acts
 pub mod Decided

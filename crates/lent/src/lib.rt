@@ -1,9 +1,18 @@
 // The five calls over a state that is lent as bytes: the 82 bytes of its head, then the 520 bytes of the rooms. No call trusts its
 // caller to have checked anything: a buffer of another length is answered 2, bytes that stand for no undamaged stick 3, and
 // neither changes a byte.
+use blocks::Phase;
+use cio::plan::Group;
 use console::state::Console;
 ghost use mathlib.Core.Path.{_≡_};
-ghost use Rattle.lent.specs.Calls.{buffers, left, lengthsFit, refusalOf, freshBytes, takeBytes, tickBytes, giveBytes, pressBytes};
+ghost use Prim.Native.Nat.{_≤_};
+ghost use lib.ListN.{length};
+ghost use Rattle.cio.specs.declared.plan.Group.the-variants as groups;
+ghost use Rattle.state.specs.Fits.{heldOf, clash};
+ghost use Rattle.stick.specs.Calls.{takeAt, giveAt, consoleHeld, pressAt};
+ghost use Rattle.layout.specs.Layout.{Headed, phaseOf, stickOf};
+ghost use Rattle.lent.specs.Calls.{buffers, left, lengthsFit, refusalOf, lentOf, leftOf, freshBytes, takeBytes, tickBytes, giveBytes, pressBytes};
+ghost use Rattle.lent.specs.Guard.{guardOf, Undamaged};
 
 // A call's answer, and the reply byte beside it (0 where there is none).
 pub struct Answered {
@@ -42,6 +51,25 @@ fn refusal(state: &[u8], area: &[u8], screen: &[u8], paper: &[u8]) -> u8
     2
 }
 
+// 2, 3 or 1, in this order, or 0.
+fn guard(state: &[u8], area: &[u8], screen: &[u8], paper: &[u8], port: u8) -> u8
+    ensures { λ r. ⌜ r ≡ guardOf (buffers (now (state .entry)) (now (area .entry)) (now (screen .entry)) (now (paper .entry))) port ⌝ }
+{
+    if lengths_fit(state, area, screen, paper) {
+        if layout::judge::head_stands(state) {
+            if layout::fits::head_fits(state) {
+                if port < 2 {
+                    return 0;
+                }
+                return 1;
+            }
+            return 3;
+        }
+        return 3;
+    }
+    2
+}
+
 // Everything as it is when the stick is plugged in, whatever the state held.
 pub fn fresh(state: &mut [u8], area: &mut [u8], screen: &mut [u8], paper: &mut [u8]) -> Answered
     ensures { λ r. ⌜ left (r .answer) (r .byte) (buffers (now (state .exit)) (now (area .exit)) (now (screen .exit)) (now (paper .exit))) ≡ freshBytes (buffers (now (state .entry)) (now (area .entry)) (now (screen .entry)) (now (paper .entry))) ⌝ }
@@ -70,16 +98,12 @@ pub fn take(
 ) -> Answered
     ensures { λ r. ⌜ left (r .answer) (r .byte) (buffers (now (state .exit)) (now (area .exit)) (now (screen .exit)) (now (paper .exit))) ≡ takeBytes (buffers (now (state .entry)) (now (area .entry)) (now (screen .entry)) (now (paper .entry))) port byte ⌝ }
 {
-    let refused = refusal(state, area, screen, paper);
+    let refused = guard(state, area, screen, paper, port);
     if refused == 0 {
-        let stick = layout::read::stick(state);
-        let called = stick::take(stick, &mut state[82..], area, screen, paper, port, byte);
-        let next = called.stick;
-        layout::write::stick(state, next);
-        return Answered {
-            answer: called.answer,
-            byte: called.byte,
-        };
+        if port == 0 {
+            return take_0(state, area, screen, paper, byte);
+        }
+        return take_1(state, area, screen, paper, byte);
     }
     Answered {
         answer: refused,
@@ -124,16 +148,12 @@ pub fn give(
 ) -> Answered
     ensures { λ r. ⌜ left (r .answer) (r .byte) (buffers (now (state .exit)) (now (area .exit)) (now (screen .exit)) (now (paper .exit))) ≡ giveBytes (buffers (now (state .entry)) (now (area .entry)) (now (screen .entry)) (now (paper .entry))) port ⌝ }
 {
-    let refused = refusal(state, area, screen, paper);
+    let refused = guard(state, area, screen, paper, port);
     if refused == 0 {
-        let stick = layout::read::stick(state);
-        let called = stick::give(stick, &mut state[82..], area, screen, paper, port);
-        let next = called.stick;
-        layout::write::stick(state, next);
-        return Answered {
-            answer: called.answer,
-            byte: called.byte,
-        };
+        if port == 0 {
+            return give_0(state, area, screen, paper);
+        }
+        return give_1(state, area, screen, paper);
     }
     Answered {
         answer: refused,
@@ -151,19 +171,151 @@ pub fn press(
 ) -> Answered
     ensures { λ r. ⌜ left (r .answer) (r .byte) (buffers (now (state .exit)) (now (area .exit)) (now (screen .exit)) (now (paper .exit))) ≡ pressBytes (buffers (now (state .entry)) (now (area .entry)) (now (screen .entry)) (now (paper .entry))) code ⌝ }
 {
-    let refused = refusal(state, area, screen, paper);
+    let refused = guard(state, area, screen, paper, 0);
     if refused == 0 {
-        let stick = layout::read::stick(state);
-        let called = stick::press(stick, &mut state[82..], area, screen, paper, code);
-        let next = called.stick;
-        layout::write::stick(state, next);
-        return Answered {
-            answer: called.answer,
-            byte: called.byte,
-        };
+        return press_key(state, area, screen, paper, code);
     }
     Answered {
         answer: refused,
         byte: 0,
     }
+}
+
+// A call once it is not refused with 2, 3 or 1: it reads and writes those bytes of the state that it is about, port 0's phase from
+// byte 0 on and its room from byte 82 on, port 1's from 35 and 342 on.
+
+fn take_0(
+    state: &mut [u8],
+    area: &mut [u8],
+    screen: &mut [u8],
+    paper: &mut [u8],
+    byte: u8,
+) -> Answered
+    requires { ⌜ Undamaged (buffers (now state) (now area) (now screen) (now paper)) ⌝ }
+    ensures { λ r. ⌜ left (r .answer) (r .byte) (buffers (now (state .exit)) (now (area .exit)) (now (screen .exit)) (now (paper .exit))) ≡ leftOf (takeAt 0 (stickOf (now (state .entry))) (lentOf (buffers (now (state .entry)) (now (area .entry)) (now (screen .entry)) (now (paper .entry)))) byte) ⌝ }
+{
+    let phase = layout::read::phase(state);
+    match phase {
+        Phase::Gathering(gather) => {
+            let next = wire::take(gather, &mut state[82..342], byte);
+            layout::write::phase(state, next);
+            Answered { answer: 0, byte: 0 }
+        }
+        Phase::Ready(header) => Answered { answer: 4, byte: 0 },
+        Phase::Running(run) => Answered { answer: 4, byte: 0 },
+        Phase::Replying(reply) => Answered { answer: 4, byte: 0 },
+    }
+}
+
+fn take_1(
+    state: &mut [u8],
+    area: &mut [u8],
+    screen: &mut [u8],
+    paper: &mut [u8],
+    byte: u8,
+) -> Answered
+    requires { ⌜ Undamaged (buffers (now state) (now area) (now screen) (now paper)) ⌝ }
+    ensures { λ r. ⌜ left (r .answer) (r .byte) (buffers (now (state .exit)) (now (area .exit)) (now (screen .exit)) (now (paper .exit))) ≡ leftOf (takeAt 1 (stickOf (now (state .entry))) (lentOf (buffers (now (state .entry)) (now (area .entry)) (now (screen .entry)) (now (paper .entry)))) byte) ⌝ }
+{
+    let phase = layout::read::phase(&state[35..]);
+    match phase {
+        Phase::Gathering(gather) => {
+            let next = wire::take(gather, &mut state[342..], byte);
+            layout::write::phase_1(state, next);
+            Answered { answer: 0, byte: 0 }
+        }
+        Phase::Ready(header) => Answered { answer: 4, byte: 0 },
+        Phase::Running(run) => Answered { answer: 4, byte: 0 },
+        Phase::Replying(reply) => Answered { answer: 4, byte: 0 },
+    }
+}
+
+fn give_0(
+    state: &mut [u8],
+    area: &mut [u8],
+    screen: &mut [u8],
+    paper: &mut [u8],
+) -> Answered
+    requires { ⌜ Undamaged (buffers (now state) (now area) (now screen) (now paper)) ⌝ }
+    ensures { λ r. ⌜ left (r .answer) (r .byte) (buffers (now (state .exit)) (now (area .exit)) (now (screen .exit)) (now (paper .exit))) ≡ leftOf (giveAt 0 (stickOf (now (state .entry))) (lentOf (buffers (now (state .entry)) (now (area .entry)) (now (screen .entry)) (now (paper .entry))))) ⌝ }
+{
+    let phase = layout::read::phase(state);
+    match phase {
+        Phase::Gathering(gather) => Answered { answer: 5, byte: 0 },
+        Phase::Ready(header) => Answered { answer: 5, byte: 0 },
+        Phase::Running(run) => Answered { answer: 5, byte: 0 },
+        Phase::Replying(reply) => {
+            let given = wire::give(reply, &state[82..342]);
+            let next = given.phase;
+            layout::write::phase(state, next);
+            Answered {
+                answer: 0,
+                byte: given.byte,
+            }
+        }
+    }
+}
+
+fn give_1(
+    state: &mut [u8],
+    area: &mut [u8],
+    screen: &mut [u8],
+    paper: &mut [u8],
+) -> Answered
+    requires { ⌜ Undamaged (buffers (now state) (now area) (now screen) (now paper)) ⌝ }
+    ensures { λ r. ⌜ left (r .answer) (r .byte) (buffers (now (state .exit)) (now (area .exit)) (now (screen .exit)) (now (paper .exit))) ≡ leftOf (giveAt 1 (stickOf (now (state .entry))) (lentOf (buffers (now (state .entry)) (now (area .entry)) (now (screen .entry)) (now (paper .entry))))) ⌝ }
+{
+    let phase = layout::read::phase(&state[35..]);
+    match phase {
+        Phase::Gathering(gather) => Answered { answer: 5, byte: 0 },
+        Phase::Ready(header) => Answered { answer: 5, byte: 0 },
+        Phase::Running(run) => Answered { answer: 5, byte: 0 },
+        Phase::Replying(reply) => {
+            let given = wire::give(reply, &state[342..]);
+            let next = given.phase;
+            layout::write::phase_1(state, next);
+            Answered {
+                answer: 0,
+                byte: given.byte,
+            }
+        }
+    }
+}
+
+// The port whose bytes begin here runs a request that holds the console.
+fn holds(bytes: &[u8]) -> bool
+    requires { ⌜ 11 ≤ length (now bytes) ⌝ }
+    ensures { λ r. ⌜ r ≡ clash groups.Console (heldOf (phaseOf (now (bytes .entry)))) ⌝ }
+{
+    let phase = layout::read::phase(bytes);
+    state::fits::clashes(Group::Console, state::fits::held_by(phase))
+}
+
+fn console_is_held(state: &[u8]) -> bool
+    requires { ⌜ Headed (now state) ⌝ }
+    ensures { λ r. ⌜ r ≡ consoleHeld (stickOf (now (state .entry))) ⌝ }
+{
+    if holds(state) {
+        return true;
+    }
+    holds(&state[35..])
+}
+
+fn press_key(
+    state: &mut [u8],
+    area: &mut [u8],
+    screen: &mut [u8],
+    paper: &mut [u8],
+    code: u8,
+) -> Answered
+    requires { ⌜ Undamaged (buffers (now state) (now area) (now screen) (now paper)) ⌝ }
+    ensures { λ r. ⌜ left (r .answer) (r .byte) (buffers (now (state .exit)) (now (area .exit)) (now (screen .exit)) (now (paper .exit))) ≡ leftOf (pressAt (stickOf (now (state .entry))) (lentOf (buffers (now (state .entry)) (now (area .entry)) (now (screen .entry)) (now (paper .entry)))) code) ⌝ }
+{
+    if console_is_held(state) {
+        return Answered { answer: 6, byte: 0 };
+    }
+    let console = layout::read::console(&state[70..]);
+    let next = console.press(code);
+    layout::write::console_in(state, next);
+    Answered { answer: 0, byte: 0 }
 }

@@ -1,77 +1,104 @@
-use Rattle.lent.proofs.Over.{give-done, give-refused, headed, headed-again, long}
+use Rattle.lent.proofs.Passing.{not-refused, give-port-0, give-port-1, give-refused}
 use borrow.Author.Needs.{needs}
 use Rattle.lent.proofs.give.Statement.{statement}
 use Rattle.lent.proofs.give.Tie as tie
+use Rattle.lent.proofs.give.Reads as reads
+use Rattle.lent.proofs.give.Lts as lts
+use Rattle.lent.proofs.give_0.Reads as give-0-reads
+use Rattle.lent.proofs.give_1.Reads as give-1-reads
+use Rattle.lent.proofs.guard.Reads as guard-reads
 
-refusal-requires : tie.Need-refusal-requires
-refusal-requires c κs = search needs
+-- src/lib.rt:151:9
+guard-requires : tie.Need-guard-requires
+guard-requires c κs = search needs
 
-stick-requires : tie.Need-stick-requires
-stick-requires c κs = search headed
+-- src/lib.rt:154:13
+give-0-requires : tie.Need-give-0-requires
+give-0-requires c κs = not-refused _ _ _ _ _ _ (c .before .before .before .before .before .before .guard .ensures) (c .before .before .before .before .before .if1 .taken)
 
-sub-give : tie.Need-sub-give
-sub-give c = search long
-
-part-give-start : tie.Need-part-give-start
-part-give-start c = search long
-
-part-give-end : tie.Need-part-give-end
-part-give-end c = search needs
-
-give-requires : tie.Need-give-requires
-give-requires c κs = search needs
-
-stick-requires-2 : tie.Need-stick-requires-2
-stick-requires-2 c κs = search headed-again
-
+-- src/lib.rt:154:13
 same-length : tie.Need-same-length
 same-length c = search needs
 
+-- src/lib.rt:154:13
 same-length-2 : tie.Need-same-length-2
 same-length-2 c = search needs
 
+-- src/lib.rt:154:13
 same-length-3 : tie.Need-same-length-3
 same-length-3 c = search needs
 
+-- src/lib.rt:154:13
 same-length-4 : tie.Need-same-length-4
 same-length-4 c = search needs
 
+-- src/lib.rt:154:13
 returns : tie.Need-returns
-returns c = search give-done
+returns c = search give-port-0
 
+-- src/lib.rt:156:9
+give-1-requires : tie.Need-give-1-requires
+give-1-requires c κs = not-refused _ _ _ _ _ _ (c .before .before .before .before .before .before .guard .ensures) (c .before .before .before .before .before .if1 .taken)
+
+-- src/lib.rt:156:9
 same-length-5 : tie.Need-same-length-5
 same-length-5 c = search needs
 
+-- src/lib.rt:156:9
 same-length-6 : tie.Need-same-length-6
 same-length-6 c = search needs
 
+-- src/lib.rt:156:9
 same-length-7 : tie.Need-same-length-7
 same-length-7 c = search needs
 
+-- src/lib.rt:156:9
 same-length-8 : tie.Need-same-length-8
 same-length-8 c = search needs
 
+-- src/lib.rt:156:9
 returns-2 : tie.Need-returns-2
-returns-2 c = search give-refused
+returns-2 c = search give-port-1
+
+-- src/lib.rt:142:1
+same-length-9 : tie.Need-same-length-9
+same-length-9 c = search needs
+
+-- src/lib.rt:142:1
+same-length-10 : tie.Need-same-length-10
+same-length-10 c = search needs
+
+-- src/lib.rt:142:1
+same-length-11 : tie.Need-same-length-11
+same-length-11 c = search needs
+
+-- src/lib.rt:142:1
+same-length-12 : tie.Need-same-length-12
+same-length-12 c = search needs
+
+-- src/lib.rt:142:1
+returns-3 : tie.Need-returns-3
+returns-3 c = search (give-refused (c .before .before .before .before .before .before .before .before .before .before .args .state .now) (c .before .before .before .before .before .before .before .before .before .slice-known .given))
 
 pub give-spec : {M : Type 1} → statement M
 give-spec =
     tie.close
     (tie.spec
-    refusal-requires
-    stick-requires
-    sub-give
-    part-give-start
-    part-give-end
-    give-requires
-    stick-requires-2
+    guard-requires
+    give-0-requires
     same-length
     same-length-2
     same-length-3
     same-length-4
     returns
+    give-1-requires
     same-length-5
     same-length-6
     same-length-7
     same-length-8
-    returns-2)
+    returns-2
+    same-length-9
+    same-length-10
+    same-length-11
+    same-length-12
+    returns-3)

@@ -1,70 +1,66 @@
-use Rattle.lent.proofs.Over.{headed, headed-again, long, press-done, press-refused}
+use Rattle.lent.proofs.Passing.{not-refused, press-passed, press-refused}
 use borrow.Author.Needs.{needs}
 use Rattle.lent.proofs.press.Statement.{statement}
 use Rattle.lent.proofs.press.Tie as tie
+use Rattle.lent.proofs.press.Reads as reads
+use Rattle.lent.proofs.press.Lts as lts
+use Rattle.lent.proofs.guard.Reads as guard-reads
+use Rattle.lent.proofs.press_key.Reads as press-key-reads
 
-refusal-requires : tie.Need-refusal-requires
-refusal-requires c κs = search needs
+-- src/lib.rt:174:9
+guard-requires : tie.Need-guard-requires
+guard-requires c κs = search needs
 
-stick-requires : tie.Need-stick-requires
-stick-requires c κs = search headed
+-- src/lib.rt:176:9
+press-key-requires : tie.Need-press-key-requires
+press-key-requires c κs = not-refused _ _ _ _ _ _ (c .before .before .before .before .before .guard .ensures) (c .before .before .before .before .if1 .taken)
 
-sub-press : tie.Need-sub-press
-sub-press c = search long
-
-part-press-start : tie.Need-part-press-start
-part-press-start c = search long
-
-part-press-end : tie.Need-part-press-end
-part-press-end c = search needs
-
-press-requires : tie.Need-press-requires
-press-requires c κs = search needs
-
-stick-requires-2 : tie.Need-stick-requires-2
-stick-requires-2 c κs = search headed-again
-
+-- src/lib.rt:176:9
 same-length : tie.Need-same-length
 same-length c = search needs
 
+-- src/lib.rt:176:9
 same-length-2 : tie.Need-same-length-2
 same-length-2 c = search needs
 
+-- src/lib.rt:176:9
 same-length-3 : tie.Need-same-length-3
 same-length-3 c = search needs
 
+-- src/lib.rt:176:9
 same-length-4 : tie.Need-same-length-4
 same-length-4 c = search needs
 
+-- src/lib.rt:176:9
 returns : tie.Need-returns
-returns c = search press-done
+returns c = search press-passed
 
+-- src/lib.rt:165:1
 same-length-5 : tie.Need-same-length-5
 same-length-5 c = search needs
 
+-- src/lib.rt:165:1
 same-length-6 : tie.Need-same-length-6
 same-length-6 c = search needs
 
+-- src/lib.rt:165:1
 same-length-7 : tie.Need-same-length-7
 same-length-7 c = search needs
 
+-- src/lib.rt:165:1
 same-length-8 : tie.Need-same-length-8
 same-length-8 c = search needs
 
+-- src/lib.rt:165:1
 returns-2 : tie.Need-returns-2
-returns-2 c = search press-refused
+returns-2 c = search (press-refused (c .before .before .before .before .before .before .before .before .before .before .args .state .now) (c .before .before .before .before .before .before .before .before .before .slice-known .given))
 
 pub press-spec : {M : Type 1} → statement M
 press-spec =
     tie.close
     (tie.spec
-    refusal-requires
-    stick-requires
-    sub-press
-    part-press-start
-    part-press-end
-    press-requires
-    stick-requires-2
+    guard-requires
+    press-key-requires
     same-length
     same-length-2
     same-length-3
