@@ -5,7 +5,8 @@ use mathlib.Core.Bool.{Bool, true, false, not}
 use mathlib.Core.List.{List}
 use Prim.Native.Nat.{ℕ, _+_, _-_, _*_, _≤_, _<_}
 use native.Mathlib.Omega.{arith}
-use borrow.Author.Tests.{le-leb, lt-leb}
+use borrow.Author.Tests.{le-leb, lt-leb, eq-eqb, ne-eqb}
+use lib.Dec.{eqb}
 use lib.ListN.{length, take, drop, List·getD-eq-default}
 use Rattle.base.specs.Choice.{and}
 use Rattle.base.proofs.Choices.{by-eq}
@@ -18,7 +19,7 @@ use Rattle.blocks.specs.declared.Reply.{Reply}
 use Rattle.blocks.specs.declared.Phase.{Phase}
 use Rattle.blocks.specs.declared.Phase.the-variants.{Gathering, Ready, Running, Replying}
 use Rattle.blocks.specs.Blocks.{closedBlock, blockAt}
-use Rattle.blocks.specs.Made.{madeOf, tableMade}
+use Rattle.blocks.specs.Made.{madeOpen, madeOf, tableMade}
 use Rattle.console.specs.declared.state.Console.{Console}
 use Rattle.console.specs.Fit.{fitOf}
 use Rattle.printer.specs.declared.Printer.{Printer}
@@ -27,11 +28,19 @@ use Rattle.cio.specs.declared.plan.Group.{Group}
 use Rattle.state.specs.declared.Stick.{Stick}
 use Rattle.state.specs.Fits.{heldOf, clash, openFor, inUse, spans, runFits, phaseFits, portFits, stickFits}
 use Rattle.state.proofs.Tested as tested
-use Rattle.layout.specs.Layout.{blockIn, tableOf, phaseOf, portOf, consoleOf, printerOf, stickOf}
+use Rattle.layout.specs.Layout.{at, blockOf, blockIn, tableOf, phaseOf, portOf, consoleOf, printerOf, stickOf}
 use Rattle.layout.specs.Parts.{fourMade, portsFit, devicesFit, portsApart}
 
 pub made-in : (b : List ℕ) (place : ℕ) (block : ControlBlock) (t : Bool) → block ≡ blockIn b place → t ≡ madeOf block → t ≡ madeOf (blockIn b place)
 made-in b place block t e f = f ∙ ap madeOf e
+
+-- a block of number 0 is closed, or no OPEN makes it
+none-made : (device aux1 : ℕ) → eqb device 0 ≡ madeOf (blockOf device 0 aux1)
+unfolding blockOf madeOpen
+none-made device aux1 = by-eq device 0 (λ z. rw (eq-eqb device 0 z)) (λ z. rw (ne-eqb device 0 z))
+
+pub made-none : (b : List ℕ) (place : ℕ) → at b (place + 1) ≡ 0 → eqb (at b place) 0 ≡ madeOf (blockIn b place)
+made-none b place z = none-made (at b place) (at b (place + 2)) ∙ ap (λ (n : ℕ). madeOf (blockOf (at b place) n (at b (place + 2)))) (sym z)
 
 module _ (b : List ℕ) (place : ℕ) (t0 : Bool) (e0 : t0 ≡ madeOf (blockIn b place)) where
   pub four-0 : t0 ≡ false → false ≡ fourMade b place

@@ -19,6 +19,10 @@ fn made(bytes: &[u8], place: usize) -> bool
     requires { ⌜ place + 3 ≤ length (now bytes) ⌝ }
     ensures { λ r. ⌜ r ≡ madeOf (blockIn (now (bytes .entry)) place) ⌝ }
 {
+    // an open block's number is not 0
+    if bytes[place + 1] == 0 {
+        return bytes[place] == 0;
+    }
     blocks::made(read::block(bytes, place))
 }
 

@@ -154,14 +154,14 @@ module _ (state : List ℕ) (k : passing.Known state) (area screen paper : List 
   long : 82 ≤ length state
   long = state-long state area screen paper u
 
-  stayed : (n : ℕ) (o : Outcome) → o ≡ stick.refused n (stickOf state) (lentOf held) → left n 0 held ≡ leftOf o
+  pub stayed : (n : ℕ) (o : Outcome) → o ≡ stick.refused n (stickOf state) (lentOf held) → left n 0 held ≡ leftOf o
   stayed n o e = ap (λ (x : List ℕ). left n 0 (buffers x area screen paper)) (sym (state-back state w (u .stands) long)) ∙ ap leftOf (sym e)
 
   changed : (byte : ℕ) (s : Stick) (rooms state′ : List ℕ) (o : Outcome) → headOf s ++ rooms ≡ state′ → outcome 0 byte s (lent rooms area screen paper) ≡ o → left 0 byte (buffers state′ area screen paper) ≡ leftOf o
   changed byte s rooms state′ o e q = ap (λ (x : List ℕ). left 0 byte (buffers x area screen paper)) (sym e) ∙ ap leftOf q
 
   module _ (phase : Phase) (p : phase ≡ phaseOf state) where
-    own-0 : (x : Phase) → phase ≡ x → stickOf state .port0 .phase ≡ x
+    pub own-0 : (x : Phase) → phase ≡ x → stickOf state .port0 .phase ≡ x
     unfolding stickOf portOf
     own-0 x z = sym p ∙ z
 
@@ -208,14 +208,14 @@ module _ (state : List ℕ) (k : passing.Known state) (area screen paper : List 
   end-of : drop 342 state ≡ drop 260 (drop 82 state)
   end-of = sym (drop-drop 260 82 state)
 
-  last-room : take (length state - 342) (drop 342 state) ≡ drop 260 (drop 82 state)
+  pub last-room : take (length state - 342) (drop 342 state) ≡ drop 260 (drop 82 state)
   last-room = part-tail 342 state ∙ end-of
 
-  room-back : (room : List ℕ) → take 342 state ++ (room ++ drop (length state - 342) (drop 342 state)) ≡ take 82 state ++ (take 260 (drop 82 state) ++ room)
+  pub room-back : (room : List ℕ) → take 342 state ++ (room ++ drop (length state - 342) (drop 342 state)) ≡ take 82 state ++ (take 260 (drop 82 state) ++ room)
   room-back room = back-tail 342 state room ∙ ap (λ (x : List ℕ). x ++ room) (take-add 82 260 state) ∙ append-assoc (take 82 state) (take 260 (drop 82 state)) room
 
   module _ (phase : Phase) (p : phase ≡ phaseOf (take (length state - 35) (drop 35 state))) where
-    own-1 : (x : Phase) → phase ≡ x → stickOf state .port1 .phase ≡ x
+    pub own-1 : (x : Phase) → phase ≡ x → stickOf state .port1 .phase ≡ x
     unfolding stickOf portOf
     own-1 x z = sym (p ∙ ap phaseOf (part-tail 35 state)) ∙ z
 

@@ -14,12 +14,12 @@ use Rattle.base.proofs.Choices.{and-left}
 use Rattle.base.proofs.Lists.{part-tail, back-tail}
 use Rattle.state.specs.declared.Stick.{Stick}
 use Rattle.stick.specs.Stick.{Lent, lent, Outcome, outcome}
-use Rattle.stick.specs.Calls.{freshStick, freshWith, freshOf, takeOf, tickOf, giveOf, pressOf}
+use Rattle.stick.specs.Calls.{freshStick, freshWith, freshOf}
 use Rattle.console.specs.declared.state.Console.{Console}
 use Rattle.console.specs.Group.{freshConsole}
 use Rattle.layout.specs.Layout.{Headed, headOf, stickOf}
 use Rattle.layout.specs.Stands.{stands}
-use Rattle.lent.specs.Calls.{Buffers, buffers, Left, left, refused, lengthsFit, refusalOf, lentOf, leftOf, overBytes, freshBytes, takeBytes, tickBytes, giveBytes, pressBytes}
+use Rattle.lent.specs.Calls.{Buffers, buffers, Left, left, refused, lengthsFit, refusalOf, lentOf, leftOf, freshBytes}
 use Rattle.layout.proofs.ReadWrite.{head-length}
 
 module _ (b : Buffers) where
@@ -51,19 +51,6 @@ module _ (b : Buffers) where
       let n = eqb-true (length (b .state)) 602 (and-left (eqb (length (b .state)) 602) _ (sym p ∙ e)) in
       record { head = omega arith }
 
-  module _ (t : Bool) (p : t ≡ lengthsFit b) where
-    pub refusal-2 : t ≡ false → 2 ≡ refusalOf b
-    unfolding refusalOf
-    refusal-2 e = rw (← p, e)
-
-    pub refusal-3 : (u : Bool) → t ≡ true → u ≡ stands (b .state) → u ≡ false → 3 ≡ refusalOf b
-    unfolding refusalOf
-    refusal-3 u e q f = rw (← p, e, ← q, f)
-
-    pub refusal-0 : (u : Bool) → t ≡ true → u ≡ stands (b .state) → u ≡ true → 0 ≡ refusalOf b
-    unfolding refusalOf
-    refusal-0 u e q f = rw (← p, e, ← q, f)
-
 pub picked : (t u : Bool) → _≡_ {A = ℕ} (pick t (pick u 0 3) 2) 0 → (t ≡ true) × (u ≡ true)
 picked true true e = (refl, refl)
 picked true false e = absurd (omega arith)
@@ -88,18 +75,7 @@ module _ (state rooms′ : List ℕ) (h : Headed state) where
       let z : 0 + length (headOf s) ≡ 82 = omega arith in
       rw (back-tail 82 state rooms′) (sets-eq (headOf s) (take 82 state ++ rooms′) 0 l ∙ rw (z, drop-at (take 82 state) rooms′ 82 e))
 
--- what a function asks of a state that is not refused
-module _ (state area screen paper : List ℕ) (r : ℕ) (p : r ≡ refusalOf (buffers state area screen paper)) (z : r ≡ 0) where
-  pub headed : Headed state
-  headed = refusal-headed (buffers state area screen paper) r p z
-
-  pub long : 82 ≤ length state
-  long = headed .head
-
-  pub headed-again : (rooms′ : List ℕ) → Headed (take 82 state ++ (rooms′ ++ drop (length state - 82) (drop 82 state)))
-  headed-again rooms′ = headed-after state rooms′ headed
-
--- and of one whose length is 602
+-- what a function asks of a state whose length is 602
 module _ (state area screen paper : List ℕ) (t : Bool) (p : t ≡ lengthsFit (buffers state area screen paper)) (z : t ≡ true) where
   pub fresh-headed : Headed state
   fresh-headed = lengths-headed (buffers state area screen paper) t p z
@@ -114,29 +90,15 @@ module _ (call : Stick → Lent → Outcome) (state area screen paper : List ℕ
   abbrev now : Buffers
   now = buffers state area screen paper
 
-  pub over-refused : (r : ℕ) → r ≡ refusalOf now → (r ≡ 0 → ⊥) → refused r now ≡ overBytes call now
-  unfolding overBytes
-  over-refused r p z = rw (← p, ne-eqb r 0 z)
-
   module _ (answer byte : ℕ) (s next : Stick) (rooms′ area′ screen′ paper′ state′ : List ℕ) where
     -- what a call of the stick leaves, once its head is written
-    left-of : Headed state
+    pub left-of : Headed state
         → outcome answer byte next (lent rooms′ area′ screen′ paper′) ≡ call s (lent (take (length state - 82) (drop 82 state)) area screen paper)
         → state′ ≡ sets (take 82 state ++ (rooms′ ++ drop (length state - 82) (drop 82 state))) 0 (headOf next)
         → left answer byte (buffers state′ area′ screen′ paper′) ≡ leftOf (call s (lentOf now))
     left-of h q f =
         rw (f, written state rooms′ h next)
         (ap leftOf q ∙ ap (λ (l : List ℕ). leftOf (call s (lent l area screen paper))) (part-tail 82 state))
-
-    pub over-done : (r : ℕ) → r ≡ refusalOf now → r ≡ 0 → s ≡ stickOf state
-        → outcome answer byte next (lent rooms′ area′ screen′ paper′) ≡ call s (lent (take (length state - 82) (drop 82 state)) area screen paper)
-        → state′ ≡ sets (take 82 state ++ (rooms′ ++ drop (length state - 82) (drop 82 state))) 0 (headOf next)
-        → left answer byte (buffers state′ area′ screen′ paper′) ≡ overBytes call now
-    unfolding overBytes
-    over-done r p z e q f =
-        left-of (refusal-headed now r p z) q f
-        ∙ ap (λ (x : Stick). leftOf (call x (lentOf now))) e
-        ∙ rw (← p, eq-eqb r 0 z)
 
 module _ (state area screen paper : List ℕ) where
   abbrev held : Buffers
@@ -156,46 +118,3 @@ module _ (state area screen paper : List ℕ) where
       left-of freshOf state area screen paper answer byte s next rooms′ area′ screen′ paper′ state′ (lengths-headed held t p e) q f
       ∙ ap (λ (x : Stick). leftOf (freshOf x (lentOf held))) (w ∙ ap freshWith k)
       ∙ rw (← p, e)
-
-  module _ (r : ℕ) (p : r ≡ refusalOf held) (z : r ≡ 0 → ⊥) where
-    pub take-refused : (port byte : ℕ) → refused r held ≡ takeBytes held port byte
-    unfolding takeBytes
-    take-refused port byte = over-refused (λ s l. takeOf s l port byte) state area screen paper r p z
-
-    pub tick-refused : (port : ℕ) → refused r held ≡ tickBytes held port
-    unfolding tickBytes
-    tick-refused port = over-refused (λ s l. tickOf s l port) state area screen paper r p z
-
-    pub give-refused : (port : ℕ) → refused r held ≡ giveBytes held port
-    unfolding giveBytes
-    give-refused port = over-refused (λ s l. giveOf s l port) state area screen paper r p z
-
-    pub press-refused : (code : ℕ) → refused r held ≡ pressBytes held code
-    unfolding pressBytes
-    press-refused code = over-refused (λ s l. pressOf s l code) state area screen paper r p z
-
-  module _ (answer b : ℕ) (s next : Stick) (rooms′ area′ screen′ paper′ state′ : List ℕ) (r : ℕ) (p : r ≡ refusalOf held) (z : r ≡ 0) (e : s ≡ stickOf state)
-      (f : state′ ≡ sets (take 82 state ++ (rooms′ ++ drop (length state - 82) (drop 82 state))) 0 (headOf next)) where
-    pub take-done : (port byte : ℕ)
-        → outcome answer b next (lent rooms′ area′ screen′ paper′) ≡ takeOf s (lent (take (length state - 82) (drop 82 state)) area screen paper) port byte
-        → left answer b (buffers state′ area′ screen′ paper′) ≡ takeBytes held port byte
-    unfolding takeBytes
-    take-done port byte q = over-done (λ s l. takeOf s l port byte) state area screen paper answer b s next rooms′ area′ screen′ paper′ state′ r p z e q f
-
-    pub tick-done : (port : ℕ)
-        → outcome answer b next (lent rooms′ area′ screen′ paper′) ≡ tickOf s (lent (take (length state - 82) (drop 82 state)) area screen paper) port
-        → left answer b (buffers state′ area′ screen′ paper′) ≡ tickBytes held port
-    unfolding tickBytes
-    tick-done port q = over-done (λ s l. tickOf s l port) state area screen paper answer b s next rooms′ area′ screen′ paper′ state′ r p z e q f
-
-    pub give-done : (port : ℕ)
-        → outcome answer b next (lent rooms′ area′ screen′ paper′) ≡ giveOf s (lent (take (length state - 82) (drop 82 state)) area screen paper) port
-        → left answer b (buffers state′ area′ screen′ paper′) ≡ giveBytes held port
-    unfolding giveBytes
-    give-done port q = over-done (λ s l. giveOf s l port) state area screen paper answer b s next rooms′ area′ screen′ paper′ state′ r p z e q f
-
-    pub press-done : (code : ℕ)
-        → outcome answer b next (lent rooms′ area′ screen′ paper′) ≡ pressOf s (lent (take (length state - 82) (drop 82 state)) area screen paper) code
-        → left answer b (buffers state′ area′ screen′ paper′) ≡ pressBytes held code
-    unfolding pressBytes
-    press-done code q = over-done (λ s l. pressOf s l code) state area screen paper answer b s next rooms′ area′ screen′ paper′ state′ r p z e q f

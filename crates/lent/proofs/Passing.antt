@@ -87,7 +87,7 @@ module _ (b : Buffers) (l : Lengths b) where
   rooms-length : length (drop 82 (b .state)) ≡ 520
   rooms-length = simp length-drop (omega (arith, l .state))
 
-  lent-fits : stick.lengthsFit (lentOf b) ≡ true
+  pub lent-fits : stick.lengthsFit (lentOf b) ≡ true
   unfolding stick.lengthsFit
   lent-fits =
       rw (eq-eqb (length (drop 82 (b .state))) 520 rooms-length, eq-eqb (length (b .area)) 32768 (l .area), eq-eqb (length (b .screen)) 61440 (l .screen), eq-eqb (length (b .paper)) 4096 (l .paper))
@@ -153,6 +153,10 @@ module _ (state area screen paper : List ℕ) (port r : ℕ) where
         unfolding takeBytes takeOf
         take-port-0 byte q = q ∙ ap (λ (n : ℕ). leftOf (takeAt n (stickOf state) (lentOf held) byte)) (sym h) ∙ over-passed (λ s l. takeAt port s l byte) held port r p z
 
+        pub tick-port-0 : o ≡ leftOf (tickAt 0 (stickOf state) (lentOf held)) → o ≡ tickBytes held port
+        unfolding tickBytes tickOf
+        tick-port-0 q = q ∙ ap (λ (n : ℕ). leftOf (tickAt n (stickOf state) (lentOf held))) (sym h) ∙ over-passed (λ s l. tickAt port s l) held port r p z
+
         pub give-port-0 : o ≡ leftOf (giveAt 0 (stickOf state) (lentOf held)) → o ≡ giveBytes held port
         unfolding giveBytes giveOf
         give-port-0 q = q ∙ ap (λ (n : ℕ). leftOf (giveAt n (stickOf state) (lentOf held))) (sym h) ∙ over-passed (λ s l. giveAt port s l) held port r p z
@@ -164,6 +168,10 @@ module _ (state area screen paper : List ℕ) (port r : ℕ) where
         pub take-port-1 : (byte : ℕ) → o ≡ leftOf (takeAt 1 (stickOf state) (lentOf held) byte) → o ≡ takeBytes held port byte
         unfolding takeBytes takeOf
         take-port-1 byte q = q ∙ ap (λ (n : ℕ). leftOf (takeAt n (stickOf state) (lentOf held) byte)) (sym one) ∙ over-passed (λ s l. takeAt port s l byte) held port r p z
+
+        pub tick-port-1 : o ≡ leftOf (tickAt 1 (stickOf state) (lentOf held)) → o ≡ tickBytes held port
+        unfolding tickBytes tickOf
+        tick-port-1 q = q ∙ ap (λ (n : ℕ). leftOf (tickAt n (stickOf state) (lentOf held))) (sym one) ∙ over-passed (λ s l. tickAt port s l) held port r p z
 
         pub give-port-1 : o ≡ leftOf (giveAt 1 (stickOf state) (lentOf held)) → o ≡ giveBytes held port
         unfolding giveBytes giveOf

@@ -1,18 +1,23 @@
 // The five calls over a state that is lent as bytes: the 82 bytes of its head, then the 520 bytes of the rooms. No call trusts its
 // caller to have checked anything: a buffer of another length is answered 2, bytes that stand for no undamaged stick 3, and
 // neither changes a byte.
+use blocks::Device;
 use blocks::Phase;
+use blocks::Run;
 use cio::plan::Group;
+use console::Handler;
 use console::state::Console;
 ghost use mathlib.Core.Path.{_≡_};
 ghost use Prim.Native.Nat.{_≤_};
 ghost use lib.ListN.{length};
 ghost use Rattle.cio.specs.declared.plan.Group.the-variants as groups;
 ghost use Rattle.state.specs.Fits.{heldOf, clash};
-ghost use Rattle.stick.specs.Calls.{takeAt, giveAt, consoleHeld, pressAt};
+ghost use Rattle.port.specs.Port.{consoleMove, printerMove, moveRun};
+ghost use Rattle.stick.specs.Stick.{reachAt};
+ghost use Rattle.stick.specs.Calls.{takeAt, tickAt, tickOf, giveAt, consoleHeld, pressAt};
 ghost use Rattle.layout.specs.Layout.{Headed, phaseOf, stickOf};
-ghost use Rattle.lent.specs.Calls.{buffers, left, lengthsFit, refusalOf, lentOf, leftOf, freshBytes, takeBytes, tickBytes, giveBytes, pressBytes};
-ghost use Rattle.lent.specs.Guard.{guardOf, Undamaged};
+ghost use Rattle.lent.specs.Calls.{buffers, left, lengthsFit, lentOf, leftOf, freshBytes, takeBytes, tickBytes, giveBytes, pressBytes};
+ghost use Rattle.lent.specs.Guard.{guardOf, Undamaged, Going0, Going1, reachedAt};
 
 // A call's answer, and the reply byte beside it (0 where there is none).
 pub struct Answered {
@@ -36,19 +41,6 @@ fn lengths_fit(state: &[u8], area: &[u8], screen: &[u8], paper: &[u8]) -> bool
         return false;
     }
     false
-}
-
-// 2 or 3, in this order, or 0.
-fn refusal(state: &[u8], area: &[u8], screen: &[u8], paper: &[u8]) -> u8
-    ensures { λ r. ⌜ r ≡ refusalOf (buffers (now (state .entry)) (now (area .entry)) (now (screen .entry)) (now (paper .entry))) ⌝ }
-{
-    if lengths_fit(state, area, screen, paper) {
-        if layout::judge::head_stands(state) {
-            return 0;
-        }
-        return 3;
-    }
-    2
 }
 
 // 2, 3 or 1, in this order, or 0.
@@ -121,16 +113,12 @@ pub fn tick(
 ) -> Answered
     ensures { λ r. ⌜ left (r .answer) (r .byte) (buffers (now (state .exit)) (now (area .exit)) (now (screen .exit)) (now (paper .exit))) ≡ tickBytes (buffers (now (state .entry)) (now (area .entry)) (now (screen .entry)) (now (paper .entry))) port ⌝ }
 {
-    let refused = refusal(state, area, screen, paper);
+    let refused = guard(state, area, screen, paper, port);
     if refused == 0 {
-        let stick = layout::read::stick(state);
-        let called = stick::tick(stick, &mut state[82..], area, screen, paper, port);
-        let next = called.stick;
-        layout::write::stick(state, next);
-        return Answered {
-            answer: called.answer,
-            byte: called.byte,
-        };
+        if port == 0 {
+            return tick_0(state, area, screen, paper);
+        }
+        return tick_1(state, area, screen, paper);
     }
     Answered {
         answer: refused,
@@ -228,6 +216,206 @@ fn take_1(
         Phase::Running(run) => Answered { answer: 4, byte: 0 },
         Phase::Replying(reply) => Answered { answer: 4, byte: 0 },
     }
+}
+
+// A start may change the table too: the whole stick is read, and its whole head written.
+fn start(
+    state: &mut [u8],
+    area: &mut [u8],
+    screen: &mut [u8],
+    paper: &mut [u8],
+    port: u8,
+) -> Answered
+    requires { ⌜ Undamaged (buffers (now state) (now area) (now screen) (now paper)) ⌝ }
+    ensures { λ r. ⌜ left (r .answer) (r .byte) (buffers (now (state .exit)) (now (area .exit)) (now (screen .exit)) (now (paper .exit))) ≡ leftOf (tickOf (stickOf (now (state .entry))) (lentOf (buffers (now (state .entry)) (now (area .entry)) (now (screen .entry)) (now (paper .entry)))) port) ⌝ }
+{
+    let stick = layout::read::stick(state);
+    let called = stick::tick(stick, &mut state[82..], area, screen, paper, port);
+    let next = called.stick;
+    layout::write::stick(state, next);
+    Answered {
+        answer: called.answer,
+        byte: called.byte,
+    }
+}
+
+fn tick_0(
+    state: &mut [u8],
+    area: &mut [u8],
+    screen: &mut [u8],
+    paper: &mut [u8],
+) -> Answered
+    requires { ⌜ Undamaged (buffers (now state) (now area) (now screen) (now paper)) ⌝ }
+    ensures { λ r. ⌜ left (r .answer) (r .byte) (buffers (now (state .exit)) (now (area .exit)) (now (screen .exit)) (now (paper .exit))) ≡ leftOf (tickAt 0 (stickOf (now (state .entry))) (lentOf (buffers (now (state .entry)) (now (area .entry)) (now (screen .entry)) (now (paper .entry))))) ⌝ }
+{
+    let phase = layout::read::phase(state);
+    match phase {
+        Phase::Gathering(gather) => Answered { answer: 7, byte: 0 },
+        Phase::Ready(header) => start(state, area, screen, paper, 0),
+        Phase::Running(run) => move_0(run, state, area, screen, paper),
+        Phase::Replying(reply) => Answered { answer: 7, byte: 0 },
+    }
+}
+
+// A running request moves one character; no table is read or written.
+fn move_0(
+    run: Run,
+    state: &mut [u8],
+    area: &mut [u8],
+    screen: &mut [u8],
+    paper: &mut [u8],
+) -> Answered
+    requires { ⌜ Going0 run (buffers (now state) (now area) (now screen) (now paper)) ⌝ }
+    ensures { λ r. ⌜ left (r .answer) (r .byte) (buffers (now (state .exit)) (now (area .exit)) (now (screen .exit)) (now (paper .exit))) ≡ leftOf (reachedAt 0 (moveRun run (reachAt 0 (stickOf (now (state .entry))) (lentOf (buffers (now (state .entry)) (now (area .entry)) (now (screen .entry)) (now (paper .entry)))))) (stickOf (now (state .entry))) (lentOf (buffers (now (state .entry)) (now (area .entry)) (now (screen .entry)) (now (paper .entry))))) ⌝ }
+{
+    let device = run.device;
+    match device {
+        Device::E => move_console_0(Handler::E, run, state, area, screen, paper),
+        Device::S => move_console_0(Handler::S, run, state, area, screen, paper),
+        Device::K => move_console_0(Handler::K, run, state, area, screen, paper),
+        Device::P => move_printer_0(run, state, area, screen, paper),
+    }
+}
+
+fn move_console_0(
+    handler: Handler,
+    run: Run,
+    state: &mut [u8],
+    area: &mut [u8],
+    screen: &mut [u8],
+    paper: &mut [u8],
+) -> Answered
+    requires { ⌜ Going0 run (buffers (now state) (now area) (now screen) (now paper)) ⌝ }
+    ensures { λ r. ⌜ left (r .answer) (r .byte) (buffers (now (state .exit)) (now (area .exit)) (now (screen .exit)) (now (paper .exit))) ≡ leftOf (reachedAt 0 (consoleMove handler run (reachAt 0 (stickOf (now (state .entry))) (lentOf (buffers (now (state .entry)) (now (area .entry)) (now (screen .entry)) (now (paper .entry)))))) (stickOf (now (state .entry))) (lentOf (buffers (now (state .entry)) (now (area .entry)) (now (screen .entry)) (now (paper .entry))))) ⌝ }
+{
+    let console = layout::read::console(&state[70..]);
+    let moved = cio::moves::move_console(
+        handler,
+        run,
+        &mut area[..16384],
+        console,
+        screen,
+        &mut state[82..342],
+    );
+    let phase = moved.phase;
+    let next = moved.console;
+    layout::write::phase(state, phase);
+    layout::write::console_in(state, next);
+    Answered { answer: 0, byte: 0 }
+}
+
+fn move_printer_0(
+    run: Run,
+    state: &mut [u8],
+    area: &mut [u8],
+    screen: &mut [u8],
+    paper: &mut [u8],
+) -> Answered
+    requires { ⌜ Going0 run (buffers (now state) (now area) (now screen) (now paper)) ⌝ }
+    ensures { λ r. ⌜ left (r .answer) (r .byte) (buffers (now (state .exit)) (now (area .exit)) (now (screen .exit)) (now (paper .exit))) ≡ leftOf (reachedAt 0 (printerMove run (reachAt 0 (stickOf (now (state .entry))) (lentOf (buffers (now (state .entry)) (now (area .entry)) (now (screen .entry)) (now (paper .entry)))))) (stickOf (now (state .entry))) (lentOf (buffers (now (state .entry)) (now (area .entry)) (now (screen .entry)) (now (paper .entry))))) ⌝ }
+{
+    let printer = layout::read::printer(&state[80..]);
+    let moved = cio::moves::move_printer(
+        run,
+        &mut area[..16384],
+        printer,
+        paper,
+        &mut state[82..342],
+    );
+    let phase = moved.phase;
+    let next = moved.printer;
+    layout::write::phase(state, phase);
+    layout::write::printer_in(state, next);
+    Answered { answer: 0, byte: 0 }
+}
+
+fn tick_1(
+    state: &mut [u8],
+    area: &mut [u8],
+    screen: &mut [u8],
+    paper: &mut [u8],
+) -> Answered
+    requires { ⌜ Undamaged (buffers (now state) (now area) (now screen) (now paper)) ⌝ }
+    ensures { λ r. ⌜ left (r .answer) (r .byte) (buffers (now (state .exit)) (now (area .exit)) (now (screen .exit)) (now (paper .exit))) ≡ leftOf (tickAt 1 (stickOf (now (state .entry))) (lentOf (buffers (now (state .entry)) (now (area .entry)) (now (screen .entry)) (now (paper .entry))))) ⌝ }
+{
+    let phase = layout::read::phase(&state[35..]);
+    match phase {
+        Phase::Gathering(gather) => Answered { answer: 7, byte: 0 },
+        Phase::Ready(header) => start(state, area, screen, paper, 1),
+        Phase::Running(run) => move_1(run, state, area, screen, paper),
+        Phase::Replying(reply) => Answered { answer: 7, byte: 0 },
+    }
+}
+
+fn move_1(
+    run: Run,
+    state: &mut [u8],
+    area: &mut [u8],
+    screen: &mut [u8],
+    paper: &mut [u8],
+) -> Answered
+    requires { ⌜ Going1 run (buffers (now state) (now area) (now screen) (now paper)) ⌝ }
+    ensures { λ r. ⌜ left (r .answer) (r .byte) (buffers (now (state .exit)) (now (area .exit)) (now (screen .exit)) (now (paper .exit))) ≡ leftOf (reachedAt 1 (moveRun run (reachAt 1 (stickOf (now (state .entry))) (lentOf (buffers (now (state .entry)) (now (area .entry)) (now (screen .entry)) (now (paper .entry)))))) (stickOf (now (state .entry))) (lentOf (buffers (now (state .entry)) (now (area .entry)) (now (screen .entry)) (now (paper .entry))))) ⌝ }
+{
+    let device = run.device;
+    match device {
+        Device::E => move_console_1(Handler::E, run, state, area, screen, paper),
+        Device::S => move_console_1(Handler::S, run, state, area, screen, paper),
+        Device::K => move_console_1(Handler::K, run, state, area, screen, paper),
+        Device::P => move_printer_1(run, state, area, screen, paper),
+    }
+}
+
+fn move_console_1(
+    handler: Handler,
+    run: Run,
+    state: &mut [u8],
+    area: &mut [u8],
+    screen: &mut [u8],
+    paper: &mut [u8],
+) -> Answered
+    requires { ⌜ Going1 run (buffers (now state) (now area) (now screen) (now paper)) ⌝ }
+    ensures { λ r. ⌜ left (r .answer) (r .byte) (buffers (now (state .exit)) (now (area .exit)) (now (screen .exit)) (now (paper .exit))) ≡ leftOf (reachedAt 1 (consoleMove handler run (reachAt 1 (stickOf (now (state .entry))) (lentOf (buffers (now (state .entry)) (now (area .entry)) (now (screen .entry)) (now (paper .entry)))))) (stickOf (now (state .entry))) (lentOf (buffers (now (state .entry)) (now (area .entry)) (now (screen .entry)) (now (paper .entry))))) ⌝ }
+{
+    let console = layout::read::console(&state[70..]);
+    let moved = cio::moves::move_console(
+        handler,
+        run,
+        &mut area[16384..],
+        console,
+        screen,
+        &mut state[342..],
+    );
+    let phase = moved.phase;
+    let next = moved.console;
+    layout::write::phase_1(state, phase);
+    layout::write::console_in(state, next);
+    Answered { answer: 0, byte: 0 }
+}
+
+fn move_printer_1(
+    run: Run,
+    state: &mut [u8],
+    area: &mut [u8],
+    screen: &mut [u8],
+    paper: &mut [u8],
+) -> Answered
+    requires { ⌜ Going1 run (buffers (now state) (now area) (now screen) (now paper)) ⌝ }
+    ensures { λ r. ⌜ left (r .answer) (r .byte) (buffers (now (state .exit)) (now (area .exit)) (now (screen .exit)) (now (paper .exit))) ≡ leftOf (reachedAt 1 (printerMove run (reachAt 1 (stickOf (now (state .entry))) (lentOf (buffers (now (state .entry)) (now (area .entry)) (now (screen .entry)) (now (paper .entry)))))) (stickOf (now (state .entry))) (lentOf (buffers (now (state .entry)) (now (area .entry)) (now (screen .entry)) (now (paper .entry))))) ⌝ }
+{
+    let printer = layout::read::printer(&state[80..]);
+    let moved = cio::moves::move_printer(
+        run,
+        &mut area[16384..],
+        printer,
+        paper,
+        &mut state[342..],
+    );
+    let phase = moved.phase;
+    let next = moved.printer;
+    layout::write::phase_1(state, phase);
+    layout::write::printer_in(state, next);
+    Answered { answer: 0, byte: 0 }
 }
 
 fn give_0(
