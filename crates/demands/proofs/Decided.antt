@@ -320,6 +320,24 @@ use Rattle.layout.proofs.read.stick.Kinds as layout-read-kinds
 use Rattle.layout.proofs.read.stick.Reads as layout-read-reads
 use Rattle.layout.proofs.write.stick.Kinds as layout-write-kinds
 use Rattle.layout.proofs.write.stick.Reads as layout-write-reads
+use Rattle.layout.proofs.fits.head_fits.Kinds as layout-head-fits-kinds
+use Rattle.layout.proofs.fits.head_fits.Reads as layout-head-fits-reads
+use Rattle.layout.proofs.read.block.Kinds as layout-read-block-kinds
+use Rattle.layout.proofs.read.block.Reads as layout-read-block-reads
+use Rattle.layout.proofs.read.phase.Kinds as layout-read-phase-kinds
+use Rattle.layout.proofs.read.phase.Reads as layout-read-phase-reads
+use Rattle.layout.proofs.read.console.Kinds as layout-read-console-kinds
+use Rattle.layout.proofs.read.console.Reads as layout-read-console-reads
+use Rattle.layout.proofs.read.printer.Kinds as layout-read-printer-kinds
+use Rattle.layout.proofs.read.printer.Reads as layout-read-printer-reads
+use Rattle.layout.proofs.write.phase.Kinds as layout-write-phase-kinds
+use Rattle.layout.proofs.write.phase.Reads as layout-write-phase-reads
+use Rattle.layout.proofs.write.phase_1.Kinds as layout-write-phase-1-kinds
+use Rattle.layout.proofs.write.phase_1.Reads as layout-write-phase-1-reads
+use Rattle.layout.proofs.write.console_in.Kinds as layout-write-console-kinds
+use Rattle.layout.proofs.write.console_in.Reads as layout-write-console-reads
+use Rattle.layout.proofs.write.printer_in.Kinds as layout-write-printer-kinds
+use Rattle.layout.proofs.write.printer_in.Reads as layout-write-printer-reads
 use Rattle.layout.proofs.Decided as layout
 use Rattle.lent.proofs.fresh.Kinds as lent-fresh-kinds
 use Rattle.lent.proofs.fresh.Reads as lent-fresh-reads
@@ -540,7 +558,16 @@ pub layout-decided : Promises
 layout-decided =
     promise 1 layout-head-stands-kinds.ps layout-head-stands-kinds.r layout-head-stands-reads.Pre layout-head-stands-reads.Learnt layout.head-stands-decides layout.head-stands-allows (
     promise 1 layout-read-kinds.ps layout-read-kinds.r layout-read-reads.Pre layout-read-reads.Learnt layout.read-decides layout.read-allows (
-    promise 1 layout-write-kinds.ps layout-write-kinds.r layout-write-reads.Pre layout-write-reads.Learnt layout.write-decides layout.write-allows stick-decided))
+    promise 1 layout-write-kinds.ps layout-write-kinds.r layout-write-reads.Pre layout-write-reads.Learnt layout.write-decides layout.write-allows (
+    promise 1 layout-head-fits-kinds.ps layout-head-fits-kinds.r layout-head-fits-reads.Pre layout-head-fits-reads.Learnt layout.head-fits-decides layout.head-fits-allows (
+    promise 1 layout-read-block-kinds.ps layout-read-block-kinds.r layout-read-block-reads.Pre layout-read-block-reads.Learnt layout.read-block-decides layout.read-block-allows (
+    promise 1 layout-read-phase-kinds.ps layout-read-phase-kinds.r layout-read-phase-reads.Pre layout-read-phase-reads.Learnt layout.read-phase-decides layout.read-phase-allows (
+    promise 1 layout-read-console-kinds.ps layout-read-console-kinds.r layout-read-console-reads.Pre layout-read-console-reads.Learnt layout.read-console-decides layout.read-console-allows (
+    promise 1 layout-read-printer-kinds.ps layout-read-printer-kinds.r layout-read-printer-reads.Pre layout-read-printer-reads.Learnt layout.read-printer-decides layout.read-printer-allows (
+    promise 1 layout-write-phase-kinds.ps layout-write-phase-kinds.r layout-write-phase-reads.Pre layout-write-phase-reads.Learnt layout.write-phase-decides layout.write-phase-allows (
+    promise 1 layout-write-phase-1-kinds.ps layout-write-phase-1-kinds.r layout-write-phase-1-reads.Pre layout-write-phase-1-reads.Learnt layout.write-phase-1-decides layout.write-phase-1-allows (
+    promise 1 layout-write-console-kinds.ps layout-write-console-kinds.r layout-write-console-reads.Pre layout-write-console-reads.Learnt layout.write-console-decides layout.write-console-allows (
+    promise 1 layout-write-printer-kinds.ps layout-write-printer-kinds.r layout-write-printer-reads.Pre layout-write-printer-reads.Learnt layout.write-printer-decides layout.write-printer-allows stick-decided)))))))))))
 
 pub lent-decided : Promises
 lent-decided =

@@ -1,4 +1,5 @@
--- What the laws of the lent bytes ask: that a list is made of bytes, and that a stick's numbers go into theirs.
+-- What the laws of the lent bytes ask: that a list is made of bytes, and that a stick's numbers go into theirs. Three of them are cut
+-- to their bytes by `headOf`: the bytes taken, the row and the read column. The others come back whatever they are.
 -- Assumes nothing.
 use mathlib.Core.Path.{_≡_}
 use mathlib.Core.List.{List}

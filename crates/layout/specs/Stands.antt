@@ -1,5 +1,5 @@
--- Whether bytes stand for a stick: each byte in its range, unused ones 0. Where every value of a byte has a meaning of its own,
--- as a tag or a row, there is nothing to ask here: whether the stick is damaged is judged of the stick.
+-- Whether bytes stand for a stick: each has a value that the stick's types can hold and give back, and unused ones are 0. Ranges that
+-- the types do not have, as of a mode, a row or a block's number, are judged of the stick: whether it is damaged.
 -- Assumes nothing.
 use mathlib.Core.Bool.{Bool, true, false}
 use mathlib.Core.List.{List}

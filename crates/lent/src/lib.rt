@@ -239,12 +239,7 @@ fn start(
     }
 }
 
-fn tick_0(
-    state: &mut [u8],
-    area: &mut [u8],
-    screen: &mut [u8],
-    paper: &mut [u8],
-) -> Answered
+fn tick_0(state: &mut [u8], area: &mut [u8], screen: &mut [u8], paper: &mut [u8]) -> Answered
     requires { ⌜ Undamaged (buffers (now state) (now area) (now screen) (now paper)) ⌝ }
     ensures { λ r. ⌜ left (r .answer) (r .byte) (buffers (now (state .exit)) (now (area .exit)) (now (screen .exit)) (now (paper .exit))) ≡ leftOf (tickAt 0 (stickOf (now (state .entry))) (lentOf (buffers (now (state .entry)) (now (area .entry)) (now (screen .entry)) (now (paper .entry))))) ⌝ }
 {
@@ -329,12 +324,7 @@ fn move_printer_0(
     Answered { answer: 0, byte: 0 }
 }
 
-fn tick_1(
-    state: &mut [u8],
-    area: &mut [u8],
-    screen: &mut [u8],
-    paper: &mut [u8],
-) -> Answered
+fn tick_1(state: &mut [u8], area: &mut [u8], screen: &mut [u8], paper: &mut [u8]) -> Answered
     requires { ⌜ Undamaged (buffers (now state) (now area) (now screen) (now paper)) ⌝ }
     ensures { λ r. ⌜ left (r .answer) (r .byte) (buffers (now (state .exit)) (now (area .exit)) (now (screen .exit)) (now (paper .exit))) ≡ leftOf (tickAt 1 (stickOf (now (state .entry))) (lentOf (buffers (now (state .entry)) (now (area .entry)) (now (screen .entry)) (now (paper .entry))))) ⌝ }
 {
@@ -418,12 +408,7 @@ fn move_printer_1(
     Answered { answer: 0, byte: 0 }
 }
 
-fn give_0(
-    state: &mut [u8],
-    area: &mut [u8],
-    screen: &mut [u8],
-    paper: &mut [u8],
-) -> Answered
+fn give_0(state: &mut [u8], area: &mut [u8], screen: &mut [u8], paper: &mut [u8]) -> Answered
     requires { ⌜ Undamaged (buffers (now state) (now area) (now screen) (now paper)) ⌝ }
     ensures { λ r. ⌜ left (r .answer) (r .byte) (buffers (now (state .exit)) (now (area .exit)) (now (screen .exit)) (now (paper .exit))) ≡ leftOf (giveAt 0 (stickOf (now (state .entry))) (lentOf (buffers (now (state .entry)) (now (area .entry)) (now (screen .entry)) (now (paper .entry))))) ⌝ }
 {
@@ -444,12 +429,7 @@ fn give_0(
     }
 }
 
-fn give_1(
-    state: &mut [u8],
-    area: &mut [u8],
-    screen: &mut [u8],
-    paper: &mut [u8],
-) -> Answered
+fn give_1(state: &mut [u8], area: &mut [u8], screen: &mut [u8], paper: &mut [u8]) -> Answered
     requires { ⌜ Undamaged (buffers (now state) (now area) (now screen) (now paper)) ⌝ }
     ensures { λ r. ⌜ left (r .answer) (r .byte) (buffers (now (state .exit)) (now (area .exit)) (now (screen .exit)) (now (paper .exit))) ≡ leftOf (giveAt 1 (stickOf (now (state .entry))) (lentOf (buffers (now (state .entry)) (now (area .entry)) (now (screen .entry)) (now (paper .entry))))) ⌝ }
 {

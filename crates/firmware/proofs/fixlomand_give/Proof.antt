@@ -1,3 +1,5 @@
+-- `fixlomand_give` meets its contract, by `both-of`.
+-- Assumes nothing.
 use Rattle.firmware.proofs.Calls.{both-of}
 use borrow.Author.Needs.{needs}
 use Rattle.firmware.proofs.fixlomand_give.Statement.{statement}

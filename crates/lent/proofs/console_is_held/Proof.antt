@@ -1,3 +1,5 @@
+-- `console_is_held` meets its contract, by `held-0` and `held-1`.
+-- Assumes nothing.
 use Rattle.lent.proofs.Acts.{held-0, held-1}
 use borrow.Author.Needs.{needs}
 use Rattle.lent.proofs.console_is_held.Statement.{statement}

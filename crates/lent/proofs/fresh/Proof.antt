@@ -1,3 +1,5 @@
+-- `fresh` meets its contract, by `fresh-again`, `fresh-done`, `fresh-long` and `fresh-refused`.
+-- Assumes nothing.
 use Rattle.lent.proofs.Over.{fresh-again, fresh-done, fresh-long, fresh-refused}
 use borrow.Author.Needs.{needs}
 use Rattle.lent.proofs.fresh.Statement.{statement}

@@ -1,3 +1,5 @@
+-- `give` meets its contract, by `not-refused`, `give-port-0`, `give-port-1` and `give-refused`.
+-- Assumes nothing.
 use Rattle.lent.proofs.Passing.{not-refused, give-port-0, give-port-1, give-refused}
 use borrow.Author.Needs.{needs}
 use Rattle.lent.proofs.give.Statement.{statement}

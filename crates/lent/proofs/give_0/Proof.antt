@@ -1,3 +1,6 @@
+-- `give_0` meets its contract, by `phase-long`, `to-342`, `give-0-gathering`, `give-0-ready`, `give-0-running` and
+-- `give-0-replying`.
+-- Assumes nothing.
 use Rattle.lent.proofs.Acts.{phase-long, to-342, give-0-gathering, give-0-ready, give-0-running, give-0-replying}
 use borrow.Author.Needs.{needs}
 use Rattle.lent.proofs.give_0.Statement.{statement}

@@ -1,3 +1,6 @@
+-- `give_1` meets its contract, by `from-35`, `phase-long-1`, `to-342`, `state-headed`, `give-1-gathering`, `give-1-ready`,
+-- `give-1-running` and `give-1-replying`.
+-- Assumes nothing.
 use Rattle.lent.proofs.Acts.{from-35, phase-long-1, to-342, state-headed, give-1-gathering, give-1-ready, give-1-running, give-1-replying}
 use borrow.Author.Needs.{needs}
 use Rattle.lent.proofs.give_1.Statement.{statement}

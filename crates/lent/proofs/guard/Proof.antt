@@ -1,3 +1,5 @@
+-- `guard` meets its contract, by `fresh-headed`, `guard-0`, `guard-1`, `guard-fits`, `guard-stands` and `guard-2`.
+-- Assumes nothing.
 use Rattle.lent.proofs.Over.{fresh-headed}
 use Rattle.lent.proofs.Passing.{guard-0, guard-1, guard-fits, guard-stands, guard-2}
 use borrow.Author.Needs.{needs}

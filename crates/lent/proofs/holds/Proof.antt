@@ -1,3 +1,5 @@
+-- `holds` meets its contract, by `holds-of`.
+-- Assumes nothing.
 use Rattle.lent.proofs.Acts.{holds-of}
 use borrow.Author.Needs.{needs}
 use Rattle.lent.proofs.holds.Statement.{statement}

@@ -1,3 +1,5 @@
+-- `lengths_fit` meets its contract, by `lengths-all`, `lengths-paper`, `lengths-screen`, `lengths-area` and `lengths-state`.
+-- Assumes nothing.
 use Rattle.lent.proofs.Over.{lengths-all, lengths-paper, lengths-screen, lengths-area, lengths-state}
 use Rattle.lent.proofs.lengths_fit.Statement.{statement}
 use Rattle.lent.proofs.lengths_fit.Tie as tie

@@ -1,3 +1,5 @@
+-- `move_0` meets its contract, by `move-e-0`, `move-s-0`, `move-k-0` and `move-p-0`.
+-- Assumes nothing.
 use Rattle.lent.proofs.Moves.{move-e-0, move-s-0, move-k-0, move-p-0}
 use borrow.Author.Needs.{needs}
 use Rattle.lent.proofs.move_0.Statement.{statement}

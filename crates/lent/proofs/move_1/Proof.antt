@@ -1,3 +1,5 @@
+-- `move_1` meets its contract, by `move-e-1`, `move-s-1`, `move-k-1` and `move-p-1`.
+-- Assumes nothing.
 use Rattle.lent.proofs.Moves.{move-e-1, move-s-1, move-k-1, move-p-1}
 use borrow.Author.Needs.{needs}
 use Rattle.lent.proofs.move_1.Statement.{statement}

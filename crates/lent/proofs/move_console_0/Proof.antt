@@ -1,3 +1,6 @@
+-- `move_console_0` meets its contract, by `console-0-moved`, `from-70-0`, `console-long-0`, `to-16384-0`, `area-first-0`,
+-- `to-342-0`, `goes-0`, `phase-after-0` and `headed-after-0`.
+-- Assumes nothing.
 use Rattle.lent.proofs.Moves.{console-0-moved}
 use Rattle.lent.proofs.Moves.{from-70-0, console-long-0, to-16384-0, area-first-0, to-342-0, goes-0, phase-after-0, headed-after-0}
 use borrow.Author.Needs.{needs}

@@ -1,3 +1,6 @@
+-- `move_console_1` meets its contract, by `console-1-moved`, `from-70-1`, `console-long-1`, `from-16384-1`, `from-342-1`,
+-- `goes-1`, `headed-room-1` and `headed-after-1`.
+-- Assumes nothing.
 use Rattle.lent.proofs.Moves.{console-1-moved}
 use Rattle.lent.proofs.Moves.{from-70-1, console-long-1, from-16384-1, from-342-1, goes-1, headed-room-1, headed-after-1}
 use borrow.Author.Needs.{needs}

@@ -1,3 +1,6 @@
+-- `move_printer_1` meets its contract, by `printer-1-moved`, `from-80-1`, `printer-long-1`, `from-16384-1`, `from-342-1`,
+-- `spans-1`, `headed-room-1` and `headed-after-1`.
+-- Assumes nothing.
 use Rattle.lent.proofs.Moves.{printer-1-moved}
 use Rattle.lent.proofs.Moves.{from-80-1, printer-long-1, from-16384-1, from-342-1, spans-1, headed-room-1, headed-after-1}
 use borrow.Author.Needs.{needs}

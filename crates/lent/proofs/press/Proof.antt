@@ -1,3 +1,5 @@
+-- `press` meets its contract, by `not-refused`, `press-passed` and `press-refused`.
+-- Assumes nothing.
 use Rattle.lent.proofs.Passing.{not-refused, press-passed, press-refused}
 use borrow.Author.Needs.{needs}
 use Rattle.lent.proofs.press.Statement.{statement}

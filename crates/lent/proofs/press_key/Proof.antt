@@ -1,3 +1,5 @@
+-- `press_key` meets its contract, by `state-headed`, `press-held`, `from-70`, `console-long` and `press-free`.
+-- Assumes nothing.
 use Rattle.lent.proofs.Acts.{state-headed, press-held, from-70, console-long, press-free}
 use borrow.Author.Needs.{needs}
 use Rattle.lent.proofs.press_key.Statement.{statement}

@@ -1,3 +1,5 @@
+-- `start` meets its contract, by `state-headed`, `long`, `start-again` and `start-done`.
+-- Assumes nothing.
 use Rattle.lent.proofs.Acts.{state-headed}
 use Rattle.lent.proofs.Moves.{long, start-again, start-done}
 use borrow.Author.Needs.{needs}

@@ -1,3 +1,5 @@
+-- `take` meets its contract, by `not-refused`, `take-port-0`, `take-port-1` and `take-refused`.
+-- Assumes nothing.
 use Rattle.lent.proofs.Passing.{not-refused, take-port-0, take-port-1, take-refused}
 use borrow.Author.Needs.{needs}
 use Rattle.lent.proofs.take.Statement.{statement}

@@ -1,3 +1,6 @@
+-- `take_0` meets its contract, by `phase-long`, `to-342`, `phase-long-after`, `take-0-gathering`, `take-0-ready`,
+-- `take-0-running` and `take-0-replying`.
+-- Assumes nothing.
 use Rattle.lent.proofs.Acts.{phase-long, to-342, phase-long-after, take-0-gathering, take-0-ready, take-0-running, take-0-replying}
 use borrow.Author.Needs.{needs}
 use Rattle.lent.proofs.take_0.Statement.{statement}

@@ -1,3 +1,6 @@
+-- `take_1` meets its contract, by `from-35`, `phase-long-1`, `to-342`, `headed-after-1`, `take-1-gathering`, `take-1-ready`,
+-- `take-1-running` and `take-1-replying`.
+-- Assumes nothing.
 use Rattle.lent.proofs.Acts.{from-35, phase-long-1, to-342, headed-after-1, take-1-gathering, take-1-ready, take-1-running, take-1-replying}
 use borrow.Author.Needs.{needs}
 use Rattle.lent.proofs.take_1.Statement.{statement}

@@ -1,3 +1,5 @@
+-- `tick` meets its contract, by `not-refused`, `tick-refused`, `tick-port-0` and `tick-port-1`.
+-- Assumes nothing.
 use Rattle.lent.proofs.Passing.{not-refused, tick-refused}
 use Rattle.lent.proofs.Passing.{tick-port-0, tick-port-1}
 use borrow.Author.Needs.{needs}

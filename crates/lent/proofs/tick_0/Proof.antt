@@ -1,3 +1,6 @@
+-- `tick_0` meets its contract, by `tick-0-gathering`, `tick-0-replying`, `phase-long`, `going-0`, `tick-0-ready` and
+-- `tick-0-running`.
+-- Assumes nothing.
 use Rattle.lent.proofs.Moves.{tick-0-gathering, tick-0-replying}
 use Rattle.lent.proofs.Acts.{phase-long}
 use Rattle.lent.proofs.Moves.{going-0, tick-0-ready, tick-0-running}

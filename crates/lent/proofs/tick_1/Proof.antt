@@ -1,3 +1,6 @@
+-- `tick_1` meets its contract, by `tick-1-gathering`, `tick-1-replying`, `from-35`, `phase-long-1`, `going-1`, `tick-1-ready` and
+-- `tick-1-running`.
+-- Assumes nothing.
 use Rattle.lent.proofs.Moves.{tick-1-gathering, tick-1-replying}
 use Rattle.lent.proofs.Acts.{from-35, phase-long-1}
 use Rattle.lent.proofs.Moves.{going-1, tick-1-ready, tick-1-running}

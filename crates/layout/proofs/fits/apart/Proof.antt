@@ -1,3 +1,5 @@
+-- `apart` meets its contract, by `apart-not` and `apart-is`.
+-- Assumes nothing.
 use Rattle.layout.proofs.Fitting.{apart-not, apart-is}
 use borrow.Author.Needs.{needs}
 use Rattle.layout.proofs.fits.apart.Statement.{statement}

@@ -1,3 +1,5 @@
+-- `block_at` meets its contract, by `block-there` and `block-past`.
+-- Assumes nothing.
 use Rattle.layout.proofs.Fitting.{block-there, block-past}
 use borrow.Author.Needs.{needs}
 use Rattle.layout.proofs.fits.block_at.Statement.{statement}

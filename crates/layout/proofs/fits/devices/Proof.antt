@@ -1,3 +1,5 @@
+-- `devices` meets its contract, by `devices-apart`, `devices-used` and `devices-console`.
+-- Assumes nothing.
 use Rattle.layout.proofs.Fitting.{devices-apart, devices-used, devices-console}
 use borrow.Author.Needs.{needs}
 use Rattle.layout.proofs.fits.devices.Statement.{statement}

@@ -1,3 +1,5 @@
+-- `head_fits` meets its contract, by `head-devices` and `head-ports`.
+-- Assumes nothing.
 use Rattle.layout.proofs.Fitting.{head-devices, head-ports}
 use borrow.Author.Needs.{needs}
 use Rattle.layout.proofs.fits.head_fits.Statement.{statement}

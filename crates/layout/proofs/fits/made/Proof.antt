@@ -1,3 +1,5 @@
+-- `made` meets its contract, by `made-none` and `made-in`.
+-- Assumes nothing.
 use Rattle.layout.proofs.Fitting.{made-none, made-in}
 use borrow.Author.Needs.{needs}
 use Rattle.layout.proofs.fits.made.Statement.{statement}

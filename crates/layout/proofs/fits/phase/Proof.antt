@@ -1,3 +1,5 @@
+-- `phase` meets its contract, by `phase-gather`, `phase-ready`, `phase-run` and `phase-reply`.
+-- Assumes nothing.
 use Rattle.layout.proofs.Fitting.{phase-gather, phase-ready, phase-run, phase-reply}
 use borrow.Author.Needs.{needs}
 use Rattle.layout.proofs.fits.phase.Statement.{statement}

@@ -1,3 +1,5 @@
+-- `port` meets its contract, by `port-phase` and `port-blocks`.
+-- Assumes nothing.
 use Rattle.layout.proofs.Fitting.{port-phase, port-blocks}
 use borrow.Author.Needs.{needs}
 use Rattle.layout.proofs.fits.port.Statement.{statement}

@@ -1,3 +1,5 @@
+-- `ports` meets its contract, by `ports-both` and `ports-first`.
+-- Assumes nothing.
 use Rattle.layout.proofs.Fitting.{ports-both, ports-first}
 use borrow.Author.Needs.{needs}
 use Rattle.layout.proofs.fits.ports.Statement.{statement}

@@ -1,3 +1,5 @@
+-- `run` meets its contract, by `run-high`, `run-span`, `run-mode` and `run-block`.
+-- Assumes nothing.
 use Rattle.state.proofs.Tested.{run-high}
 use Rattle.layout.proofs.Fitting.{run-span, run-mode, run-block}
 use borrow.Author.Needs.{needs}

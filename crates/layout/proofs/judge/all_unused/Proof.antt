@@ -1,3 +1,5 @@
+-- `all_unused` meets its contract, by `tests`.
+-- Assumes nothing.
 use Rattle.base.proofs.Tests.{tests}
 use Rattle.layout.specs.Stands.{unused}
 use Rattle.layout.proofs.judge.all_unused.Statement.{statement}

@@ -1,3 +1,5 @@
+-- `block_stands` meets its contract, by `tests`.
+-- Assumes nothing.
 use Rattle.base.proofs.Tests.{tests}
 use Rattle.layout.specs.Stands.{blockStands}
 use Rattle.layout.proofs.judge.block_stands.Statement.{statement}

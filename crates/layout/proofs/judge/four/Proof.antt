@@ -1,3 +1,5 @@
+-- `four` meets its contract, by `four-3`, `four-2`, `four-1` and `four-0`.
+-- Assumes nothing.
 use Rattle.layout.proofs.Judging.{four-3, four-2, four-1, four-0}
 use borrow.Author.Needs.{needs}
 use Rattle.layout.proofs.judge.four.Statement.{statement}

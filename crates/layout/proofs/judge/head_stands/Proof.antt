@@ -1,3 +1,5 @@
+-- `head_stands` meets its contract, by `head-escape`, `head-second` and `head-first`.
+-- Assumes nothing.
 use Rattle.layout.proofs.Judging.{head-escape, head-second, head-first}
 use borrow.Author.Needs.{needs}
 use Rattle.layout.proofs.judge.head_stands.Statement.{statement}

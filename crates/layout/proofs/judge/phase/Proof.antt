@@ -1,3 +1,5 @@
+-- `phase` meets its contract, by `phase-0`, `phase-1`, `phase-1-not`, `phase-2`, `phase-3`, `phase-3-not` and `phase-none`.
+-- Assumes nothing.
 use Rattle.layout.proofs.Judging.{phase-0, phase-1, phase-1-not, phase-2, phase-3, phase-3-not, phase-none}
 use borrow.Author.Needs.{needs}
 use Rattle.layout.proofs.judge.phase.Statement.{statement}

@@ -1,3 +1,5 @@
+-- `port` meets its contract, by `port-both` and `port-phase`.
+-- Assumes nothing.
 use Rattle.layout.proofs.Judging.{port-both, port-phase}
 use borrow.Author.Needs.{needs}
 use Rattle.layout.proofs.judge.port.Statement.{statement}

@@ -1,3 +1,5 @@
+-- `run_stands` meets its contract, by `tests`.
+-- Assumes nothing.
 use Rattle.base.proofs.Tests.{tests}
 use Rattle.layout.specs.Stands.{runStands}
 use Rattle.layout.proofs.judge.run_stands.Statement.{statement}

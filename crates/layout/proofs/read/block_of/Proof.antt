@@ -1,3 +1,5 @@
+-- `block_of` meets its contract, by `block-closed` and `block-open`.
+-- Assumes nothing.
 use Rattle.layout.proofs.Reading.{block-closed, block-open}
 use borrow.Author.Needs.{needs}
 use Rattle.layout.proofs.read.block_of.Statement.{statement}

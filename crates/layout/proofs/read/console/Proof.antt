@@ -1,3 +1,5 @@
+-- `console` meets its contract, by `console-read`.
+-- Assumes nothing.
 use Rattle.layout.proofs.Reading.{console-read}
 use borrow.Author.Needs.{needs}
 use Rattle.layout.proofs.read.console.Statement.{statement}

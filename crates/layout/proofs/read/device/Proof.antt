@@ -1,3 +1,5 @@
+-- `device` meets its contract, by `tests`.
+-- Assumes nothing.
 use Rattle.base.proofs.Tests.{tests}
 use Rattle.layout.specs.Layout.{deviceOf}
 use Rattle.layout.proofs.read.device.Statement.{statement}

@@ -1,3 +1,5 @@
+-- `gather` meets its contract: by its own tests and what its callees ensure.
+-- Assumes nothing.
 use borrow.Author.Needs.{needs}
 use Rattle.layout.proofs.read.gather.Statement.{statement}
 use Rattle.layout.proofs.read.gather.Tie as tie

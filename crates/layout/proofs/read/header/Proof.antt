@@ -1,3 +1,5 @@
+-- `header` meets its contract: by its own tests and what its callees ensure.
+-- Assumes nothing.
 use borrow.Author.Needs.{needs}
 use Rattle.layout.proofs.read.header.Statement.{statement}
 use Rattle.layout.proofs.read.header.Tie as tie

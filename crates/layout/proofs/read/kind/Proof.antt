@@ -1,3 +1,5 @@
+-- `kind` meets its contract, by `tests`.
+-- Assumes nothing.
 use Rattle.base.proofs.Tests.{tests}
 use Rattle.layout.specs.Layout.{kindOf}
 use Rattle.layout.proofs.read.kind.Statement.{statement}

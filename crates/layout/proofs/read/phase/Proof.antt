@@ -1,3 +1,5 @@
+-- `phase` meets its contract, by `phase-gathering`, `phase-ready`, `phase-running` and `phase-replying`.
+-- Assumes nothing.
 use Rattle.layout.proofs.Reading.{phase-gathering, phase-ready, phase-running, phase-replying}
 use borrow.Author.Needs.{needs}
 use Rattle.layout.proofs.read.phase.Statement.{statement}

@@ -1,3 +1,5 @@
+-- `port` meets its contract, by `port-read`.
+-- Assumes nothing.
 use Rattle.layout.proofs.Reading.{port-read}
 use borrow.Author.Needs.{needs}
 use Rattle.layout.proofs.read.port.Statement.{statement}

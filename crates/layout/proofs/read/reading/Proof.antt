@@ -1,3 +1,5 @@
+-- `reading` meets its contract, by `reading-none` and `reading-at`.
+-- Assumes nothing.
 use Rattle.layout.proofs.Reading.{reading-none, reading-at}
 use borrow.Author.Needs.{needs}
 use Rattle.layout.proofs.read.reading.Statement.{statement}

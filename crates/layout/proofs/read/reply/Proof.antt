@@ -1,3 +1,5 @@
+-- `reply` meets its contract: by its own tests and what its callees ensure.
+-- Assumes nothing.
 use borrow.Author.Needs.{needs}
 use Rattle.layout.proofs.read.reply.Statement.{statement}
 use Rattle.layout.proofs.read.reply.Tie as tie

@@ -1,3 +1,5 @@
+-- `run` meets its contract: by its own tests and what its callees ensure.
+-- Assumes nothing.
 use borrow.Author.Needs.{needs}
 use Rattle.layout.proofs.read.run.Statement.{statement}
 use Rattle.layout.proofs.read.run.Tie as tie

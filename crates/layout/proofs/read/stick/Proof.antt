@@ -1,3 +1,5 @@
+-- `stick` meets its contract, by `stick-read`.
+-- Assumes nothing.
 use Rattle.layout.proofs.Reading.{stick-read}
 use borrow.Author.Needs.{needs}
 use Rattle.layout.proofs.read.stick.Statement.{statement}

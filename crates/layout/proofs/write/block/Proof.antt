@@ -1,3 +1,5 @@
+-- `block` meets its contract, by `block-cleared` and `block-written`.
+-- Assumes nothing.
 use Rattle.layout.proofs.Writing.{block-cleared, block-written}
 use lib.ListN.{length-set}
 use native.Mathlib.Omega.{arith}

@@ -1,3 +1,5 @@
+-- `console` meets its contract, by `console-written`.
+-- Assumes nothing.
 use Rattle.layout.proofs.Writing.{console-written}
 use lib.ListN.{length-set}
 use native.Mathlib.Omega.{arith}

@@ -1,3 +1,5 @@
+-- `console_in` meets its contract, by `console-in`.
+-- Assumes nothing.
 use Rattle.layout.proofs.Writing.{console-in}
 use borrow.Author.Needs.{needs}
 use Rattle.layout.proofs.write.console_in.Statement.{statement}

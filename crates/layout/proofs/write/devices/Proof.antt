@@ -1,3 +1,5 @@
+-- `devices` meets its contract, by `devices-written`.
+-- Assumes nothing.
 use Rattle.layout.proofs.Writing.{devices-written}
 use borrow.Author.Needs.{needs}
 use Rattle.layout.proofs.write.devices.Statement.{statement}

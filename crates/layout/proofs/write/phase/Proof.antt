@@ -1,3 +1,5 @@
+-- `phase` meets its contract, by `phase-written`.
+-- Assumes nothing.
 use Rattle.layout.proofs.Writing.{phase-written}
 use borrow.Author.Needs.{needs}
 use Rattle.layout.proofs.write.phase.Statement.{statement}

@@ -1,3 +1,5 @@
+-- `phase_1` meets its contract, by `phase-in`.
+-- Assumes nothing.
 use Rattle.layout.proofs.Writing.{phase-in}
 use borrow.Author.Needs.{needs}
 use Rattle.layout.proofs.write.phase_1.Statement.{statement}

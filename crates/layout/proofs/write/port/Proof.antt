@@ -1,3 +1,5 @@
+-- `port` meets its contract, by `port-written`.
+-- Assumes nothing.
 use Rattle.layout.proofs.Writing.{port-written}
 use borrow.Author.Needs.{needs}
 use Rattle.layout.proofs.write.port.Statement.{statement}

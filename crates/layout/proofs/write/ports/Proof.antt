@@ -1,3 +1,5 @@
+-- `ports` meets its contract, by `ports-written`.
+-- Assumes nothing.
 use Rattle.layout.proofs.Writing.{ports-written}
 use borrow.Author.Needs.{needs}
 use Rattle.layout.proofs.write.ports.Statement.{statement}

@@ -1,3 +1,5 @@
+-- `printer_in` meets its contract, by `printer-in`.
+-- Assumes nothing.
 use Rattle.layout.proofs.Writing.{printer-in}
 use borrow.Author.Needs.{needs}
 use Rattle.layout.proofs.write.printer_in.Statement.{statement}

@@ -1,3 +1,5 @@
+-- `reading_byte` meets its contract, by `reading-written`.
+-- Assumes nothing.
 use Rattle.layout.proofs.Writing.{reading-written}
 use borrow.Author.Needs.{needs}
 use Rattle.layout.proofs.write.reading_byte.Statement.{statement}

@@ -1,3 +1,5 @@
+-- `run` meets its contract, by `run-written`.
+-- Assumes nothing.
 use Rattle.layout.proofs.Writing.{run-written}
 use lib.ListN.{length-set}
 use native.Mathlib.Omega.{arith}

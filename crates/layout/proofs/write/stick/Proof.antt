@@ -1,3 +1,5 @@
+-- `stick` meets its contract, by `stick-written`.
+-- Assumes nothing.
 use Rattle.layout.proofs.Writing.{stick-written}
 use borrow.Author.Needs.{needs}
 use Rattle.layout.proofs.write.stick.Statement.{statement}

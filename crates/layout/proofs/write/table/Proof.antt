@@ -1,3 +1,5 @@
+-- `table` meets its contract, by `table-none`, `table-turn` and `table-all`.
+-- Assumes nothing.
 use mathlib.Core.Path.{_≡_}
 use Prim.Native.Nat.{_≤_, _-_}
 use borrow.Author.Needs.{needs}
