@@ -8,6 +8,7 @@ use native.Mathlib.Omega.{arith}
 use borrow.Author.Tests.{le-leb, lt-leb, eq-eqb, ne-eqb}
 use lib.Dec.{eqb}
 use lib.ListN.{length, take, drop, List·getD-eq-default}
+use lib.Seq.{getD-drop}
 use Rattle.base.specs.Choice.{and}
 use Rattle.base.proofs.Choices.{by-eq}
 use Rattle.base.proofs.Lists.{part-tail}
@@ -25,6 +26,7 @@ use Rattle.console.specs.Fit.{fitOf}
 use Rattle.printer.specs.declared.Printer.{Printer}
 use Rattle.wire.specs.Fits.{gatherFits, replyFits}
 use Rattle.cio.specs.declared.plan.Group.{Group}
+use Rattle.cio.specs.declared.plan.Group.the-variants as groups
 use Rattle.state.specs.declared.Stick.{Stick}
 use Rattle.state.specs.Fits.{heldOf, clash, openFor, inUse, spans, runFits, phaseFits, portFits, stickFits}
 use Rattle.state.proofs.Tested as tested
@@ -169,6 +171,30 @@ module _ (b : List ℕ) (one other : Phase) (g h : Group) (r : Bool) (p : one �
   pub apart-is : r ≡ false → true ≡ portsApart (stickOf b)
   unfolding portsApart stickOf portOf
   apart-is z = rw (← clashing, z)
+
+-- a port that runs no request holds no group
+pub holds-none : (b : List ℕ) → (at b 0 ≡ 2 → ⊥) → heldOf (phaseOf b) ≡ groups.Nobody
+unfolding phaseOf
+holds-none b n =
+    by-eq (at b 0) 0 (λ z. rw (eq-eqb (at b 0) 0 z))
+    (λ n0. by-eq (at b 0) 1 (λ z. rw (ne-eqb (at b 0) 0 n0, eq-eqb (at b 0) 1 z))
+    (λ n1. rw (ne-eqb (at b 0) 0 n0, ne-eqb (at b 0) 1 n1, ne-eqb (at b 0) 2 n)))
+
+clash-none : (g : Group) → clash g groups.Nobody ≡ false
+clash-none groups.Nobody = refl
+clash-none groups.Console = refl
+clash-none groups.Printer = refl
+
+module _ (b : List ℕ) where
+  pub apart-0 : (at b 0 ≡ 2 → ⊥) → true ≡ portsApart (stickOf b)
+  unfolding portsApart stickOf portOf
+  apart-0 n = ap not (tested.clash-nobody (heldOf (phaseOf b)) (heldOf (phaseOf (drop 35 b))) (holds-none b n))
+
+  pub apart-1 : (at b 35 ≡ 2 → ⊥) → true ≡ portsApart (stickOf b)
+  unfolding portsApart stickOf portOf
+  apart-1 n =
+      let m : at (drop 35 b) 0 ≡ 2 → ⊥ = λ z. n (sym (getD-drop 35 b 0 0) ∙ z) in
+      ap not (sym (ap (clash (heldOf (phaseOf b))) (holds-none (drop 35 b) m) ∙ clash-none (heldOf (phaseOf b))))
 
 module _ (b : List ℕ) (console : Console) (t : Bool) (e : t ≡ fitOf console) where
   pub devices-console : t ≡ false → false ≡ devicesFit (stickOf b) console

@@ -117,8 +117,8 @@ fn ports(bytes: &[u8], console: Console) -> bool
     false
 }
 
-// The two ports hold no group both.
-fn apart(bytes: &[u8]) -> bool
+// The groups that the two ports hold are not one.
+fn groups_apart(bytes: &[u8]) -> bool
     requires { ⌜ Headed (now bytes) ⌝ }
     ensures { λ r. ⌜ r ≡ portsApart (stickOf (now (bytes .entry))) ⌝ }
 {
@@ -126,6 +126,20 @@ fn apart(bytes: &[u8]) -> bool
     let other = state::fits::held_by(read::phase(&bytes[35..]));
     if state::fits::clashes(one, other) {
         return false;
+    }
+    true
+}
+
+// The two ports hold no group both: only a running request holds one.
+fn apart(bytes: &[u8]) -> bool
+    requires { ⌜ Headed (now bytes) ⌝ }
+    ensures { λ r. ⌜ r ≡ portsApart (stickOf (now (bytes .entry))) ⌝ }
+{
+    if bytes[0] == 2 {
+        if bytes[35] == 2 {
+            return groups_apart(bytes);
+        }
+        return true;
     }
     true
 }

@@ -5,7 +5,7 @@ use mathlib.Core.Bool.{Bool, true, false}
 use mathlib.Core.List.{List, _++_, append-assoc}
 use Prim.Native.Nat.{ℕ, _+_, _-_, _≤_}
 use native.Mathlib.Omega.{arith}
-use lib.ListN.{length, take, drop, length-append, length-drop, take-append-drop}
+use lib.ListN.{length, getD, take, drop, length-append, length-drop, take-append-drop}
 use lib.Seq.{sets, length-take-le, drop-drop, take-add}
 use Rattle.base.proofs.Lists.{part-tail, back-tail}
 use Rattle.blocks.specs.declared.Gather.{Gather}
@@ -32,6 +32,7 @@ use Rattle.layout.specs.Layout.{Headed, headOf, phaseBytes, consoleBytes, phase
 use Rattle.layout.specs.InBytes.{Bytes}
 use Rattle.layout.specs.Parts.{withPhase0, withPhase1, withConsole}
 use Rattle.layout.proofs.WriteRead.{state-back}
+use Rattle.layout.proofs.Fitting.{holds-none}
 use Rattle.layout.proofs.Parts.{state-phase0, state-phase1, state-console}
 use Rattle.lent.specs.Calls.{Buffers, buffers, Left, left, lentOf, leftOf}
 use Rattle.lent.specs.Guard.{Undamaged}
@@ -278,6 +279,9 @@ module _ (state : List ℕ) (k : passing.Known state) (area screen paper : List 
 module _ (b : List ℕ) (phase : Phase) (g : Group) (t : Bool) where
   pub holds-of : phase ≡ phaseOf b → g ≡ heldOf phase → t ≡ clash groups.Console g → t ≡ clash groups.Console (heldOf (phaseOf b))
   holds-of p q e = e ∙ rw (q, p)
+
+pub holds-not : (b : List ℕ) → (getD b 0 0 ≡ 2 → ⊥) → false ≡ clash groups.Console (heldOf (phaseOf b))
+holds-not b n = sym (ap (clash groups.Console) (holds-none b n))
 
 module _ (b : List ℕ) (t : Bool) (p : t ≡ clash groups.Console (heldOf (phaseOf b))) where
   pub held-0 : t ≡ true → true ≡ consoleHeld (stickOf b)

@@ -455,8 +455,11 @@ fn holds(bytes: &[u8]) -> bool
     requires { ⌜ 11 ≤ length (now bytes) ⌝ }
     ensures { λ r. ⌜ r ≡ clash groups.Console (heldOf (phaseOf (now (bytes .entry)))) ⌝ }
 {
-    let phase = layout::read::phase(bytes);
-    state::fits::clashes(Group::Console, state::fits::held_by(phase))
+    if bytes[0] == 2 {
+        let phase = layout::read::phase(bytes);
+        return state::fits::clashes(Group::Console, state::fits::held_by(phase));
+    }
+    false
 }
 
 fn console_is_held(state: &[u8]) -> bool

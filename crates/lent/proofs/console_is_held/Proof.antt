@@ -4,35 +4,25 @@ use Rattle.lent.proofs.Acts.{held-0, held-1}
 use borrow.Author.Needs.{needs}
 use Rattle.lent.proofs.console_is_held.Statement.{statement}
 use Rattle.lent.proofs.console_is_held.Tie as tie
-use Rattle.lent.proofs.console_is_held.Reads as reads
-use Rattle.lent.proofs.console_is_held.Lts as lts
-use Rattle.lent.proofs.holds.Reads as holds-reads
 
--- src/lib.rt:298:8
 holds-requires : tie.Need-holds-requires
 holds-requires c κs = search needs
 
--- src/lib.rt:299:9
 returns : tie.Need-returns
 returns c = search held-0
 
--- src/lib.rt:301:11
 sub-holds : tie.Need-sub-holds
 sub-holds c = search needs
 
--- src/lib.rt:301:11
 part-holds-start : tie.Need-part-holds-start
 part-holds-start c = search needs
 
--- src/lib.rt:301:11
 part-holds-end : tie.Need-part-holds-end
 part-holds-end c = search needs
 
--- src/lib.rt:301:5
 holds-requires-2 : tie.Need-holds-requires-2
 holds-requires-2 c κs = search needs
 
--- src/lib.rt:294:1
 returns-2 : tie.Need-returns-2
 returns-2 c = search held-1
 

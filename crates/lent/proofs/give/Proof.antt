@@ -4,81 +4,58 @@ use Rattle.lent.proofs.Passing.{not-refused, give-port-0, give-port-1, 
 use borrow.Author.Needs.{needs}
 use Rattle.lent.proofs.give.Statement.{statement}
 use Rattle.lent.proofs.give.Tie as tie
-use Rattle.lent.proofs.give.Reads as reads
-use Rattle.lent.proofs.give.Lts as lts
-use Rattle.lent.proofs.give_0.Reads as give-0-reads
-use Rattle.lent.proofs.give_1.Reads as give-1-reads
-use Rattle.lent.proofs.guard.Reads as guard-reads
 
--- src/lib.rt:151:9
 guard-requires : tie.Need-guard-requires
 guard-requires c κs = search needs
 
--- src/lib.rt:154:13
 give-0-requires : tie.Need-give-0-requires
 give-0-requires c κs = not-refused _ _ _ _ _ _ (c .before .before .before .before .before .before .guard .ensures) (c .before .before .before .before .before .if1 .taken)
 
--- src/lib.rt:154:13
 same-length : tie.Need-same-length
 same-length c = search needs
 
--- src/lib.rt:154:13
 same-length-2 : tie.Need-same-length-2
 same-length-2 c = search needs
 
--- src/lib.rt:154:13
 same-length-3 : tie.Need-same-length-3
 same-length-3 c = search needs
 
--- src/lib.rt:154:13
 same-length-4 : tie.Need-same-length-4
 same-length-4 c = search needs
 
--- src/lib.rt:154:13
 returns : tie.Need-returns
 returns c = search give-port-0
 
--- src/lib.rt:156:9
 give-1-requires : tie.Need-give-1-requires
 give-1-requires c κs = not-refused _ _ _ _ _ _ (c .before .before .before .before .before .before .guard .ensures) (c .before .before .before .before .before .if1 .taken)
 
--- src/lib.rt:156:9
 same-length-5 : tie.Need-same-length-5
 same-length-5 c = search needs
 
--- src/lib.rt:156:9
 same-length-6 : tie.Need-same-length-6
 same-length-6 c = search needs
 
--- src/lib.rt:156:9
 same-length-7 : tie.Need-same-length-7
 same-length-7 c = search needs
 
--- src/lib.rt:156:9
 same-length-8 : tie.Need-same-length-8
 same-length-8 c = search needs
 
--- src/lib.rt:156:9
 returns-2 : tie.Need-returns-2
 returns-2 c = search give-port-1
 
--- src/lib.rt:142:1
 same-length-9 : tie.Need-same-length-9
 same-length-9 c = search needs
 
--- src/lib.rt:142:1
 same-length-10 : tie.Need-same-length-10
 same-length-10 c = search needs
 
--- src/lib.rt:142:1
 same-length-11 : tie.Need-same-length-11
 same-length-11 c = search needs
 
--- src/lib.rt:142:1
 same-length-12 : tie.Need-same-length-12
 same-length-12 c = search needs
 
--- src/lib.rt:142:1
 returns-3 : tie.Need-returns-3
 returns-3 c = search (give-refused (c .before .before .before .before .before .before .before .before .before .before .args .state .now) (c .before .before .before .before .before .before .before .before .before .slice-known .given))
 

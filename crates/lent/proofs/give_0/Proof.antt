@@ -5,81 +5,58 @@ use Rattle.lent.proofs.Acts.{phase-long, to-342, give-0-gathering, give
 use borrow.Author.Needs.{needs}
 use Rattle.lent.proofs.give_0.Statement.{statement}
 use Rattle.lent.proofs.give_0.Tie as tie
-use Rattle.lent.proofs.give_0.Reads as reads
-use Rattle.lent.proofs.give_0.Lts as lts
-use Rattle.layout.proofs.read.phase.Reads as read-phase-reads
-use Rattle.layout.proofs.write.phase.Reads as write-phase-reads
-use Rattle.wire.proofs.give.Reads as give-reads
 
--- src/lib.rt:242:9
 phase-requires : tie.Need-phase-requires
 phase-requires c κs = search phase-long
 
--- src/lib.rt:244:26
 enum-known-phase : tie.Need-enum-known-phase
 enum-known-phase c = search needs
 
--- src/lib.rt:245:22
 enum-known-phase-2 : tie.Need-enum-known-phase-2
 enum-known-phase-2 c = search needs
 
--- src/lib.rt:246:24
 enum-known-phase-3 : tie.Need-enum-known-phase-3
 enum-known-phase-3 c = search needs
 
--- src/lib.rt:247:25
 enum-known-phase-4 : tie.Need-enum-known-phase-4
 enum-known-phase-4 c = search needs
 
--- src/lib.rt:248:43
 sub-give : tie.Need-sub-give
 sub-give c = search needs
 
--- src/lib.rt:248:43
 part-give-start : tie.Need-part-give-start
 part-give-start c = search needs
 
--- src/lib.rt:248:43
 part-give-end : tie.Need-part-give-end
 part-give-end c = search to-342
 
--- src/lib.rt:248:17
 give-requires : tie.Need-give-requires
 give-requires c κs = search needs
 
--- src/lib.rt:250:13
 phase-requires-2 : tie.Need-phase-requires-2
 phase-requires-2 c κs = search phase-long
 
--- src/lib.rt:233:1
 same-length : tie.Need-same-length
 same-length c = search needs
 
--- src/lib.rt:233:1
 returns : tie.Need-returns
 returns c = search (give-0-gathering (c .before .before .before .before .before .before .before .before .before .args .state .now) (c .before .before .before .before .before .before .before .before .slice-known .given))
 
--- src/lib.rt:233:1
 same-length-2 : tie.Need-same-length-2
 same-length-2 c = search needs
 
--- src/lib.rt:233:1
 returns-2 : tie.Need-returns-2
 returns-2 c = search (give-0-ready (c .before .before .before .before .before .before .before .before .before .args .state .now) (c .before .before .before .before .before .before .before .before .slice-known .given))
 
--- src/lib.rt:233:1
 same-length-3 : tie.Need-same-length-3
 same-length-3 c = search needs
 
--- src/lib.rt:233:1
 returns-3 : tie.Need-returns-3
 returns-3 c = search (give-0-running (c .before .before .before .before .before .before .before .before .before .args .state .now) (c .before .before .before .before .before .before .before .before .slice-known .given))
 
--- src/lib.rt:233:1
 same-length-4 : tie.Need-same-length-4
 same-length-4 c = search needs
 
--- src/lib.rt:233:1
 returns-4 : tie.Need-returns-4
 returns-4 c = search (give-0-replying (c .before .before .before .before .before .before .before .before .before .before .before .before .before .before .before .before .args .state .now) (c .before .before .before .before .before .before .before .before .before .before .before .before .before .before .before .slice-known .given))
 

@@ -5,93 +5,67 @@ use Rattle.lent.proofs.Acts.{from-35, phase-long-1, to-342, state-heade
 use borrow.Author.Needs.{needs}
 use Rattle.lent.proofs.give_1.Statement.{statement}
 use Rattle.lent.proofs.give_1.Tie as tie
-use Rattle.lent.proofs.give_1.Reads as reads
-use Rattle.lent.proofs.give_1.Lts as lts
-use Rattle.layout.proofs.read.phase.Reads as phase-reads
-use Rattle.layout.proofs.write.phase_1.Reads as phase-1-reads
-use Rattle.wire.proofs.give.Reads as give-reads
 
--- src/lib.rt:268:37
 sub-phase : tie.Need-sub-phase
 sub-phase c = search from-35
 
--- src/lib.rt:268:37
 part-phase-start : tie.Need-part-phase-start
 part-phase-start c = search from-35
 
--- src/lib.rt:268:37
 part-phase-end : tie.Need-part-phase-end
 part-phase-end c = search needs
 
--- src/lib.rt:268:9
 phase-requires : tie.Need-phase-requires
 phase-requires c κs = search phase-long-1
 
--- src/lib.rt:270:26
 enum-known-phase : tie.Need-enum-known-phase
 enum-known-phase c = search needs
 
--- src/lib.rt:271:22
 enum-known-phase-2 : tie.Need-enum-known-phase-2
 enum-known-phase-2 c = search needs
 
--- src/lib.rt:272:24
 enum-known-phase-3 : tie.Need-enum-known-phase-3
 enum-known-phase-3 c = search needs
 
--- src/lib.rt:273:25
 enum-known-phase-4 : tie.Need-enum-known-phase-4
 enum-known-phase-4 c = search needs
 
--- src/lib.rt:274:43
 sub-give : tie.Need-sub-give
 sub-give c = search to-342
 
--- src/lib.rt:274:43
 part-give-start : tie.Need-part-give-start
 part-give-start c = search to-342
 
--- src/lib.rt:274:43
 part-give-end : tie.Need-part-give-end
 part-give-end c = search needs
 
--- src/lib.rt:274:17
 give-requires : tie.Need-give-requires
 give-requires c κs = search needs
 
--- src/lib.rt:276:13
 phase-1-requires : tie.Need-phase-1-requires
 phase-1-requires c κs = search state-headed
 
--- src/lib.rt:259:1
 same-length : tie.Need-same-length
 same-length c = search needs
 
--- src/lib.rt:259:1
 returns : tie.Need-returns
 returns c = search (give-1-gathering (c .before .before .before .before .before .before .before .before .before .before .args .state .now) (c .before .before .before .before .before .before .before .before .before .slice-known .given))
 
--- src/lib.rt:259:1
 same-length-2 : tie.Need-same-length-2
 same-length-2 c = search needs
 
--- src/lib.rt:259:1
 returns-2 : tie.Need-returns-2
 returns-2 c = search (give-1-ready (c .before .before .before .before .before .before .before .before .before .before .args .state .now) (c .before .before .before .before .before .before .before .before .before .slice-known .given))
 
--- src/lib.rt:259:1
 same-length-3 : tie.Need-same-length-3
 same-length-3 c = search needs
 
--- src/lib.rt:259:1
 returns-3 : tie.Need-returns-3
 returns-3 c = search (give-1-running (c .before .before .before .before .before .before .before .before .before .before .args .state .now) (c .before .before .before .before .before .before .before .before .before .slice-known .given))
 
--- src/lib.rt:259:1
 same-length-4 : tie.Need-same-length-4
 same-length-4 c = search needs
 
--- src/lib.rt:259:1
 returns-4 : tie.Need-returns-4
 returns-4 c = search (give-1-replying (c .before .before .before .before .before .before .before .before .before .before .before .before .before .before .before .before .before .args .state .now) (c .before .before .before .before .before .before .before .before .before .before .before .before .before .before .before .before .slice-known .given))
 

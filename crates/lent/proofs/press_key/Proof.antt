@@ -4,54 +4,37 @@ use Rattle.lent.proofs.Acts.{state-headed, press-held, from-70, console
 use borrow.Author.Needs.{needs}
 use Rattle.lent.proofs.press_key.Statement.{statement}
 use Rattle.lent.proofs.press_key.Tie as tie
-use Rattle.lent.proofs.press_key.Reads as reads
-use Rattle.lent.proofs.press_key.Lts as lts
-use Rattle.console.proofs.state.Console.press.Reads as press-reads
-use Rattle.layout.proofs.read.console.Reads as console-reads
-use Rattle.layout.proofs.write.console_in.Reads as console-in-reads
-use Rattle.lent.proofs.console_is_held.Reads as console-is-held-reads
 
--- src/lib.rt:314:8
 console-is-held-requires : tie.Need-console-is-held-requires
 console-is-held-requires c κs = search state-headed
 
--- src/lib.rt:315:9
 same-length : tie.Need-same-length
 same-length c = search needs
 
--- src/lib.rt:315:9
 returns : tie.Need-returns
 returns c = search (press-held (c .before .before .before .before .before .before .before .args .state .now) (c .before .before .before .before .before .before .slice-known .given))
 
--- src/lib.rt:317:41
 sub-console : tie.Need-sub-console
 sub-console c = search from-70
 
--- src/lib.rt:317:41
 part-console-start : tie.Need-part-console-start
 part-console-start c = search from-70
 
--- src/lib.rt:317:41
 part-console-end : tie.Need-part-console-end
 part-console-end c = search needs
 
--- src/lib.rt:317:9
 console-requires : tie.Need-console-requires
 console-requires c κs = search console-long
 
--- src/lib.rt:318:9
 press-requires : tie.Need-press-requires
 press-requires c κs = search needs
 
--- src/lib.rt:319:5
 console-in-requires : tie.Need-console-in-requires
 console-in-requires c κs = search state-headed
 
--- src/lib.rt:304:1
 same-length-2 : tie.Need-same-length-2
 same-length-2 c = search needs
 
--- src/lib.rt:304:1
 returns-2 : tie.Need-returns-2
 returns-2 c = search (press-free (c .before .before .before .before .before .before .before .before .before .before .before .before .before .before .before .args .state .now) (c .before .before .before .before .before .before .before .before .before .before .before .before .before .before .slice-known .given))
 

@@ -4,81 +4,58 @@ use Rattle.lent.proofs.Passing.{not-refused, take-port-0, take-port-1, 
 use borrow.Author.Needs.{needs}
 use Rattle.lent.proofs.take.Statement.{statement}
 use Rattle.lent.proofs.take.Tie as tie
-use Rattle.lent.proofs.take.Reads as reads
-use Rattle.lent.proofs.take.Lts as lts
-use Rattle.lent.proofs.guard.Reads as guard-reads
-use Rattle.lent.proofs.take_0.Reads as take-0-reads
-use Rattle.lent.proofs.take_1.Reads as take-1-reads
 
--- src/lib.rt:101:9
 guard-requires : tie.Need-guard-requires
 guard-requires c κs = search needs
 
--- src/lib.rt:104:13
 take-0-requires : tie.Need-take-0-requires
 take-0-requires c κs = not-refused _ _ _ _ _ _ (c .before .before .before .before .before .before .guard .ensures) (c .before .before .before .before .before .if1 .taken)
 
--- src/lib.rt:104:13
 same-length : tie.Need-same-length
 same-length c = search needs
 
--- src/lib.rt:104:13
 same-length-2 : tie.Need-same-length-2
 same-length-2 c = search needs
 
--- src/lib.rt:104:13
 same-length-3 : tie.Need-same-length-3
 same-length-3 c = search needs
 
--- src/lib.rt:104:13
 same-length-4 : tie.Need-same-length-4
 same-length-4 c = search needs
 
--- src/lib.rt:104:13
 returns : tie.Need-returns
 returns c = search take-port-0
 
--- src/lib.rt:106:9
 take-1-requires : tie.Need-take-1-requires
 take-1-requires c κs = not-refused _ _ _ _ _ _ (c .before .before .before .before .before .before .guard .ensures) (c .before .before .before .before .before .if1 .taken)
 
--- src/lib.rt:106:9
 same-length-5 : tie.Need-same-length-5
 same-length-5 c = search needs
 
--- src/lib.rt:106:9
 same-length-6 : tie.Need-same-length-6
 same-length-6 c = search needs
 
--- src/lib.rt:106:9
 same-length-7 : tie.Need-same-length-7
 same-length-7 c = search needs
 
--- src/lib.rt:106:9
 same-length-8 : tie.Need-same-length-8
 same-length-8 c = search needs
 
--- src/lib.rt:106:9
 returns-2 : tie.Need-returns-2
 returns-2 c = search take-port-1
 
--- src/lib.rt:91:1
 same-length-9 : tie.Need-same-length-9
 same-length-9 c = search needs
 
--- src/lib.rt:91:1
 same-length-10 : tie.Need-same-length-10
 same-length-10 c = search needs
 
--- src/lib.rt:91:1
 same-length-11 : tie.Need-same-length-11
 same-length-11 c = search needs
 
--- src/lib.rt:91:1
 same-length-12 : tie.Need-same-length-12
 same-length-12 c = search needs
 
--- src/lib.rt:91:1
 returns-3 : tie.Need-returns-3
 returns-3 c = search (take-refused (c .before .before .before .before .before .before .before .before .before .before .args .state .now) (c .before .before .before .before .before .before .before .before .before .slice-known .given))
 

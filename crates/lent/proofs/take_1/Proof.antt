@@ -5,93 +5,67 @@ use Rattle.lent.proofs.Acts.{from-35, phase-long-1, to-342, headed-afte
 use borrow.Author.Needs.{needs}
 use Rattle.lent.proofs.take_1.Statement.{statement}
 use Rattle.lent.proofs.take_1.Tie as tie
-use Rattle.lent.proofs.take_1.Reads as reads
-use Rattle.lent.proofs.take_1.Lts as lts
-use Rattle.layout.proofs.read.phase.Reads as phase-reads
-use Rattle.layout.proofs.write.phase_1.Reads as phase-1-reads
-use Rattle.wire.proofs.take.Reads as take-reads
 
--- src/lib.rt:220:37
 sub-phase : tie.Need-sub-phase
 sub-phase c = search from-35
 
--- src/lib.rt:220:37
 part-phase-start : tie.Need-part-phase-start
 part-phase-start c = search from-35
 
--- src/lib.rt:220:37
 part-phase-end : tie.Need-part-phase-end
 part-phase-end c = search needs
 
--- src/lib.rt:220:9
 phase-requires : tie.Need-phase-requires
 phase-requires c κs = search phase-long-1
 
--- src/lib.rt:222:26
 enum-known-phase : tie.Need-enum-known-phase
 enum-known-phase c = search needs
 
--- src/lib.rt:223:43
 sub-take : tie.Need-sub-take
 sub-take c = search to-342
 
--- src/lib.rt:223:43
 part-take-start : tie.Need-part-take-start
 part-take-start c = search to-342
 
--- src/lib.rt:223:43
 part-take-end : tie.Need-part-take-end
 part-take-end c = search needs
 
--- src/lib.rt:223:17
 take-requires : tie.Need-take-requires
 take-requires c κs = search needs
 
--- src/lib.rt:224:13
 phase-1-requires : tie.Need-phase-1-requires
 phase-1-requires c κs = search headed-after-1
 
--- src/lib.rt:227:22
 enum-known-phase-2 : tie.Need-enum-known-phase-2
 enum-known-phase-2 c = search needs
 
--- src/lib.rt:228:24
 enum-known-phase-3 : tie.Need-enum-known-phase-3
 enum-known-phase-3 c = search needs
 
--- src/lib.rt:229:25
 enum-known-phase-4 : tie.Need-enum-known-phase-4
 enum-known-phase-4 c = search needs
 
--- src/lib.rt:210:1
 same-length : tie.Need-same-length
 same-length c = search needs
 
--- src/lib.rt:210:1
 returns : tie.Need-returns
 returns c = search (take-1-gathering (c .before .before .before .before .before .before .before .before .before .before .before .before .before .before .before .before .before .before .args .state .now) (c .before .before .before .before .before .before .before .before .before .before .before .before .before .before .before .before .before .slice-known .given))
 
--- src/lib.rt:210:1
 same-length-2 : tie.Need-same-length-2
 same-length-2 c = search needs
 
--- src/lib.rt:210:1
 returns-2 : tie.Need-returns-2
 returns-2 c = search (take-1-ready (c .before .before .before .before .before .before .before .before .before .before .args .state .now) (c .before .before .before .before .before .before .before .before .before .slice-known .given))
 
--- src/lib.rt:210:1
 same-length-3 : tie.Need-same-length-3
 same-length-3 c = search needs
 
--- src/lib.rt:210:1
 returns-3 : tie.Need-returns-3
 returns-3 c = search (take-1-running (c .before .before .before .before .before .before .before .before .before .before .args .state .now) (c .before .before .before .before .before .before .before .before .before .slice-known .given))
 
--- src/lib.rt:210:1
 same-length-4 : tie.Need-same-length-4
 same-length-4 c = search needs
 
--- src/lib.rt:210:1
 returns-4 : tie.Need-returns-4
 returns-4 c = search (take-1-replying (c .before .before .before .before .before .before .before .before .before .before .args .state .now) (c .before .before .before .before .before .before .before .before .before .slice-known .given))
 

@@ -1,85 +1,61 @@
 -- `tick` meets its contract, by `not-refused`, `tick-refused`, `tick-port-0` and `tick-port-1`.
 -- Assumes nothing.
-use Rattle.lent.proofs.Passing.{not-refused, tick-refused}
-use Rattle.lent.proofs.Passing.{tick-port-0, tick-port-1}
+use Rattle.lent.proofs.Passing.{not-refused, tick-refused, tick-port-0, tick-port-1}
 use borrow.Author.Needs.{needs}
 use Rattle.lent.proofs.tick.Statement.{statement}
 use Rattle.lent.proofs.tick.Tie as tie
-use Rattle.lent.proofs.tick.Reads as reads
-use Rattle.lent.proofs.tick.Lts as lts
-use Rattle.lent.proofs.guard.Reads as guard-reads
-use Rattle.lent.proofs.tick_0.Reads as tick-0-reads
-use Rattle.lent.proofs.tick_1.Reads as tick-1-reads
 
--- src/lib.rt:116:9
 guard-requires : tie.Need-guard-requires
 guard-requires c κs = search needs
 
--- src/lib.rt:119:13
 tick-0-requires : tie.Need-tick-0-requires
 tick-0-requires c κs = not-refused _ _ _ _ _ _ (c .before .before .before .before .before .before .guard .ensures) (c .before .before .before .before .before .if1 .taken)
 
--- src/lib.rt:119:13
 same-length : tie.Need-same-length
 same-length c = search needs
 
--- src/lib.rt:119:13
 same-length-2 : tie.Need-same-length-2
 same-length-2 c = search needs
 
--- src/lib.rt:119:13
 same-length-3 : tie.Need-same-length-3
 same-length-3 c = search needs
 
--- src/lib.rt:119:13
 same-length-4 : tie.Need-same-length-4
 same-length-4 c = search needs
 
--- src/lib.rt:119:13
 returns : tie.Need-returns
 returns c = search tick-port-0
 
--- src/lib.rt:121:9
 tick-1-requires : tie.Need-tick-1-requires
 tick-1-requires c κs = not-refused _ _ _ _ _ _ (c .before .before .before .before .before .before .guard .ensures) (c .before .before .before .before .before .if1 .taken)
 
--- src/lib.rt:121:9
 same-length-5 : tie.Need-same-length-5
 same-length-5 c = search needs
 
--- src/lib.rt:121:9
 same-length-6 : tie.Need-same-length-6
 same-length-6 c = search needs
 
--- src/lib.rt:121:9
 same-length-7 : tie.Need-same-length-7
 same-length-7 c = search needs
 
--- src/lib.rt:121:9
 same-length-8 : tie.Need-same-length-8
 same-length-8 c = search needs
 
--- src/lib.rt:121:9
 returns-2 : tie.Need-returns-2
 returns-2 c = search tick-port-1
 
--- src/lib.rt:107:1
 same-length-9 : tie.Need-same-length-9
 same-length-9 c = search needs
 
--- src/lib.rt:107:1
 same-length-10 : tie.Need-same-length-10
 same-length-10 c = search needs
 
--- src/lib.rt:107:1
 same-length-11 : tie.Need-same-length-11
 same-length-11 c = search needs
 
--- src/lib.rt:107:1
 same-length-12 : tie.Need-same-length-12
 same-length-12 c = search needs
 
--- src/lib.rt:107:1
 returns-3 : tie.Need-returns-3
 returns-3 c = search (tick-refused (c .before .before .before .before .before .before .before .before .before .before .args .state .now) (c .before .before .before .before .before .before .before .before .before .slice-known .given))
 

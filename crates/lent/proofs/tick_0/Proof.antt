@@ -1,99 +1,72 @@
--- `tick_0` meets its contract, by `tick-0-gathering`, `tick-0-replying`, `phase-long`, `going-0`, `tick-0-ready` and
--- `tick-0-running`.
+-- `tick_0` meets its contract, by `tick-0-gathering`, `tick-0-replying`, `going-0`, `tick-0-ready`, `tick-0-running` and
+-- `phase-long`.
 -- Assumes nothing.
-use Rattle.lent.proofs.Moves.{tick-0-gathering, tick-0-replying}
+use Rattle.lent.proofs.Moves.{tick-0-gathering, tick-0-replying, going-0, tick-0-ready, tick-0-running}
 use Rattle.lent.proofs.Acts.{phase-long}
-use Rattle.lent.proofs.Moves.{going-0, tick-0-ready, tick-0-running}
 use borrow.Author.Needs.{needs}
 use Rattle.lent.proofs.tick_0.Statement.{statement}
 use Rattle.lent.proofs.tick_0.Tie as tie
-use Rattle.lent.proofs.tick_0.Reads as reads
-use Rattle.lent.proofs.tick_0.Lts as lts
-use Rattle.layout.proofs.read.phase.Reads as phase-reads
-use Rattle.lent.proofs.move_0.Reads as move-0-reads
-use Rattle.lent.proofs.start.Reads as start-reads
 
--- src/lib.rt:251:9
 phase-requires : tie.Need-phase-requires
 phase-requires c κs = search phase-long
 
--- src/lib.rt:253:26
 enum-known-phase : tie.Need-enum-known-phase
 enum-known-phase c = search needs
 
--- src/lib.rt:254:22
 enum-known-phase-2 : tie.Need-enum-known-phase-2
 enum-known-phase-2 c = search needs
 
--- src/lib.rt:254:33
 start-requires : tie.Need-start-requires
 start-requires c κs = search needs
 
--- src/lib.rt:255:24
 enum-known-phase-3 : tie.Need-enum-known-phase-3
 enum-known-phase-3 c = search needs
 
--- src/lib.rt:255:32
 move-0-requires : tie.Need-move-0-requires
 move-0-requires c κs = search going-0
 
--- src/lib.rt:256:25
 enum-known-phase-4 : tie.Need-enum-known-phase-4
 enum-known-phase-4 c = search needs
 
--- src/lib.rt:242:1
 same-length : tie.Need-same-length
 same-length c = search needs
 
--- src/lib.rt:242:1
 returns : tie.Need-returns
 returns c = search (tick-0-gathering (c .before .before .before .before .before .before .before .before .before .args .state .now) (c .before .before .before .before .before .before .before .before .slice-known .given))
 
--- src/lib.rt:242:1
 same-length-2 : tie.Need-same-length-2
 same-length-2 c = search needs
 
--- src/lib.rt:242:1
 same-length-3 : tie.Need-same-length-3
 same-length-3 c = search needs
 
--- src/lib.rt:242:1
 same-length-4 : tie.Need-same-length-4
 same-length-4 c = search needs
 
--- src/lib.rt:242:1
 same-length-5 : tie.Need-same-length-5
 same-length-5 c = search needs
 
--- src/lib.rt:242:1
 returns-2 : tie.Need-returns-2
 returns-2 c = search tick-0-ready
 
--- src/lib.rt:242:1
 same-length-6 : tie.Need-same-length-6
 same-length-6 c = search needs
 
--- src/lib.rt:242:1
 same-length-7 : tie.Need-same-length-7
 same-length-7 c = search needs
 
--- src/lib.rt:242:1
 same-length-8 : tie.Need-same-length-8
 same-length-8 c = search needs
 
--- src/lib.rt:242:1
 same-length-9 : tie.Need-same-length-9
 same-length-9 c = search needs
 
--- src/lib.rt:242:1
 returns-3 : tie.Need-returns-3
 returns-3 c = search tick-0-running
 
--- src/lib.rt:242:1
 same-length-10 : tie.Need-same-length-10
 same-length-10 c = search needs
 
--- src/lib.rt:242:1
 returns-4 : tie.Need-returns-4
 returns-4 c = search (tick-0-replying (c .before .before .before .before .before .before .before .before .before .args .state .now) (c .before .before .before .before .before .before .before .before .slice-known .given))
 

@@ -1,111 +1,81 @@
--- `tick_1` meets its contract, by `tick-1-gathering`, `tick-1-replying`, `from-35`, `phase-long-1`, `going-1`, `tick-1-ready` and
--- `tick-1-running`.
+-- `tick_1` meets its contract, by `tick-1-gathering`, `tick-1-replying`, `going-1`, `tick-1-ready`, `tick-1-running`, `from-35`
+-- and `phase-long-1`.
 -- Assumes nothing.
-use Rattle.lent.proofs.Moves.{tick-1-gathering, tick-1-replying}
+use Rattle.lent.proofs.Moves.{tick-1-gathering, tick-1-replying, going-1, tick-1-ready, tick-1-running}
 use Rattle.lent.proofs.Acts.{from-35, phase-long-1}
-use Rattle.lent.proofs.Moves.{going-1, tick-1-ready, tick-1-running}
 use borrow.Author.Needs.{needs}
 use Rattle.lent.proofs.tick_1.Statement.{statement}
 use Rattle.lent.proofs.tick_1.Tie as tie
-use Rattle.lent.proofs.tick_1.Reads as reads
-use Rattle.lent.proofs.tick_1.Lts as lts
-use Rattle.layout.proofs.read.phase.Reads as phase-reads
-use Rattle.lent.proofs.move_1.Reads as move-1-reads
-use Rattle.lent.proofs.start.Reads as start-reads
 
--- src/lib.rt:341:37
 sub-phase : tie.Need-sub-phase
 sub-phase c = search from-35
 
--- src/lib.rt:341:37
 part-phase-start : tie.Need-part-phase-start
 part-phase-start c = search from-35
 
--- src/lib.rt:341:37
 part-phase-end : tie.Need-part-phase-end
 part-phase-end c = search needs
 
--- src/lib.rt:341:9
 phase-requires : tie.Need-phase-requires
 phase-requires c κs = search phase-long-1
 
--- src/lib.rt:343:26
 enum-known-phase : tie.Need-enum-known-phase
 enum-known-phase c = search needs
 
--- src/lib.rt:344:22
 enum-known-phase-2 : tie.Need-enum-known-phase-2
 enum-known-phase-2 c = search needs
 
--- src/lib.rt:344:33
 start-requires : tie.Need-start-requires
 start-requires c κs = search needs
 
--- src/lib.rt:345:24
 enum-known-phase-3 : tie.Need-enum-known-phase-3
 enum-known-phase-3 c = search needs
 
--- src/lib.rt:345:32
 move-1-requires : tie.Need-move-1-requires
 move-1-requires c κs = search going-1
 
--- src/lib.rt:346:25
 enum-known-phase-4 : tie.Need-enum-known-phase-4
 enum-known-phase-4 c = search needs
 
--- src/lib.rt:332:1
 same-length : tie.Need-same-length
 same-length c = search needs
 
--- src/lib.rt:332:1
 returns : tie.Need-returns
 returns c = search (tick-1-gathering (c .before .before .before .before .before .before .before .before .before .before .args .state .now) (c .before .before .before .before .before .before .before .before .before .slice-known .given))
 
--- src/lib.rt:332:1
 same-length-2 : tie.Need-same-length-2
 same-length-2 c = search needs
 
--- src/lib.rt:332:1
 same-length-3 : tie.Need-same-length-3
 same-length-3 c = search needs
 
--- src/lib.rt:332:1
 same-length-4 : tie.Need-same-length-4
 same-length-4 c = search needs
 
--- src/lib.rt:332:1
 same-length-5 : tie.Need-same-length-5
 same-length-5 c = search needs
 
--- src/lib.rt:332:1
 returns-2 : tie.Need-returns-2
 returns-2 c = search tick-1-ready
 
--- src/lib.rt:332:1
 same-length-6 : tie.Need-same-length-6
 same-length-6 c = search needs
 
--- src/lib.rt:332:1
 same-length-7 : tie.Need-same-length-7
 same-length-7 c = search needs
 
--- src/lib.rt:332:1
 same-length-8 : tie.Need-same-length-8
 same-length-8 c = search needs
 
--- src/lib.rt:332:1
 same-length-9 : tie.Need-same-length-9
 same-length-9 c = search needs
 
--- src/lib.rt:332:1
 returns-3 : tie.Need-returns-3
 returns-3 c = search tick-1-running
 
--- src/lib.rt:332:1
 same-length-10 : tie.Need-same-length-10
 same-length-10 c = search needs
 
--- src/lib.rt:332:1
 returns-4 : tie.Need-returns-4
 returns-4 c = search (tick-1-replying (c .before .before .before .before .before .before .before .before .before .before .args .state .now) (c .before .before .before .before .before .before .before .before .before .slice-known .given))
 

@@ -4,36 +4,25 @@ use Rattle.layout.proofs.Fitting.{port-phase, port-blocks}
 use borrow.Author.Needs.{needs}
 use Rattle.layout.proofs.fits.port.Statement.{statement}
 use Rattle.layout.proofs.fits.port.Tie as tie
-use Rattle.layout.proofs.fits.port.Reads as reads
-use Rattle.layout.proofs.fits.port.Lts as lts
-use Rattle.layout.proofs.fits.phase.Reads as phase-reads
-use Rattle.layout.proofs.fits.table.Reads as table-reads
 
--- src/fits.rt:100:14
 sub-table : tie.Need-sub-table
 sub-table c = search needs
 
--- src/fits.rt:100:14
 part-table-start : tie.Need-part-table-start
 part-table-start c = search needs
 
--- src/fits.rt:100:14
 part-table-end : tie.Need-part-table-end
 part-table-end c = search needs
 
--- src/fits.rt:100:8
 table-requires : tie.Need-table-requires
 table-requires c κs = search needs
 
--- src/fits.rt:101:9
 phase-requires : tie.Need-phase-requires
 phase-requires c κs = search needs
 
--- src/fits.rt:101:9
 returns : tie.Need-returns
 returns c = search port-phase
 
--- src/fits.rt:96:1
 returns-2 : tie.Need-returns-2
 returns-2 c = search port-blocks
 

@@ -4,31 +4,22 @@ use Rattle.layout.proofs.Writing.{console-in}
 use borrow.Author.Needs.{needs}
 use Rattle.layout.proofs.write.console_in.Statement.{statement}
 use Rattle.layout.proofs.write.console_in.Tie as tie
-use Rattle.layout.proofs.write.console_in.Reads as reads
-use Rattle.layout.proofs.write.console_in.Lts as lts
-use Rattle.layout.proofs.write.console.Reads as console-reads
 
--- src/write.rt:279:13
 sub-console : tie.Need-sub-console
 sub-console c = search needs
 
--- src/write.rt:279:13
 part-console-start : tie.Need-part-console-start
 part-console-start c = search needs
 
--- src/write.rt:279:13
 part-console-end : tie.Need-part-console-end
 part-console-end c = search needs
 
--- src/write.rt:279:5
 console-requires : tie.Need-console-requires
 console-requires c κs = search needs
 
--- src/write.rt:275:1
 same-length : tie.Need-same-length
 same-length c = search needs
 
--- src/write.rt:275:1
 returns : tie.Need-returns
 returns c = search console-in
 

@@ -4,31 +4,22 @@ use Rattle.layout.proofs.Writing.{printer-in}
 use borrow.Author.Needs.{needs}
 use Rattle.layout.proofs.write.printer_in.Statement.{statement}
 use Rattle.layout.proofs.write.printer_in.Tie as tie
-use Rattle.layout.proofs.write.printer_in.Reads as reads
-use Rattle.layout.proofs.write.printer_in.Lts as lts
-use Rattle.layout.proofs.write.printer.Reads as printer-reads
 
--- src/write.rt:286:13
 sub-printer : tie.Need-sub-printer
 sub-printer c = search needs
 
--- src/write.rt:286:13
 part-printer-start : tie.Need-part-printer-start
 part-printer-start c = search needs
 
--- src/write.rt:286:13
 part-printer-end : tie.Need-part-printer-end
 part-printer-end c = search needs
 
--- src/write.rt:286:5
 printer-requires : tie.Need-printer-requires
 printer-requires c κs = search needs
 
--- src/write.rt:282:1
 same-length : tie.Need-same-length
 same-length c = search needs
 
--- src/write.rt:282:1
 returns : tie.Need-returns
 returns c = search printer-in
 
