@@ -1,5 +1,5 @@
--- A refusal leaves every byte of every buffer: those with 2 and 3 by definition, those of the stick since its head is written back
--- as it was.
+-- A refusal leaves every byte of every buffer: those with 2 and 3 by definition, those of the stick since its head, written from the
+-- stick that it stands for, is the head that was there.
 -- Assumes nothing.
 use mathlib.Core.Path.{_≡_, _∙_, refl, ap}
 use mathlib.Core.Bool.{true}
