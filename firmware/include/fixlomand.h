@@ -89,8 +89,9 @@ enum {
  * No call resets one port alone. A host that drops out in the middle of a message leaves its port gathering: the bytes
  * that it sends when it is back are taken as the rest of that message (docs/HOSTS.md says how a host finds its place).
  *
- * Of the state a take and a give change the port's first 11 bytes and its room, a press the key code, a tick the port's
- * 35 bytes and room, the console and the printer; a tick also the port's own half of the area, and screen or paper.
+ * Of the state a take changes the port's first 11 bytes and its room, a give these 11 bytes, a press the key code, a
+ * tick the port's 35 bytes and room, and the console or the printer; a tick also the port's own half of the area, and
+ * screen or paper.
  *
  * FIXLOMAND_BAD_LENGTH and FIXLOMAND_BAD_PORT tell of a mistake in the firmware, FIXLOMAND_DAMAGED of memory that lost
  * what it held, as in a brown-out: make a fresh start, drop the bytes and keys that you hold, and reset both links (on

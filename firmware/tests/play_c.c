@@ -7,7 +7,7 @@
  *     G PORT               give: the answer, the byte
  *     P CODE               press: the answer
  *     X PORT N(2)          ticks while the port runs on, at most N: how many (2), the last answer
- *     L BUFFER LENGTH(3)   from now on lend so much of 0 area, 1 screen, 2 paper, 3 rooms: nothing is written
+ *     L BUFFER LENGTH(3)   from now on lend so much of 0 area, 1 screen, 2 paper, 3 state: nothing is written
  *     D                    area, screen, paper, and the state as the header lays it out
  *
  * Each op is answered before the next is read. The buffers stand between guard pages. */
@@ -18,16 +18,14 @@
 #include <string.h>
 #include <unistd.h>
 
-enum { AREA, SCREEN, PAPER, ROOMS, BUFFERS };
+enum { AREA, SCREEN, PAPER, STATE, BUFFERS };
 
 static const size_t whole[BUFFERS] = {FIXLOMAND_AREA_LEN, FIXLOMAND_SCREEN_LEN, FIXLOMAND_PAPER_LEN,
-                                      FIXLOMAND_STATE_LEN - FIXLOMAND_ROOMS};
+                                      FIXLOMAND_STATE_LEN};
 static size_t lent[BUFFERS];
 static uint8_t *state, *area, *screen, *paper;
 
-/* The rooms are the last bytes of the state: play, which is lent them by themselves, calls a cut of them a cut buffer,
- * and here the state is cut by as much. */
-#define LENT state, FIXLOMAND_ROOMS + lent[ROOMS], area, lent[AREA], screen, lent[SCREEN], paper, lent[PAPER]
+#define LENT state, lent[STATE], area, lent[AREA], screen, lent[SCREEN], paper, lent[PAPER]
 
 static void say(const uint8_t *bytes, size_t length)
 {

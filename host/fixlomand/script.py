@@ -9,7 +9,7 @@ The readable form has one op a line; ``#`` begins a comment::
     give 0                   G
     give 0 x 4               G, four times
     press 3F                 P (hexadecimal)
-    lend area 100            L: area, screen, paper, rooms, or a number
+    lend area 100            L: area, screen, paper, state, or a number
     dump                     D
     raw 54 00                bytes as they are (no op, or one that is cut)
 """
@@ -24,7 +24,7 @@ from typing import Union
 AREA = 16_384
 SCREEN = 61_440
 PAPER = 4_096
-BUFFERS = ("area", "screen", "paper", "rooms")
+BUFFERS = ("area", "screen", "paper", "state")
 PHASES = ("gathering", "ready", "running", "replying")
 ANSWERS = (
     "done",

@@ -1,4 +1,5 @@
-"""The documents say what is so: README.md and docs/HOSTS.md by their examples, docs/HOSTS.md by its table of statuses."""
+"""The documents say what is so: README.md and docs/HOSTS.md by their examples, docs/HOSTS.md by its table of statuses, README.md
+by its table of crates, docs/CHANGING.md by the files and names that it leads to."""
 
 import re
 import shlex
@@ -13,6 +14,7 @@ from .running import NO_PLAY, PLAY
 REPOSITORY = Path(__file__).resolve().parents[2]
 HOSTS = REPOSITORY / "docs" / "HOSTS.md"
 README = REPOSITORY / "README.md"
+CHANGING = REPOSITORY / "docs" / "CHANGING.md"
 
 
 class Hosts(unittest.TestCase):
@@ -50,6 +52,35 @@ class Hosts(unittest.TestCase):
             {int(number, 16): name for number, name in rows},
             {number: error.__name__ for number, error in errors.BY_STATUS.items()},
         )
+
+
+class Crates(unittest.TestCase):
+    def test_the_table(self) -> None:
+        rows = re.findall(r"^\| `(\w+)` \| ", README.read_text(encoding="utf-8"), re.MULTILINE)
+        lines = (REPOSITORY / "crates.txt").read_text(encoding="utf-8")
+        self.assertEqual(rows, re.findall(r"^(\w+):", lines, re.MULTILINE))
+
+
+class Changing(unittest.TestCase):
+    def test_all_is_there(self) -> None:
+        """Each path, and each name but those of the tape, which is an example."""
+        files = [
+            file
+            for folder in ("crates", "host", "model/src", "model/tests", "firmware", "docs")
+            for file in (REPOSITORY / folder).rglob("*")
+            if file.suffix in (".rt", ".antt", ".py", ".rs", ".c", ".h", ".md") and file != CHANGING
+        ]
+        names = {part for file in files for part in (*file.parts, file.stem)}
+        for file in files:
+            names |= set(re.findall(r"[\w-]+", file.read_text(encoding="utf-8")))
+        for word in re.findall(r"`([^`]+)`", CHANGING.read_text(encoding="utf-8")):
+            if "tape" in word.lower():
+                continue
+            if "/" in word or word.endswith(".txt"):
+                self.assertTrue((REPOSITORY / "crates" / word).exists() or (REPOSITORY / word).exists(), word)
+            else:
+                for part in word.split("::"):
+                    self.assertIn(part, names)
 
 
 if __name__ == "__main__":

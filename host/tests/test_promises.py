@@ -14,13 +14,13 @@ CRATES = REPOSITORY / "crates"
 PROMISES = REPOSITORY / "docs" / "PROMISES.md"
 DECISIONS = REPOSITORY / "docs" / "DECISIONS.md"
 
-FILE = re.compile(r"[\w.-]+(/[\w.-]+)*/[\w.-]+\.(antt|rt|rs|py|md|c|h)|bench/stdout")
+FILE = re.compile(r"[\w.-]+(/[\w.-]+)*/[\w.-]+\.(antt|rt|rs|py|md|c|h)|play/(script\.txt|stdout)")
 BESIDE = ("host/", "model/", "docs/", "firmware/include/", "firmware/tests/", "firmware/example/")
 """Where a path is below the repository and not below crates/."""
 EDIT = re.compile(r"[a-z]+/\w+")
-WORDS = {"bench", "play", "rt ci", "./test", "crate/name", "crates/", "host/", "model/", "docs/"}
+WORDS = {"play", "rt ci", "./test", "crate/name", "crates/", "host/", "model/", "docs/"}
 WORDS |= {"specs", "src", "Decided.antt", "requires", "ensures", "match", "u8", "0x"}
-WORDS |= {"&mut", "&mut area[16384..]", 'extern "C"'}
+WORDS |= {"&mut", "&mut area[from..end]", 'extern "C"'}
 """What stands in code marks and names no file, nor anything in one."""
 FREE = {"≡", "length", "take", "drop", "set", "getD", "sets", "replicate", "io", "libc"}
 FREE |= {crate.name for crate in CRATES.iterdir()}
@@ -103,34 +103,34 @@ class Promises(unittest.TestCase):
 
     def test_what_is_not_there(self) -> None:
         for line in (
-            "`stick/specs/Call.antt`",
-            "`stick/specs/Calls.antt` `freshly`",
-            "`stick/specs/Calls.antt` `fresh`",
-            "`stick/specs/Calls.antt` `freshOf` | `takeOf`",
+            "`calls/specs/Call.antt`",
+            "`calls/specs/Calls.antt` `freshly`",
+            "`calls/specs/Calls.antt` `fresh`",
+            "`calls/specs/Calls.antt` `freshCall` | `takeCall`",
             "`rules/specs/Answers.antt` `FirstAnswers.length`",
             "`rules/specs/Answers.antt` `FirstAnswers.idle`",
-            "`blocks/src/lib.rt` `Gather::close`",
+            "`blocks/src/lib.rt` `Gather::closed`",
             "`stick/src/lib.rt` `untick`",
             "`stick/never_there`",
             '`./stick cases` "manual, CLOSE", "manual, nowhere"',
             "`model/tests/cases.rs` `case_13`",
-            "`freshOf`",
-            "`stick/specs/Calls.antt` `take`",
-            "`stick/specs/Calls.antt` `keys`",
+            "`freshCall`",
+            "`calls/specs/Calls.antt` `take`",
+            "`calls/specs/Calls.antt` `keys`",
         ):
             self.assertEqual(len(faults(line)), 1, line)
-        for line in ("`stick/specs/Calls.antt` `freshOf`, `takeOf`", "`blocks/src/lib.rt` `Table::close`"):
+        for line in ("`calls/specs/Calls.antt` `freshCall`, `takeCall`", "`blocks/src/lib.rt` `Table::closed`"):
             self.assertEqual(faults(line), [], line)
 
 
 class Functions(unittest.TestCase):
-    """Every public function of every crate but the two programs: crate, name and contract."""
+    """Every public function of every crate but the program: crate, name and contract."""
 
     def setUp(self) -> None:
         self.functions = [
             (crate.name, name, contract)
             for crate in sorted(CRATES.iterdir())
-            if crate.name not in ("bench", "play")
+            if crate.name != "play"
             for file in crate.glob("src/*.rt")
             for name, contract in re.findall(
                 r"^ *pub (?:extern \"C\" )?fn (\w+)((?:.|\n)*?)\{\n", file.read_text(encoding="utf-8"), re.MULTILINE

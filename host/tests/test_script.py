@@ -1,6 +1,7 @@
 """The call script in its two forms, and what is written for it."""
 
 import unittest
+from pathlib import Path
 
 from fixlomand import script
 from fixlomand.script import Dump, Fresh, Give, Lend, Press, Raw, Take, Tick, Ticks
@@ -17,15 +18,18 @@ take 255 FF
 tick 1 x 300
 press 3F
 lend area 100
-lend rooms 520
+lend state 602
 lend 7 70000
 dump
 raw 54 00
 """
 BYTES = bytes.fromhex(
     "46 540011 540005 540000 540000 540000 540045 54003A 54009B 4B00 4700 4700 4700 4700 4700"
-    "540110 54FFFF 58012C01 503F 4C00640000 4C03080200 4C07701101 44 5400"
+    "540110 54FFFF 58012C01 503F 4C00640000 4C035A0200 4C07701101 44 5400"
 )
+
+
+GATE = Path(__file__).resolve().parents[2] / "crates" / "play"
 
 
 def dump(**places: int) -> bytes:
@@ -100,6 +104,37 @@ class Answers(unittest.TestCase):
             "port 0 block 2 P3: AUX1 F8, port 0 running, port 1 gathering",
         )
         self.assertRaises(ValueError, script.read_dump, output[1:])
+
+
+class Gate(unittest.TestCase):
+    """The script that the gate plays: what stands behind an op of it is what must be written."""
+
+    def setUp(self) -> None:
+        self.text = (GATE / "script.txt").read_text(encoding="utf-8")
+        self.output = (GATE / "stdout").read_bytes()
+
+    def test_bytes(self) -> None:
+        self.assertEqual(script.to_bytes(script.parse(self.text)), (GATE / "stdin").read_bytes())
+
+    def test_notes(self) -> None:
+        at = 0
+        dumps = []
+        for line in self.text.splitlines():
+            words, _, note = line.partition("#")
+            for op in (ops := script.parse(words)):
+                written = self.output[at : at + op.output]
+                at += op.output
+                if isinstance(op, Dump):
+                    dumps.append(script.read_dump(written))
+                if isinstance(op, Ticks) and note:
+                    self.assertEqual(written, int(note).to_bytes(2, "little") + b"\0", line)
+            if ops and isinstance(ops[0], Give) and note:
+                given = b"".join(bytes([0, byte]) for byte in bytes.fromhex(note))
+                self.assertEqual(self.output[at - len(given) : at], given, line)
+        self.assertEqual(at, len(self.output))
+        record, cell = dumps
+        self.assertEqual((record.screen[2:4], record.row, record.column), (b"\x41\x42", 1, 2))
+        self.assertEqual(cell.screen[0], 1)
 
 
 if __name__ == "__main__":

@@ -11,7 +11,7 @@
 //! give 0                   G
 //! give 0 x 4               G, four times
 //! press 3F                 P (hexadecimal)
-//! lend area 100            L: area, screen, paper, rooms, or a number
+//! lend area 100            L: area, screen, paper, state, or a number
 //! dump                     D
 //! raw 54 00                bytes as they are (no op, or one that is cut)
 //! ```
@@ -50,7 +50,7 @@ pub enum Op {
 }
 
 /// The names of the lent buffers 0 to 3.
-const BUFFERS: [&str; 4] = ["area", "screen", "paper", "rooms"];
+const BUFFERS: [&str; 4] = ["area", "screen", "paper", "state"];
 
 /// What the answers 0 to 8 mean.
 pub const ANSWERS: [&str; 9] = [

@@ -10,8 +10,10 @@ pub const AREA: usize = 16_384;
 pub const SCREEN: usize = 61_440;
 /// The paper's bytes.
 pub const PAPER: usize = 4_096;
-/// The whole lengths of the lent buffers: areas, screen, paper, rooms.
-pub const WHOLE: [usize; 4] = [2 * AREA, SCREEN, PAPER, 520];
+/// The bytes of the lent state. What they mean is the stick's own: here only their number counts.
+pub const STATE: usize = 602;
+/// The whole lengths of the lent buffers: areas, screen, paper, state.
+pub const WHOLE: [usize; 4] = [2 * AREA, SCREEN, PAPER, STATE];
 
 /// The end of a record.
 pub const EOL: u8 = 0x9B;
@@ -262,7 +264,7 @@ pub struct Stick {
     pub used: usize,
     pub console: Console,
     pub ports: [Port; 2],
-    /// The lengths at which area, screen, paper and rooms are lent now.
+    /// The lengths at which area, screen, paper and state are lent now.
     pub lent: [usize; 4],
 }
 

@@ -18,13 +18,13 @@ take 255 FF
 tick 1 x 300
 press 3F
 lend area 100
-lend rooms 520
+lend state 602
 lend 7 70000
 dump
 raw 54 00
 ";
 const BYTES: &str = "46 540011 540005 540000 540000 540000 540045 54003A 54009B 4B00 4700 4700 4700 4700 4700 \
-    540110 54FFFF 58012C01 503F 4C00640000 4C03080200 4C07701101 44 5400";
+    540110 54FFFF 58012C01 503F 4C00640000 4C035A0200 4C07701101 44 5400";
 
 fn bytes(text: &str) -> Vec<u8> {
     let digits: String = text.split_whitespace().collect();
@@ -108,6 +108,13 @@ fn the_dump() {
     assert_eq!(dump_place(numbers + 4), "column");
     assert_eq!(dump_place(DUMP - 1), "phase of port 1");
     assert_eq!(dump_place(AREA), "area of port 1, address 0");
+}
+
+/// The script that the gate plays, and what must be written for it.
+#[test]
+fn the_gates_script() {
+    let read = |name: &str| std::fs::read(format!("{}/../crates/play/{name}", env!("CARGO_MANIFEST_DIR"))).unwrap();
+    assert!(play(&read("stdin")) == read("stdout"));
 }
 
 #[test]

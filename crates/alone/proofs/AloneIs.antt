@@ -6,145 +6,164 @@ use mathlib.Core.List.{List, []}
 use Prim.Native.Nat.{ℕ}
 use native.Mathlib.Omega.{arith}
 use Rattle.base.specs.Choice.{choose}
+use Rattle.handler.specs.declared.Asked.{Asked}
 use Rattle.handler.specs.declared.Done.{Done}
 use Rattle.handler.specs.declared.Done.the-variants as done
-use Rattle.console.specs.declared.Handler as console
-use Rattle.console.specs.Group.{ConsoleGroup}
-use Rattle.console.specs.Fit.{FitGroup, InUse}
-use Rattle.printer.specs.Printer.{PrinterGroup}
-use Rattle.printer.specs.Fit.{FitPrinter}
+use Rattle.handler.specs.Acts.{Acts, asksOpen, asksOn}
+use Rattle.handler.specs.Answer.{doneStatus}
+use Rattle.blocks.specs.declared.ControlBlock.{ControlBlock}
 use Rattle.blocks.specs.declared.Device.{Device}
-use Rattle.blocks.specs.declared.Device.the-variants.{P}
 use Rattle.blocks.specs.declared.Kind.{Kind}
 use Rattle.blocks.specs.declared.Run.{Run}
-use Rattle.blocks.specs.declared.Table.{Table}
-use Rattle.blocks.specs.Blocks.{closedBlock, withBlock}
+use Rattle.blocks.specs.Blocks.{closedBlock, blockAt, openBlock}
 use Rattle.blocks.specs.Opening.{offersOf}
+use Rattle.blocks.proofs.Keeps.{block-back}
 use Rattle.wire.specs.declared.Call.{Call}
 use Rattle.wire.specs.declared.Message.{Message}
 use Rattle.wire.specs.declared.Message.the-variants as message
 use Rattle.wire.specs.Replies.{callReply, bytesAt}
 use Rattle.wire.proofs.Stores.{bytes-length}
-use Rattle.cio.specs.declared.plan.After.{After}
-use Rattle.cio.specs.declared.plan.Work.{Work}
-use Rattle.cio.specs.declared.plan.Work.the-variants as work
-use Rattle.cio.specs.declared.plan.Job.{Job}
-use Rattle.cio.specs.declared.plan.Errand.the-variants as errand
-use Rattle.cio.specs.declared.plan.Plan.{Plan}
-use Rattle.cio.specs.declared.plan.Plan.the-variants as plan
-use Rattle.cio.specs.Plan.{callPlan, planOf}
-use Rattle.cio.specs.Transfer.{Out, goes, Spans}
-use Rattle.cio.specs.Handlers.{Handler, consoleHandler, printerHandler}
-use Rattle.cio.specs.Start.{loadedOf, loadOf, errandOf, begun, over, runOf, settledOf, openingOf, preparedOut, transferOf, workOf}
-use Rattle.cio.specs.Move.{Went, wayIn}
+use Rattle.transfer.specs.Transfer.{Out}
+use Rattle.transfer.specs.Spans.{Spans, wayIn}
+use Rattle.devices.specs.declared.Owner.{Owner}
+use Rattle.devices.specs.Groups.{Groups, Part, deviceActs, getGroup, groupIn, groupOf, ownActs, ownerOf}
+use Rattle.devices.specs.Fit.{FitGroups, FitPart}
+use Rattle.plan.specs.declared.After.{After}
+use Rattle.plan.specs.declared.Errand.the-variants as errand
+use Rattle.plan.specs.declared.Job.{Job}
+use Rattle.plan.specs.declared.Plan.{Plan}
+use Rattle.plan.specs.declared.Plan.the-variants as plan
+use Rattle.plan.specs.declared.Work.{Work}
+use Rattle.plan.specs.declared.Work.the-variants as work
+use Rattle.plan.specs.Plan.{callPlan, planOf, planIn}
+use Rattle.cio.specs.Start.{overOut, loadedOf, loadOf, errandOf, begun, over, runOf, openingOf, preparedOut, transferOf, workOf, blockAfter, openedOf}
+use Rattle.cio.specs.Move.{went, Went}
 use Rattle.alone.specs.Transfer.{Point, onDone, transferred}
-use Rattle.alone.specs.Left.{consoleLeft, printerLeft}
-use Rattle.alone.specs.Alone.{saidOf, Local, local, Devs, answered, replying, aloneOpening, aloneTransfer, aloneWork, aloneJob, loaded, aloneErrand, alonePlan, aloneOf}
-use Rattle.alone.specs.Moves.{moves, Lines, Starts, Comes, Finishes, Ends, JobEnds, IsAlone}
+use Rattle.alone.specs.Alone.{saidOf, Local, answered, replying, aloneOpening, aloneTransfer, aloneWork, aloneJob, loaded, aloneErrand, alonePlan, aloneOf, withOwnBlock}
+use Rattle.alone.specs.Moves.{moves, Lines, Starts, Comes, Finishes, Ends, JobEnds, IsAlone, mostMoves}
+use Rattle.alone.specs.Fit.{FitOwn}
+use Rattle.alone.specs.Left.{deviceLeft, ownerLeft}
 use Rattle.alone.proofs.Span.{Span, Spanned, span-of}
 use Rattle.alone.proofs.Finish.{moves-ended, finish-is-whole, runs-at}
 use Rattle.alone.proofs.Bound.{course-bound}
-use Rattle.alone.proofs.Lines.{deviceFor, ConsoleFit, console-lines, printer-lines, console-starts, printer-starts}
 use Rattle.alone.proofs.Planned.{PlannedWork, Planned, planned}
+use Rattle.alone.proofs.Lines.{device-lines, device-starts, owner-lines}
+use Rattle.alone.proofs.Fit.{fit-part}
 
 -- a running request, from wherever it stands
-finishes : {D : Type 0} (H : Handler D) (left : D → ℕ) (Fit : D → Type 0) → Lines H left Fit → (run : Run) (area : List ℕ) (x : D) → Fit x → Spanned run
-    → Finishes H left run area x
-finishes H left Fit Z run area x f h = record {
-  over = λ n l. finish-is-whole H left Fit Z n run area x f h l;
-  runs = λ j d l. runs-at H left Fit Z j run area x d f h l;
-  bound = course-bound H left Fit Z run area x f h;
-}
+finishes : {D : Type 0} (H : Asked → Acts D) (port : ℕ) (left : D → ℕ) (Fit : D → Type 0) → ((asked : Asked) → Lines (H asked) left Fit)
+    → (run : Run) (area : List ℕ) (x : D) → Fit x → Spanned run → Finishes H port left run area x
+finishes H port left Fit Z run area x f h =
+    let asked = asksOn port (run .iocb) in
+    record {
+      over = λ n l. finish-is-whole H port (run .iocb) left Fit (Z asked) n run area x f refl h l;
+      runs = λ j d l. runs-at H port (run .iocb) left Fit (Z asked) j run area x d f refl h l;
+      bound = course-bound (H asked) left Fit (Z asked) run area x f h;
+    }
 
 -- "ends within 61,441 further ticks of its port"
-pub in-time : {D : Type 0} (H : Handler D) (out : Out) (area : List ℕ) (x : D) (count : ℕ) (course : List (Point D)) (w : Went D) → Comes H out area x count course w
-    → moves 61441 H out area x ≡ w
-in-time H out area x count course w c = c .over 61441 (c .bound)
+pub in-time : {D : Type 0} (H : Asked → Acts D) (port : ℕ) (out : Out) (area : List ℕ) (x : D) (count : ℕ) (course : List (Point D)) (w : Went D)
+    → Comes H port out area x count course w → moves H port mostMoves out area x ≡ w
+in-time H port out area x count course w c = c .over mostMoves (c .bound)
 
-pub console-finishes : (h : console.Handler) (run : Run) (area : List ℕ) (g : ConsoleGroup) → FitGroup g → InUse h (g .console) → Spans (wayIn (run .kind)) run
-    → Finishes (consoleHandler h) (consoleLeft h) run area g
-console-finishes h run area g f u s = finishes (consoleHandler h) (consoleLeft h) (ConsoleFit h) (console-lines h) run area g (f, u) (span-of (wayIn (run .kind)) run s)
+pub owner-finishes : (o : Owner) (port : ℕ) (run : Run) (area : List ℕ) (x : Part (groupIn o)) → FitOwn o x → Spans (wayIn (run .kind)) run
+    → Finishes (ownActs o) port (ownerLeft o) run area x
+owner-finishes o port run area x f s = finishes (ownActs o) port (ownerLeft o) (FitOwn o) (owner-lines o) run area x f (span-of (wayIn (run .kind)) run s)
 
-pub printer-finishes : (run : Run) (area : List ℕ) (g : PrinterGroup) → FitPrinter g → Spans (wayIn (run .kind)) run → Finishes printerHandler printerLeft run area g
-printer-finishes run area g f s = finishes printerHandler printerLeft FitPrinter printer-lines run area g f (span-of (wayIn (run .kind)) run s)
+module _ {D : Type 0} (H : Asked → Acts D) (left : D → ℕ) (Before Fit : D → Type 0) (own : Device) (Z : (asked : Asked) → Lines (H asked) left Fit) (Y : Starts H Before Fit own) where
+  module _ (c : Call) (l : Local) where
+    -- what ends in its start has no character
+    over-comes : (x : D) (status : ℕ) → Comes H (l .number) (overOut status (c .a)) (l .area) x 0 [] (went (l .area) x (overOut status (c .a)))
+    over-comes x status = record {
+      over = λ n h. moves-ended H (l .number) n (callReply status 0 (c .a)) (l .area) x;
+      runs = λ j d h. absurd (omega arith);
+      bound = omega arith;
+    }
 
-module _ {D : Type 0} (H : Handler D) (left : D → ℕ) (Before Fit : D → Type 0) (own : Device) (Z : Lines H left Fit) (Y : Starts H Before Fit own) where
-  -- what ends in its start has no character
-  over-ends : (c : Call) (l : Local) (table : Table) (x : D) (status : ℕ) → Ends H (over c table x status) (l .area) (answered c (local table (l .area)) x status)
-  over-ends c l table x status = record {
-    table = refl;
-    comes = record { over = λ n h. moves-ended n H (callReply status 0 (c .a)) (l .area) x; runs = λ j d h. absurd (omega arith); bound = omega arith };
-  }
+    over-ends : (block : ControlBlock) (x : D) (status : ℕ) → Ends H (c .iocb) (over c block x status) l (answered c (withOwnBlock (c .iocb) block l) x status)
+    over-ends block x status = record { number = refl; table = refl; comes = over-comes x status }
 
-  opening-ends : (then : After) (number : ℕ) (device : Device) (c : Call) (l : Local) (x : D)
-      → Ends H (openingOf H then number device c (l .table) x) (l .area) (aloneOpening H left then number device c l x)
-  unfolding openingOf aloneOpening
-  opening-ends then number device c l x = by (offersOf device (c .aux1))
-    where
-      by : (t : Bool) → let y = H .opens (c .aux1) (c .aux2) x in
-          let s = settledOf (y .says) then device number c (l .table) in
-          Ends H (choose t (λ u. over c (s .table) (y .leaves) (s .status)) (λ u. over c (l .table) x 0x84)) (l .area)
-          (choose t (λ u. answered c (local (s .table) (l .area)) (y .leaves) (s .status)) (λ u. answered c l x 0x84))
-      by true =
-          let y = H .opens (c .aux1) (c .aux2) x in
-          let s = settledOf (y .says) then device number c (l .table) in
-          over-ends c l (s .table) (y .leaves) (s .status)
-      by false = over-ends c l (l .table) x 0x84
+    -- and where the block is as it was, so is the table
+    abbrev before : ControlBlock
+    before = blockAt (l .table) (c .iocb)
 
-  moved-ends : (kind : Kind) (device : Device) (c : Call) (l : Local) (y : D) → Fit y → Span (wayIn kind) (c .length) (c .address) 0
-      → Ends H (begun (l .table) y (goes (runOf device kind c))) (l .area) (replying l (transferred H left (c .a) kind (c .length) (c .address) 0 (l .area) y))
-  moved-ends kind device c l y f p = record { table = refl; comes = finishes H left Fit Z (runOf device kind c) (l .area) y f p }
+    still-ends : (x : D) (status : ℕ) → Ends H (c .iocb) (over c before x status) l (answered c l x status)
+    still-ends x status = record { number = refl; table = block-back (l .table) (c .iocb); comes = over-comes x status }
 
-  transfer-ends : (kind : Kind) (device : Device) (c : Call) (l : Local) (x : D) → Before x → Span (wayIn kind) (c .length) (c .address) 0
-      → Ends H (transferOf H kind device c (l .table) x) (l .area) (aloneTransfer H left kind c l x)
-  unfolding transferOf aloneTransfer
-  transfer-ends kind device c l x o p = by (H .prepares x .says) (H .prepares x .leaves) (Y .prepare-use x o)
-    where
-      by : (says : Done) (y : D) → (says ≡ done.Success → Fit y)
-          → Ends H (begun (l .table) y (preparedOut says kind device c)) (l .area)
-          (onDone says (λ u. replying l (transferred H left (c .a) kind (c .length) (c .address) 0 (l .area) y)) (λ status. answered c l y status))
-      by done.Success y f = moved-ends kind device c l y (f refl) p
-      by (done.Refused status) y f = over-ends c l (l .table) y status
+    opening-ends : (then : After) (number name : ℕ) (device : Device) (x : D)
+        → Ends H (c .iocb) (openingOf H (l .number) then number name device c before x) l (aloneOpening H left then number name device c l x)
+    unfolding openingOf aloneOpening
+    opening-ends then number name device x = by (offersOf device (c .aux1))
+      where
+        by : (t : Bool) → let y = openedOf (H (asksOpen (l .number) (c .iocb) (c .aux1) (c .aux2) name)) then x in
+            let block = blockAfter (y .says) then (openBlock device number (c .aux1)) before in
+            Ends H (c .iocb) (choose t (λ u. over c block (y .leaves) (doneStatus (y .says))) (λ u. over c before x 0x84)) l
+            (choose t (λ u. answered c (withOwnBlock (c .iocb) block l) (y .leaves) (doneStatus (y .says))) (λ u. answered c l x 0x84))
+        by true =
+            let y = openedOf (H (asksOpen (l .number) (c .iocb) (c .aux1) (c .aux2) name)) then x in
+            over-ends (blockAfter (y .says) then (openBlock device number (c .aux1)) before) (y .leaves) (doneStatus (y .says))
+        by false = still-ends x 0x84
 
-  work-ends : (w : Work) (device : Device) (c : Call) (l : Local) (x : D) → Before x → PlannedWork w c
-      → Ends H (workOf H w device c (l .table) x) (l .area) (aloneWork H left w device c l x)
-  unfolding workOf aloneWork
-  work-ends work.Close device c l x o p = over-ends c l (withBlock (l .table) (c .iocb) closedBlock) x 0x01
-  work-ends (work.Answer status) device c l x o p = over-ends c l (l .table) x status
-  work-ends (work.Open then number) device c l x o p = opening-ends then number device c l x
-  work-ends (work.Transfer kind) device c l x o p = transfer-ends kind device c l x o p
+    abbrev asked : Asked
+    asked = asksOn (l .number) (c .iocb)
+
+    transfer-ends : (kind : Kind) (device : Device) (x : D) → Before x → Span (wayIn kind) (c .length) (c .address) 0
+        → Ends H (c .iocb) (transferOf H (l .number) kind device c before x) l (aloneTransfer H left kind c l x)
+    unfolding transferOf aloneTransfer
+    transfer-ends kind device x o p = by (H asked .prepares x .says) (H asked .prepares x .leaves) (Y .prepare-use asked x o)
+      where
+        by : (says : Done) (y : D) → (says ≡ done.Success → Fit y)
+            → Ends H (c .iocb) (begun before y (preparedOut says kind device c)) l
+            (onDone says (λ u. replying l (transferred (H asked) left (c .a) kind (c .length) (c .address) 0 (l .area) y)) (λ status. answered c l y status))
+        by done.Success y f = record {
+          number = refl;
+          table = block-back (l .table) (c .iocb);
+          comes = finishes H (l .number) left Fit Z (runOf device kind c) (l .area) y (f refl) p;
+        }
+        by (done.Refused status) y f = still-ends y status
+
+    work-ends : (w : Work) (device : Device) (x : D) → Before x → PlannedWork w c
+        → Ends H (c .iocb) (workOf H (l .number) w device c before x) l (aloneWork H left w device c l x)
+    unfolding workOf aloneWork
+    work-ends work.Close device x o p = over-ends closedBlock (H asked .closes x) 0x01
+    work-ends work.Status device x o p = still-ends x (doneStatus (H asked .statuses x))
+    work-ends work.Special device x o p = still-ends (H asked .specials x .leaves) (doneStatus (H asked .specials x .says))
+    work-ends (work.Open then number name) device x o p = opening-ends then number name device x
+    work-ends (work.Transfer kind) device x o p = transfer-ends kind device x o p
 
   job-ends : (job : Job) (l : Local) (x : D) → Before x → PlannedWork (job .work) (job .call) → JobEnds H job l x (aloneJob H left job l x)
-  job-ends job l x o p = work-ends (job .work) (job .device) (job .call) l x o p
+  job-ends job l x o p = work-ends (job .call) l (job .work) (job .device) x o p
 
 -- what needs no group
 load-is : (address size : ℕ) (room half : List ℕ) → loadedOf address size room half ≡ loaded address (bytesAt room 2 size) half
 unfolding loadedOf loaded
 load-is address size room half = rw (bytes-length room 2 size)
 
--- a job on the console, and on the printer
-pub console-ends : (h : console.Handler) (job : Job) (l : Local) (g : ConsoleGroup) → FitGroup g → PlannedWork (job .work) (job .call)
-    → JobEnds (consoleHandler h) job l g (aloneJob (consoleHandler h) (consoleLeft h) job l g)
-console-ends h job l g f p = job-ends (consoleHandler h) (consoleLeft h) FitGroup (ConsoleFit h) (deviceFor h) (console-lines h) (console-starts h) job l g f p
+-- a job on its device
+pub device-ends : (job : Job) (l : Local) (x : Part (groupOf (job .device))) → FitPart (groupOf (job .device)) x → PlannedWork (job .work) (job .call)
+    → JobEnds (deviceActs (job .device)) job l x (aloneJob (deviceActs (job .device)) (deviceLeft (job .device)) job l x)
+device-ends job l x f p =
+    let d = job .device in
+    job-ends (deviceActs d) (deviceLeft d) (FitPart (groupOf d)) (FitOwn (ownerOf d)) d (device-lines d) (device-starts d) job l x f p
 
-pub printer-ends : (job : Job) (l : Local) (g : PrinterGroup) → FitPrinter g → PlannedWork (job .work) (job .call) → JobEnds printerHandler job l g (aloneJob printerHandler printerLeft job l g)
-printer-ends job l g f p = job-ends printerHandler printerLeft FitPrinter FitPrinter P printer-lines printer-starts job l g f p
-
-call-is : (q : Plan) (room : List ℕ) (l : Local) (devs : Devs) → FitGroup (devs .console) → FitPrinter (devs .printer) → Planned q → IsAlone q room l devs (alonePlan q [] l devs)
+call-is : (q : Plan) (room : List ℕ) (l : Local) (s : Groups) → FitGroups s → Planned q → IsAlone q room l s (alonePlan q [] l s)
 unfolding alonePlan aloneErrand errandOf
-call-is (plan.Free (errand.Status status a)) room l devs f p h = (refl, (refl, refl))
-call-is (plan.Free (errand.Load address size)) room l devs f p h = absurd h
-call-is (plan.Free (errand.Fetch address count)) room l devs f p h = absurd h
-call-is (plan.Free (errand.Bad status)) room l devs f p h = absurd h
-call-is (plan.Console k job) room l devs f p h = (console-ends k job l (devs .console) f (h .0), refl)
-call-is (plan.Printer job) room l devs f p h = (printer-ends job l (devs .printer) p (h .0), refl)
+call-is (plan.Free (errand.Status status a)) room l s f h = (refl, (refl, refl))
+call-is (plan.Free (errand.Load address size)) room l s f h = absurd h
+call-is (plan.Free (errand.Fetch address count)) room l s f h = absurd h
+call-is (plan.Free (errand.Bad status)) room l s f h = absurd h
+call-is (plan.On job) room l s f h =
+    let g = groupOf (job .device) in
+    (device-ends job l (getGroup g s) (fit-part g s f) h, refl)
 
 -- For every message and every undamaged console and printer: the start, finished by moves, gives the request alone, reply and all it
 -- leaves, in exactly as many moves as it has characters, and at most 61,441.
-pub alone-is : (m : Message) (room : List ℕ) (l : Local) (devs : Devs) → FitGroup (devs .console) → FitPrinter (devs .printer)
-    → IsAlone (planOf m (l .table) (l .area)) room l devs (aloneOf (saidOf m room) l devs)
-unfolding aloneOf planOf alonePlan aloneErrand errandOf loadOf
-alone-is (message.Call c) room l devs f p = call-is (callPlan c (l .table) (l .area)) room l devs f p (planned c (l .table) (l .area))
-alone-is (message.Load address size) room l devs f p = (rw (load-is address size room (l .area), bytes-length room 2 size), (refl, refl))
-alone-is (message.Fetch address count) room l devs f p = (refl, (refl, refl))
-alone-is (message.Bad status) room l devs f p = (refl, (refl, refl))
+pub alone-is : (m : Message) (room : List ℕ) (l : Local) (s : Groups) → FitGroups s
+    → IsAlone (planOf m (l .table) (l .area)) room l s (aloneOf (saidOf m room) l s)
+unfolding aloneOf planOf planIn alonePlan aloneErrand errandOf loadOf
+alone-is (message.Call c) room l s f =
+    let b = blockAt (l .table) (c .iocb) in
+    call-is (callPlan c b (l .area)) room l s f (planned c b (l .area))
+alone-is (message.Load address size) room l s f = (rw (load-is address size room (l .area), bytes-length room 2 size), (refl, refl))
+alone-is (message.Fetch address count) room l s f = (refl, (refl, refl))
+alone-is (message.Bad status) room l s f = (refl, (refl, refl))

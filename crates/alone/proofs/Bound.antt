@@ -9,41 +9,41 @@ use lib.Dec.{eqb}
 use lib.ListN.{length, getD, set}
 use borrow.Author.Tests.{eqb-false}
 use Rattle.base.specs.Choice.{choose}
-use Rattle.handler.specs.declared.Got.{Got}
-use Rattle.handler.specs.declared.Got.the-variants as got
 use Rattle.handler.specs.declared.Done.{Done}
 use Rattle.handler.specs.declared.Done.the-variants as done
-use Rattle.blocks.specs.declared.Way.{Way}
-use Rattle.blocks.specs.declared.Way.the-variants.{One, Characters, Record}
+use Rattle.handler.specs.declared.Got.{Got}
+use Rattle.handler.specs.declared.Got.the-variants as got
+use Rattle.handler.specs.Acts.{Acts}
 use Rattle.blocks.specs.declared.Kind.{Kind}
 use Rattle.blocks.specs.declared.Kind.the-variants.{Get, Put}
 use Rattle.blocks.specs.declared.Run.{Run}
-use Rattle.cio.specs.Transfer.{eol}
-use Rattle.cio.specs.Handlers.{Handler}
-use Rattle.cio.specs.Move.{wayIn}
-use Rattle.alone.specs.Transfer.{Outcome, onGot, onDone, getOne, putOne, getCharacters, dropLine, getRecord, putCharacters, putRecord, getting, putting, transferred}
-use Rattle.alone.specs.Moves.{wholeOf, Lines}
+use Rattle.blocks.specs.declared.Way.{Way}
+use Rattle.blocks.specs.declared.Way.the-variants.{One, Characters, Record}
+use Rattle.transfer.specs.Transfer.{eol}
+use Rattle.transfer.specs.Spans.{wayIn}
+use Rattle.alone.specs.Transfer.{TransferEnd, onGot, onDone, getOne, putOne, getCharacters, dropLine, getRecord, putCharacters, putRecord, getting, putting, transferred}
+use Rattle.alone.specs.Moves.{wholeOf, Lines, mostMoves}
 use Rattle.alone.proofs.Span.{Span, Spanned}
 
 -- at most so many characters
-abbrev pub Short : {D : Type 0} → ℕ → Outcome D → Type 0
+abbrev pub Short : {D : Type 0} → ℕ → TransferEnd D → Type 0
 Short m r = length (r .course) ≤ m
 
 module _ {D : Type 0} (m : ℕ) where
   -- by what the handler says
-  got-short : (says : Got) (f g : ℕ → Outcome D) → ((byte : ℕ) → says ≡ got.Character byte → Short m (f byte)) → ((status : ℕ) → Short m (g status)) → Short m (onGot says f g)
+  got-short : (says : Got) (f g : ℕ → TransferEnd D) → ((byte : ℕ) → says ≡ got.Character byte → Short m (f byte)) → ((status : ℕ) → Short m (g status)) → Short m (onGot says f g)
   got-short (got.Character byte) f g p q = p byte refl
   got-short (got.Refused status) f g p q = q status
 
-  done-short : (says : Done) (f : Unit {0} → Outcome D) (g : ℕ → Outcome D) → Short m (f tt) → ((status : ℕ) → Short m (g status)) → Short m (onDone says f g)
+  done-short : (says : Done) (f : Unit {0} → TransferEnd D) (g : ℕ → TransferEnd D) → Short m (f tt) → ((status : ℕ) → Short m (g status)) → Short m (onDone says f g)
   done-short done.Success f g p q = p
   done-short (done.Refused status) f g p q = q status
 
-  choose-short : (t : Bool) (f g : Unit {0} → Outcome D) → (t ≡ true → Short m (f tt)) → (t ≡ false → Short m (g tt)) → Short m (choose t f g)
+  choose-short : (t : Bool) (f g : Unit {0} → TransferEnd D) → (t ≡ true → Short m (f tt)) → (t ≡ false → Short m (g tt)) → Short m (choose t f g)
   choose-short true f g p q = p refl
   choose-short false f g p q = q refl
 
-module _ {D : Type 0} (H : Handler D) (left : D → ℕ) (a : ℕ) where
+module _ {D : Type 0} (H : Acts D) (left : D → ℕ) (a : ℕ) where
   get-characters : (n place count : ℕ) (area : List ℕ) (x : D) → Short n (getCharacters H left a n place count area x)
   unfolding getCharacters
   get-characters zero place count area x = omega arith
@@ -93,23 +93,23 @@ module _ {D : Type 0} (H : Handler D) (left : D → ℕ) (a : ℕ) where
         omega arith))
         (λ status. omega arith)
 
-    getting-short : (way : Way) (n place count : ℕ) (area : List ℕ) (x : D) → Fit x → Span way n place count → Short 61441 (getting H left a way n place count area x)
+    getting-short : (way : Way) (n place count : ℕ) (area : List ℕ) (x : D) → Fit x → Span way n place count → Short mostMoves (getting H left a way n place count area x)
     unfolding getting getOne
-    getting-short One n place count area x f h = got-short 61441 (H .reads x .says) _ _ (λ byte e. omega arith) (λ status. omega arith)
+    getting-short One n place count area x f h = got-short mostMoves (H .reads x .says) _ _ (λ byte e. omega arith) (λ status. omega arith)
     getting-short Characters n place count area x f h = omega (arith, get-characters n place count area x, h .1 .0)
     getting-short Record n place count area x f h = omega (arith, get-record n place count area x f, Z .few x f)
 
-    putting-short : (way : Way) (n place count : ℕ) (area : List ℕ) (x : D) → Span way n place count → Short 61441 (putting H left a way n place count area x)
+    putting-short : (way : Way) (n place count : ℕ) (area : List ℕ) (x : D) → Span way n place count → Short mostMoves (putting H left a way n place count area x)
     unfolding putting putOne
-    putting-short One n place count area x h = done-short 61441 (H .writes a x .says) _ _ (omega arith) (λ status. omega arith)
+    putting-short One n place count area x h = done-short mostMoves (H .writes a x .says) _ _ (omega arith) (λ status. omega arith)
     putting-short Characters n place count area x h = omega (arith, put-characters n place count area x, h .1 .0)
     putting-short Record n place count area x h = omega (arith, put-record n place count area x, h .1 .0)
 
-    transferred-short : (kind : Kind) (n place count : ℕ) (area : List ℕ) (x : D) → Fit x → Span (wayIn kind) n place count → Short 61441 (transferred H left a kind n place count area x)
+    transferred-short : (kind : Kind) (n place count : ℕ) (area : List ℕ) (x : D) → Fit x → Span (wayIn kind) n place count → Short mostMoves (transferred H left a kind n place count area x)
     unfolding transferred
     transferred-short (Get way) n place count area x f h = getting-short way n place count area x f h
     transferred-short (Put way) n place count area x f h = putting-short way n place count area x h
 
-pub course-bound : {D : Type 0} (H : Handler D) (left : D → ℕ) (Fit : D → Type 0) → Lines H left Fit → (run : Run) (area : List ℕ) (x : D) → Fit x → Spanned run
-    → length (wholeOf H left run area x .course) ≤ 61441
+pub course-bound : {D : Type 0} (H : Acts D) (left : D → ℕ) (Fit : D → Type 0) → Lines H left Fit → (run : Run) (area : List ℕ) (x : D) → Fit x → Spanned run
+    → length (wholeOf H left run area x .course) ≤ mostMoves
 course-bound H left Fit Z run area x f h = transferred-short H left (run .a) Fit Z (run .kind) (run .left) (run .place) (run .count) area x f h

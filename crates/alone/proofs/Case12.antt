@@ -11,9 +11,11 @@ use lib.ListN.{length, getD, set}
 use borrow.Author.Tests.{ne-eqb, eqb-false}
 use Rattle.base.specs.Choice.{choose}
 use Rattle.base.proofs.Choices.{pick-lt, choose-le}
+use Rattle.handler.specs.declared.Asked.{Asked}
 use Rattle.handler.specs.declared.Got.{Got}
 use Rattle.handler.specs.declared.Got.the-variants as got
 use Rattle.handler.specs.Answer.{Answer}
+use Rattle.handler.specs.Acts.{Acts, asksOn}
 use Rattle.cells.specs.Modes.{modes, rowOf, shapeOf}
 use Rattle.cells.specs.Cells.{placeOf, cellOf}
 use Rattle.graphics.specs.declared.Graphics.{Graphics}
@@ -24,22 +26,25 @@ use Rattle.console.specs.Group.{ConsoleGroup, graphicsOf, freshGroup}
 use Rattle.console.specs.Handlers.{openS, openOf, prepareS, prepareOf, readS, readOf}
 use Rattle.console.proofs.Keeps.{open-fit, fresh-group}
 use Rattle.blocks.specs.declared.Device.the-variants.{S}
-use Rattle.blocks.specs.declared.Way.the-variants.{Record}
 use Rattle.blocks.specs.declared.Kind.the-variants.{Get}
+use Rattle.blocks.specs.declared.Way.the-variants.{Record}
+use Rattle.blocks.specs.Opening.{areaLength}
 use Rattle.wire.specs.declared.Call.{Call}
 use Rattle.wire.specs.Replies.{callReply}
-use Rattle.cio.specs.declared.plan.Work.the-variants as work
-use Rattle.cio.specs.declared.plan.Job.{Job}
-use Rattle.cio.specs.Plan.{jobOf}
-use Rattle.cio.specs.Transfer.{eol, ends}
-use Rattle.cio.specs.Handlers.{Handler, consoleHandler}
+use Rattle.transfer.specs.Transfer.{eol, ends}
+use Rattle.devices.specs.declared.Owner.the-variants as owner
+use Rattle.devices.specs.Groups.{ownActs}
+use Rattle.plan.specs.declared.Job.{Job}
+use Rattle.plan.specs.declared.Work.the-variants as work
+use Rattle.plan.specs.Plan.{jobOf}
 use Rattle.cio.specs.Move.{went}
-use Rattle.alone.specs.Transfer.{Point, point, Outcome, next, onGot, dropLine, getRecord, getting, transferred}
+use Rattle.alone.specs.Transfer.{Point, point, TransferEnd, next, onGot, dropLine, getRecord, getting, transferred}
 use Rattle.alone.specs.Left.{leftS, consoleLeft}
 use Rattle.alone.specs.Alone.{Local, AloneOn, aloneTransfer, aloneWork, aloneJob}
 use Rattle.alone.specs.Moves.{moves, RunsAt, begunBy}
-use Rattle.alone.proofs.Lines.{ConsoleFit, console-lines}
-use Rattle.alone.proofs.AloneIs.{console-ends}
+use Rattle.alone.specs.Fit.{FitOwn}
+use Rattle.alone.proofs.AloneIs.{device-ends}
+use Rattle.alone.proofs.Lines.{owner-lines}
 
 two : (mode : ℕ) → mode ≡ 8 → shapeOf mode .colours ≡ 2
 unfolding shapeOf rowOf modes
@@ -71,21 +76,25 @@ picture-heard cells g e =
     (λ h. let z : shapeOf (g .mode) .rows - g .row ≡ 0 = omega arith in (refl, rw (z, zero-mul) (omega arith)))
     (λ h. (ne-eqb _ eol (cell-small g cells e), onward-mode (withLast _ g) e))
 
-abbrev H : Handler ConsoleGroup
-H = consoleHandler console.S
+-- S, whatever it is asked for
+abbrev screen : Asked → Acts ConsoleGroup
+screen = ownActs (owner.Console console.S)
+
+abbrev H : Acts ConsoleGroup
+H = screen (asksOn 0 0)
 
 abbrev left : ConsoleGroup → ℕ
 left = consoleLeft console.S
 
 abbrev Fit8 : ConsoleGroup → Type 0
-Fit8 g = ConsoleFit console.S g × (g .console .mode ≡ 8)
+Fit8 g = FitOwn (owner.Console console.S) g × (g .console .mode ≡ 8)
 
 console-heard : (g : ConsoleGroup) → g .console .mode ≡ 8 → let y = H .reads g in Heard (left g) (y .says) (y .leaves .console .mode)
 unfolding readOf readS consoleLeft leftS
 console-heard g e = picture-heard (g .screen) (graphicsOf (g .console)) e
 
 -- so many characters after the first, then the refusal
-pub record Line (m count a : ℕ) (r : Outcome ConsoleGroup) : Type 0 where
+pub record Line (m count a : ℕ) (r : TransferEnd ConsoleGroup) : Type 0 where
   pub course : length (r .course) ≡ suc m
   pub status : r .status ≡ 0x8D
   pub counted : r .count ≡ count
@@ -100,10 +109,10 @@ module _ (g : ConsoleGroup) (f : Fit8 g) (byte : ℕ) (says : H .reads g .says �
   no-eol = subst (λ (s : Got). Heard (left g) s (H .reads g .leaves .console .mode)) says (console-heard g (f .1)) .0
 
   after-fit : Fit8 (H .reads g .leaves)
-  after-fit = (console-lines console.S .read-fit g (f .0), subst (λ (s : Got). Heard (left g) s (H .reads g .leaves .console .mode)) says (console-heard g (f .1)) .1)
+  after-fit = (owner-lines (owner.Console console.S) (asksOn 0 0) .read-fit g (f .0), subst (λ (s : Got). Heard (left g) s (H .reads g .leaves .console .mode)) says (console-heard g (f .1)) .1)
 
   after-left : left g ≡ left (H .reads g .leaves) + 1
-  after-left = console-lines console.S .falls g byte (f .0) says (eqb-false byte eol no-eol)
+  after-left = owner-lines (owner.Console console.S) (asksOn 0 0) .falls g byte (f .0) says (eqb-false byte eol no-eol)
 
 module _ (g : ConsoleGroup) (f : Fit8 g) (status : ℕ) (says : H .reads g .says ≡ got.Refused status) where
   the-status : status ≡ 0x8D
@@ -113,16 +122,16 @@ module _ (g : ConsoleGroup) (f : Fit8 g) (status : ℕ) (says : H .reads g .says
   none-more = subst (λ (s : Got). Heard (left g) s (H .reads g .leaves .console .mode)) says (console-heard g (f .1)) .1
 
 -- by what the handler says
-on-line : {m count a : ℕ} (says : Got) (f g : ℕ → Outcome ConsoleGroup) → ((byte : ℕ) → says ≡ got.Character byte → Line m count a (f byte)) → ((status : ℕ) → says ≡ got.Refused status → Line m count a (g status))
+on-line : {m count a : ℕ} (says : Got) (f g : ℕ → TransferEnd ConsoleGroup) → ((byte : ℕ) → says ≡ got.Character byte → Line m count a (f byte)) → ((status : ℕ) → says ≡ got.Refused status → Line m count a (g status))
     → Line m count a (onGot says f g)
 on-line (got.Character byte) f g p q = p byte refl
 on-line (got.Refused status) f g p q = q status refl
 
-not-eol : {m count a : ℕ} (t : Bool) (f g : Unit {0} → Outcome ConsoleGroup) → t ≡ false → Line m count a (g tt) → Line m count a (choose t f g)
+not-eol : {m count a : ℕ} (t : Bool) (f g : Unit {0} → TransferEnd ConsoleGroup) → t ≡ false → Line m count a (g tt) → Line m count a (choose t f g)
 not-eol true f g e h = false-true e
 not-eol false f g e h = h
 
-one-more : {m count a : ℕ} {r : Outcome ConsoleGroup} (p : Point ConsoleGroup) → Line m count a r → Line (suc m) count a (next p r)
+one-more : {m count a : ℕ} {r : TransferEnd ConsoleGroup} (p : Point ConsoleGroup) → Line m count a r → Line (suc m) count a (next p r)
 one-more p h = record { course = ap suc (h .course); status = h .status; counted = h .counted; same = h .same }
 
 drop-8 : (m count a : ℕ) (area : List ℕ) (g : ConsoleGroup) → Fit8 g → left g ≡ m → Line m count a (dropLine H left a m count area g)
@@ -157,7 +166,7 @@ is-8 : mode8 .console .mode ≡ 8
 unfolding openOf openS graphics.openOf
 is-8 = refl
 
-pub mode8-fit : ConsoleFit console.S mode8
+pub mode8-fit : FitOwn (owner.Console console.S) mode8
 unfolding openOf openS graphics.openOf
 mode8-fit = (open-fit freshGroup fresh-group console.S 0x04 8, refl)
 
@@ -178,18 +187,18 @@ module _ (c : Call) (l : Local) (n : c .length ≡ 1) where
   course-12 = rw n (case-12 (c .address) (c .a) (l .area))
 
   abbrev pub alone12 : AloneOn ConsoleGroup
-  alone12 = aloneJob H left (record-of-one c) l mode8
+  alone12 = aloneJob screen left (record-of-one c) l mode8
 
   pub alone-12 : (length (alone12 .course) ≡ 61441) × (alone12 .reply ≡ callReply 0x8D 1 (c .a))
   unfolding aloneWork aloneTransfer prepareOf prepareS openOf openS graphics.openOf
   alone-12 = (course-12 .course, rw (course-12 .status, course-12 .counted, course-12 .same))
 
-  pub case-12-moves : (d : Point ConsoleGroup) → c .address + 1 ≤ 16384
-      → let b = begunBy H (record-of-one c) l mode8 in
-      RunsAt (getD (point (l .area) (b .device) 0 ∷ alone12 .course) 61440 d) (moves 61440 H (b .out) (l .area) (b .device))
-      × (moves 61441 H (b .out) (l .area) (b .device) ≡ went (alone12 .local .area) (alone12 .device) (ends (callReply 0x8D 1 (c .a))))
+  pub case-12-moves : (d : Point ConsoleGroup) → c .address + 1 ≤ areaLength
+      → let b = begunBy screen (record-of-one c) l mode8 in
+      RunsAt (getD (point (l .area) (b .device) 0 ∷ alone12 .course) 61440 d) (moves screen (l .number) 61440 (b .out) (l .area) (b .device))
+      × (moves screen (l .number) 61441 (b .out) (l .area) (b .device) ≡ went (alone12 .local .area) (alone12 .device) (ends (callReply 0x8D 1 (c .a))))
   case-12-moves d h =
-      let e = console-ends console.S (record-of-one c) l mode8 (mode8-fit .0) (omega arith, (omega arith, omega arith)) .comes in (
+      let e = device-ends (record-of-one c) l mode8 (mode8-fit .0) (omega arith, (omega arith, omega arith)) .comes in (
         e .runs 61440 d (omega (arith, alone-12 .0)),
         e .over 61441 (omega (arith, alone-12 .0)) ∙ ap (λ (reply : List ℕ). went (alone12 .local .area) (alone12 .device) (ends reply)) (alone-12 .1),
       )

@@ -4,26 +4,27 @@ use mathlib.Core.Path.{_≡_, refl}
 use mathlib.Core.List.{List, [], _∷_, _++_, map}
 use Prim.Native.Nat.{ℕ}
 use lib.ListN.{getD, replicate}
-use Rattle.cells.specs.Modes.{modes, rowOf, shapeOf, countOf}
-use Rattle.cells.specs.Cells.{cellOf, withCell, filled, reduced, scrolled}
 use Rattle.keys.specs.Table as keys
 use Rattle.keys.specs.Translation as keys-to
 use Rattle.keys.specs.Keyboard as keyboard
+use Rattle.cells.specs.Modes.{modes, rowOf, shapeOf, countOf}
+use Rattle.cells.specs.Cells.{cellOf, withCell, filled, reduced, scrolled}
 use Rattle.editor.specs.Decide as editor-acts
 use Rattle.editor.specs.Text as editor
 use Rattle.editor.specs.Get as editor-get
 use Rattle.graphics.specs.Picture as graphics
+use Rattle.printer.specs.Printer.{printerGroup}
 use Rattle.console.specs.Group.{group, freshGroup, pressedOf}
 use Rattle.console.specs.Handlers.{openE, openS, openOf, prepareE, prepareS, prepareOf, readE, readS, readK, readOf, writeE, writeS, writeOf}
-use Rattle.printer.specs.Printer.{printerGroup}
 use Rattle.blocks.specs.Blocks.{closedTable}
-use Rattle.blocks.specs.Opening.{deviceOf, numberOf, namedOf, specificationOf, offersOf}
+use Rattle.blocks.specs.Opening.{deviceOf, numberOf, namedOf, specificationOf, offersOf, areaLength}
 use Rattle.wire.specs.Replies.{bytesAt, fetchStatus, fetchReply}
-use Rattle.cio.specs.Plan.{commandOf, wayOf, areaPlan, transferPlan, blockPlan, callPlan, planOf}
-use Rattle.cio.specs.Start.{loadStatus}
+use Rattle.devices.specs.Groups.{Groups}
+use Rattle.plan.specs.Plan.{commandOf, wayOf, areaPlan, transferPlan, blockPlan, callPlan, planOf, nameOf, planIn}
+use Rattle.cio.specs.Start.{loadStatus, openedOf, thenOf}
 use Rattle.alone.specs.Transfer.{getOne, putOne, getCharacters, dropLine, getRecord, putCharacters, putRecord, getting, putting, transferred}
 use Rattle.alone.specs.Left.{leftE, leftS, leftK, consoleLeft}
-use Rattle.alone.specs.Alone.{Said, call, load, fetch, Local, local, Devs, aloneOpening, aloneTransfer, aloneWork, loaded, aloneErrand, alonePlan, aloneOf}
+use Rattle.alone.specs.Alone.{Said, call, load, fetch, Local, local, aloneOpening, aloneTransfer, aloneWork, loaded, aloneErrand, alonePlan, aloneOf}
 
 pub data Step : Type 0 where
   says : Said → Step
@@ -35,7 +36,7 @@ pub record Heard : Type 0 where
   pub cursor : List ℕ
   pub cells : List ℕ
 
-abbrev seenAt : Devs → Heard
+abbrev seenAt : Groups → Heard
 seenAt d = record {
   replies = [];
   cursor = d .console .console .row ∷ d .console .console .column ∷ [];
@@ -45,16 +46,16 @@ seenAt d = record {
 abbrev hear : List ℕ → Heard → Heard
 hear reply h = record { replies = reply ∷ h .replies; cursor = h .cursor; cells = h .cells }
 
-abbrev pressed : ℕ → Devs → Devs
+abbrev pressed : ℕ → Groups → Groups
 pressed code d = record { console = group (pressedOf code (d .console .console)) (d .console .screen); printer = d .printer }
 
-abbrev pub run : List Step → Local → Devs → Heard
+abbrev pub run : List Step → Local → Groups → Heard
 run [] l d = seenAt d
-run (says said ∷ rest) l d = let w = aloneOf said l d in hear (w .reply) (run rest (w .local) (w .devs))
+run (says said ∷ rest) l d = let w = aloneOf said l d in hear (w .reply) (run rest (w .local) (w .groups))
 run (presses code ∷ rest) l d = run rest l (pressed code d)
 
 abbrev fresh : List Step → Heard
-fresh steps = run steps (local closedTable (replicate 16384 0)) (record { console = freshGroup; printer = printerGroup 0 (replicate 4096 0) })
+fresh steps = run steps (local 0 closedTable (replicate areaLength 0)) (record { console = freshGroup; printer = printerGroup 0 (replicate 4096 0) })
 
 abbrev asks : (iocb command address length aux1 aux2 a : ℕ) → Step
 asks iocb command address length aux1 aux2 a =
@@ -114,5 +115,5 @@ pub cases : map fresh scripts ≡
     heard (opened ++ (calls 0x01 0 0x41 ∷ calls 0x88 0 0 ∷ calls 0x01 0 0x61 ∷ [])) (0 ∷ 2 ∷ []) blank ∷
     heard (opened ++ (calls 0x01 0 0x01 ∷ calls 0x88 0 0 ∷ [])) (0 ∷ 2 ∷ []) blank ∷
     heard (opened ++ (calls 0x01 0 5 ∷ [])) (0 ∷ 1 ∷ []) (1 ∷ 0 ∷ 0 ∷ []) ∷ []
-unfolding modes rowOf shapeOf countOf cellOf withCell filled reduced scrolled keys.keys keys-to.entryOf keys-to.answerOf keys-to.translateOf keyboard.obeyed keyboard.struckBy keyboard.getOf editor-acts.plainOf editor-acts.actOf editor.newRow editor.openOf editor.lessOf editor.moreOf editor.clearOf editor.backOf editor.onward editor.dataOf editor.doing editor.putOf editor-get.heldOf editor-get.endOf editor-get.getAt editor-get.getOf graphics.onward graphics.startOf graphics.openOf graphics.getOf graphics.clearOf graphics.dataOf graphics.putOf openE openS openOf prepareE prepareS prepareOf readE readS readK readOf writeE writeS writeOf deviceOf numberOf namedOf specificationOf offersOf bytesAt fetchStatus fetchReply commandOf wayOf areaPlan transferPlan blockPlan callPlan planOf loadStatus getOne putOne getCharacters dropLine getRecord putCharacters putRecord getting putting transferred leftE leftS leftK consoleLeft aloneOpening aloneTransfer aloneWork loaded aloneErrand alonePlan aloneOf
+unfolding modes rowOf shapeOf countOf cellOf withCell filled reduced scrolled keys.keys keys-to.entryOf keys-to.answerOf keys-to.translateOf keyboard.obeyed keyboard.struckBy keyboard.getOf editor-acts.plainOf editor-acts.actOf editor.newRow editor.openOf editor.lessOf editor.moreOf editor.clearOf editor.backOf editor.onward editor.dataOf editor.doing editor.putOf editor-get.heldOf editor-get.endOf editor-get.getAt editor-get.getOf graphics.onward graphics.startOf graphics.openOf graphics.getOf graphics.clearOf graphics.dataOf graphics.putOf openE openS openOf prepareE prepareS prepareOf readE readS readK readOf writeE writeS writeOf deviceOf numberOf namedOf specificationOf offersOf bytesAt fetchStatus fetchReply commandOf wayOf areaPlan transferPlan blockPlan nameOf callPlan planIn planOf loadStatus getOne putOne getCharacters dropLine getRecord putCharacters putRecord getting putting transferred leftE leftS leftK consoleLeft thenOf openedOf aloneOpening aloneTransfer aloneWork loaded aloneErrand alonePlan aloneOf
 cases = refl

@@ -5,26 +5,28 @@ use mathlib.Core.List.{List, _∷_}
 use Prim.Native.Nat.{ℕ, zero, suc, _≤_, _<_}
 use native.Mathlib.Omega.{arith}
 use lib.ListN.{length, getD}
+use Rattle.handler.specs.declared.Asked.{Asked}
+use Rattle.handler.specs.Acts.{Acts, asksOn}
 use Rattle.blocks.specs.declared.Kind.{Kind}
 use Rattle.blocks.specs.declared.Kind.the-variants.{Get, Put}
 use Rattle.blocks.specs.declared.Run.{Run}
 use Rattle.wire.specs.Replies.{callReply}
-use Rattle.cio.specs.declared.transfer.Next.{Next}
-use Rattle.cio.specs.declared.transfer.Next.the-variants.{On, Off}
-use Rattle.cio.specs.Transfer.{sentByte, goes, ends, outOf}
-use Rattle.cio.specs.Handlers.{Handler}
-use Rattle.cio.specs.Move.{Went, went, wayIn}
-use Rattle.alone.specs.Transfer.{Point, point, Outcome}
+use Rattle.transfer.specs.declared.Next.{Next}
+use Rattle.transfer.specs.declared.Next.the-variants.{On, Off}
+use Rattle.transfer.specs.Transfer.{sentByte, goes, ends, outOf}
+use Rattle.transfer.specs.Spans.{wayIn}
+use Rattle.cio.specs.Move.{Went, went, advanceOf, goOf}
+use Rattle.alone.specs.Transfer.{Point, point, TransferEnd}
 use Rattle.alone.specs.Moves.{moves, wholeOf, Lines, RunsAt, lands}
 use Rattle.alone.proofs.Rest.{stepOf, go-is, restNext, restOf, rest-is}
 use Rattle.alone.proofs.Span.{Spanned, spanned-some, GoesOn, step-spans, goes-spanned}
 
-pub moves-ended : {D : Type 0} (n : ℕ) (H : Handler D) (reply : List ℕ) (area : List ℕ) (x : D) → moves n H (ends reply) area x ≡ went area x (ends reply)
+pub moves-ended : {D : Type 0} (H : Asked → Acts D) (port n : ℕ) (reply : List ℕ) (area : List ℕ) (x : D) → moves H port n (ends reply) area x ≡ went area x (ends reply)
 unfolding moves
-moves-ended zero H reply area x = refl
-moves-ended (suc n) H reply area x = refl
+moves-ended H port zero reply area x = refl
+moves-ended H port (suc n) reply area x = refl
 
-module _ {D : Type 0} (H : Handler D) (left : D → ℕ) (Fit : D → Type 0) (Z : Lines H left Fit) where
+module _ {D : Type 0} (H : Acts D) (left : D → ℕ) (Fit : D → Type 0) (Z : Lines H left Fit) where
   pub step-fit : (kind : Kind) (run : Run) (area : List ℕ) (x : D) → Fit x → Fit (stepOf H kind run area x .device)
   step-fit (Get way) run area x f = Z .read-fit x f
   step-fit (Put way) run area x f = Z .write-fit (sentByte way run area) x f
@@ -40,43 +42,51 @@ module _ {D : Type 0} (H : Handler D) (left : D → ℕ) (Fit : D → Type 0) (Z
     pub course-some : 0 < length (wholeOf H left run area x .course)
     course-some =
         let s = stepOf H (run .kind) run area x in
-        subst (λ (r : Outcome D). 0 < length (r .course)) rests (some-course (s .next) (s .area) (s .device))
+        subst (λ (r : TransferEnd D). 0 < length (r .course)) rests (some-course (s .next) (s .area) (s .device))
 
-    one-move : (n : ℕ) → moves (suc n) H (goes run) area x ≡ (let s = stepOf H (run .kind) run area x in moves n H (outOf (s .next)) (s .area) (s .device))
-    unfolding moves
-    one-move n = ap (λ (w : Went D). moves n H (w .out) (w .area) (w .device)) (go-is H (run .kind) run area x)
+-- the same request, on its block and its port: H its device's handler, A as it is asked for this block
+module _ {D : Type 0} (H : Asked → Acts D) (port iocb : ℕ) (left : D → ℕ) (Fit : D → Type 0) (Z : Lines (H (asksOn port iocb)) left Fit) where
+  abbrev A : Acts D
+  A = H (asksOn port iocb)
+
+  one-move : (run : Run) (area : List ℕ) (x : D) → run .iocb ≡ iocb → (n : ℕ)
+      → moves H port (suc n) (goes run) area x ≡ (let s = stepOf A (run .kind) run area x in moves H port n (outOf (s .next)) (s .area) (s .device))
+  unfolding moves advanceOf
+  one-move run area x e n =
+      ap (λ (i : ℕ). let w = goOf (H (asksOn port i)) (run .kind) run area x in moves H port n (w .out) (w .area) (w .device)) e
+      ∙ ap (λ (w : Went D). moves H port n (w .out) (w .area) (w .device)) (go-is A (run .kind) run area x)
 
   -- so many moves as its course has points, or more, give the transfer
-  pub finish-is-whole : (n : ℕ) (run : Run) (area : List ℕ) (x : D) → Fit x → Spanned run → length (wholeOf H left run area x .course) ≤ n
-      → moves n H (goes run) area x ≡ lands (wholeOf H left run area x)
-  finish-is-whole zero run area x f h l = absurd (omega (arith, course-some run area x f h))
-  finish-is-whole (suc n) run area x f h l =
-      one-move run area x f h n
-      ∙ by (λ run area x. finish-is-whole n run area x) (stepOf H (run .kind) run area x .next) (stepOf H (run .kind) run area x .area) (stepOf H (run .kind) run area x .device)
-      (step-spans run H area x h) (step-fit (run .kind) run area x f) (wholeOf H left run area x) (rests run area x f h) l
+  pub finish-is-whole : (n : ℕ) (run : Run) (area : List ℕ) (x : D) → Fit x → run .iocb ≡ iocb → Spanned run → length (wholeOf A left run area x .course) ≤ n
+      → moves H port n (goes run) area x ≡ lands (wholeOf A left run area x)
+  finish-is-whole zero run area x f e h l = absurd (omega (arith, course-some A left Fit Z run area x f h))
+  finish-is-whole (suc n) run area x f e h l =
+      one-move run area x e n
+      ∙ by (λ run area x. finish-is-whole n run area x) (stepOf A (run .kind) run area x .next) (stepOf A (run .kind) run area x .area) (stepOf A (run .kind) run area x .device)
+      (step-spans run A area x h) (step-fit A left Fit Z (run .kind) run area x f) (wholeOf A left run area x) (rests A left Fit Z run area x f h) l
     where
-      by : ((run : Run) (area : List ℕ) (x : D) → Fit x → Spanned run → length (wholeOf H left run area x .course) ≤ n → moves n H (goes run) area x ≡ lands (wholeOf H left run area x))
-          → (m : Next) (area′ : List ℕ) (y : D) → GoesOn run (wayIn (run .kind)) m → Fit y → (r : Outcome D) → restNext H left m area′ y ≡ r → length (r .course) ≤ suc n
-          → moves n H (outOf m) area′ y ≡ lands r
-      by again (On later) area′ y g fit r e l =
-          again later area′ y fit (goes-spanned run later g) (omega (arith, ap (λ (r : Outcome D). length (r .course)) e)) ∙ ap (λ (r : Outcome D). lands r) e
-      by again (Off status count a) area′ y g fit r e l = moves-ended n H (callReply status count a) area′ y ∙ ap (λ (r : Outcome D). lands r) e
+      by : ((run : Run) (area : List ℕ) (x : D) → Fit x → run .iocb ≡ iocb → Spanned run → length (wholeOf A left run area x .course) ≤ n → moves H port n (goes run) area x ≡ lands (wholeOf A left run area x))
+          → (m : Next) (area′ : List ℕ) (y : D) → GoesOn run (wayIn (run .kind)) m → Fit y → (r : TransferEnd D) → restNext A left m area′ y ≡ r → length (r .course) ≤ suc n
+          → moves H port n (outOf m) area′ y ≡ lands r
+      by again (On later) area′ y g fit r q l =
+          again later area′ y fit (g .1 .1 .0 ∙ e) (goes-spanned run later g) (omega (arith, ap (λ (r : TransferEnd D). length (r .course)) q)) ∙ ap (λ (r : TransferEnd D). lands r) q
+      by again (Off status count a) area′ y g fit r q l = moves-ended H port n (callReply status count a) area′ y ∙ ap (λ (r : TransferEnd D). lands r) q
 
   -- after j moves, fewer than its characters, area, device and count are those of its first j characters, and it runs
-  pub runs-at : (j : ℕ) (run : Run) (area : List ℕ) (x : D) (d : Point D) → Fit x → Spanned run → j < length (wholeOf H left run area x .course)
-      → RunsAt (getD (point area x (run .count) ∷ wholeOf H left run area x .course) j d) (moves j H (goes run) area x)
+  pub runs-at : (j : ℕ) (run : Run) (area : List ℕ) (x : D) (d : Point D) → Fit x → run .iocb ≡ iocb → Spanned run → j < length (wholeOf A left run area x .course)
+      → RunsAt (getD (point area x (run .count) ∷ wholeOf A left run area x .course) j d) (moves H port j (goes run) area x)
   unfolding moves
-  runs-at zero run area x d f h l = record { run = run; stands = refl; count = refl }
-  runs-at (suc j) run area x d f h l =
-      subst (λ (w : Went D). RunsAt (getD (wholeOf H left run area x .course) j d) w) (sym (one-move run area x f h j))
-      (by (λ run area x. runs-at j run area x d) (stepOf H (run .kind) run area x .next) (stepOf H (run .kind) run area x .area) (stepOf H (run .kind) run area x .device)
-      (step-spans run H area x h) (step-fit (run .kind) run area x f) (wholeOf H left run area x) (rests run area x f h) l)
+  runs-at zero run area x d f e h l = record { run = run; stands = refl; count = refl }
+  runs-at (suc j) run area x d f e h l =
+      subst (λ (w : Went D). RunsAt (getD (wholeOf A left run area x .course) j d) w) (sym (one-move run area x e j))
+      (by (λ run area x. runs-at j run area x d) (stepOf A (run .kind) run area x .next) (stepOf A (run .kind) run area x .area) (stepOf A (run .kind) run area x .device)
+      (step-spans run A area x h) (step-fit A left Fit Z (run .kind) run area x f) (wholeOf A left run area x) (rests A left Fit Z run area x f h) l)
     where
-      by : ((run : Run) (area : List ℕ) (x : D) → Fit x → Spanned run → j < length (wholeOf H left run area x .course)
-          → RunsAt (getD (point area x (run .count) ∷ wholeOf H left run area x .course) j d) (moves j H (goes run) area x))
-          → (m : Next) (area′ : List ℕ) (y : D) → GoesOn run (wayIn (run .kind)) m → Fit y → (r : Outcome D) → restNext H left m area′ y ≡ r → suc j < length (r .course)
-          → RunsAt (getD (r .course) j d) (moves j H (outOf m) area′ y)
-      by again (On later) area′ y g fit r e l =
-          subst (λ (r : Outcome D). RunsAt (getD (r .course) j d) (moves j H (goes later) area′ y)) e
-          (again later area′ y fit (goes-spanned run later g) (omega (arith, ap (λ (r : Outcome D). length (r .course)) e)))
-      by again (Off status count a) area′ y g fit r e l = absurd (omega (arith, ap (λ (r : Outcome D). length (r .course)) e))
+      by : ((run : Run) (area : List ℕ) (x : D) → Fit x → run .iocb ≡ iocb → Spanned run → j < length (wholeOf A left run area x .course)
+          → RunsAt (getD (point area x (run .count) ∷ wholeOf A left run area x .course) j d) (moves H port j (goes run) area x))
+          → (m : Next) (area′ : List ℕ) (y : D) → GoesOn run (wayIn (run .kind)) m → Fit y → (r : TransferEnd D) → restNext A left m area′ y ≡ r → suc j < length (r .course)
+          → RunsAt (getD (r .course) j d) (moves H port j (outOf m) area′ y)
+      by again (On later) area′ y g fit r q l =
+          subst (λ (r : TransferEnd D). RunsAt (getD (r .course) j d) (moves H port j (goes later) area′ y)) q
+          (again later area′ y fit (g .1 .1 .0 ∙ e) (goes-spanned run later g) (omega (arith, ap (λ (r : TransferEnd D). length (r .course)) q)))
+      by again (Off status count a) area′ y g fit r q l = absurd (omega (arith, ap (λ (r : TransferEnd D). length (r .course)) q))

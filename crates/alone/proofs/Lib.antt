@@ -1,3 +1,4 @@
+pub mod Fit
 pub mod Rest
 pub mod Span
 pub mod Finish

@@ -11,22 +11,25 @@ use lib.ListN.{getD}
 use borrow.Author.Tests.{eq-eqb, ne-eqb, ltb-true, leb-true}
 use Rattle.base.specs.Choice.{and, or, within, bit}
 use Rattle.base.proofs.Choices.{pick-eq, pick-lt, choose-go, choose-eq, choose-lt, choose-le, by-eq, and-left, and-right}
-use Rattle.handler.specs.declared.Got.{Got}
-use Rattle.handler.specs.declared.Got.the-variants as got
+use Rattle.handler.specs.declared.Asked.{Asked}
 use Rattle.handler.specs.declared.Done.{Done}
 use Rattle.handler.specs.declared.Done.the-variants.{Success, Refused}
+use Rattle.handler.specs.declared.Got.{Got}
+use Rattle.handler.specs.declared.Got.the-variants as got
 use Rattle.handler.specs.Answer.{Answer}
-use Rattle.cells.specs.Modes.{shapeOf}
-use Rattle.cells.proofs.Shapes.{shape-good}
+use Rattle.handler.specs.Acts.{Acts}
 use Rattle.keys.specs.declared.keyboard.Keyboard.{Keyboard}
 use Rattle.keys.specs.Keyboard as keys
 use Rattle.keys.proofs.Keeps as keys-keeps
+use Rattle.cells.specs.Modes.{shapeOf}
+use Rattle.cells.proofs.Shapes.{shape-good}
 use Rattle.editor.specs.Text.{Text, cellAt}
 use Rattle.editor.specs.Get.{columnOf, heldOf, endOf, getAt}
 use Rattle.editor.specs.Get as editor
 use Rattle.graphics.specs.declared.Graphics.{Graphics}
 use Rattle.graphics.specs.Picture.{onward, withLast, placed}
 use Rattle.graphics.specs.Picture as graphics
+use Rattle.printer.proofs.Keeps as printer-keeps
 use Rattle.console.specs.declared.Handler.{Handler}
 use Rattle.console.specs.declared.Handler.the-variants.{E, S, K}
 use Rattle.console.specs.declared.state.Console.{Console}
@@ -37,13 +40,15 @@ use Rattle.console.proofs.Keeps.{fits-of, open-fit, prepare-fit, prepare-use, r
 use Rattle.blocks.specs.declared.Device.{Device}
 use Rattle.blocks.specs.declared.Device.the-variants as device
 use Rattle.blocks.specs.Made.{splits}
-use Rattle.printer.specs.Fit.{FitPrinter}
-use Rattle.printer.proofs.Keeps as printer-keeps
-use Rattle.cio.specs.Transfer.{eol}
-use Rattle.cio.specs.Handlers.{consoleHandler, printerHandler}
-use Rattle.cio.specs.Handlers as cio
-use Rattle.alone.specs.Left.{leftE, leftS, leftK, consoleLeft, printerLeft}
-use Rattle.alone.specs.Moves.{Lines, Starts}
+use Rattle.transfer.specs.Transfer.{eol}
+use Rattle.devices.specs.declared.Owner.{Owner}
+use Rattle.devices.specs.declared.Owner.the-variants as owner
+use Rattle.devices.specs.Groups.{Part, ownerOf, groupIn, groupOf, ownActs, deviceActs}
+use Rattle.devices.specs.Fit.{FitPart}
+use Rattle.devices.proofs.Keeps.{opens-fit, specials-fit}
+use Rattle.alone.specs.Left.{leftE, leftS, leftK, consoleLeft, printerLeft, ownerLeft, deviceLeft}
+use Rattle.alone.specs.Fit.{UsedBy, FitOwn}
+use Rattle.alone.specs.Moves.{mostMoves, Lines, Starts}
 
 -- what an answer tells of the characters left: m before it, and so many after
 abbrev Falls : {D : Type 0} → (D → ℕ) → ℕ → Answer Got D → Type 0
@@ -74,7 +79,7 @@ text-falls t =
     (λ h byte e n. omega arith)
     (λ h byte e n. absurd (n (sym (character-is 0x9B byte e))))
 
-few-E : (g : ConsoleGroup) → leftE g ≤ 61440
+few-E : (g : ConsoleGroup) → leftE g < mostMoves
 unfolding leftE endOf
 few-E g = omega (arith, held-le (g .screen) (cellAt (g .console .row) 2) 38)
 
@@ -106,7 +111,7 @@ picture-falls cells g k =
     (λ h byte e n. absurd (no-character 0x8D byte e))
     (λ h byte e n. onward-falls (withLast _ g) h k)
 
-few-S : (c : Console) → leftS c ≤ 61440
+few-S : (c : Console) → leftS c < mostMoves
 unfolding leftS
 few-S c =
     let s = shapeOf (c .mode) in
@@ -124,9 +129,9 @@ column-in mode row column z e =
     ltb-true column (shapeOf mode .columns) (and-right (leb row (shapeOf mode .rows)) _ f)
 
 -- ---- K
-few-K : (c : Console) → leftK c ≤ 61440
+few-K : (c : Console) → leftK c < mostMoves
 unfolding leftK
-few-K c = pick-eq (λ (n : ℕ). n ≤ 61440) (c .keyboard .code) 0xFF 0 1 (λ e. omega arith) (λ e. omega arith)
+few-K c = pick-eq (λ (n : ℕ). n < mostMoves) (c .keyboard .code) 0xFF 0 1 (λ e. omega arith) (λ e. omega arith)
 
 -- a character comes only from a stored key
 stored : (k : Keyboard) (byte : ℕ) → keys.getOf k .says ≡ got.Character byte → k .code ≡ 0xFF → ⊥
@@ -140,48 +145,37 @@ keys-falls c byte e =
     let k = c .keyboard in
     rw (ne-eqb (k .code) 0xFF (stored k byte e), eq-eqb (keys.getOf k .leaves .code) 0xFF (keys-keeps.get-empties k))
 
--- undamaged, and in use by this handler
-abbrev pub ConsoleFit : Handler → ConsoleGroup → Type 0
-ConsoleFit h g = FitGroup g × InUse h (g .console)
-
-console-falls : (h : Handler) (g : ConsoleGroup) (byte : ℕ) → ConsoleFit h g → readOf h g .says ≡ got.Character byte → (byte ≡ eol → ⊥)
+console-falls : (h : Handler) (g : ConsoleGroup) (byte : ℕ) → FitGroup g → InUse h (g .console) → readOf h g .says ≡ got.Character byte → (byte ≡ eol → ⊥)
     → consoleLeft h g ≡ consoleLeft h (readOf h g .leaves) + 1
 unfolding consoleLeft readOf readE readS leftE leftS
-console-falls E g byte f e n = text-falls (textOf g) byte e n
-console-falls S g byte f e n =
+console-falls E g byte f u e n = text-falls (textOf g) byte e n
+console-falls S g byte f u e n =
     let c = g .console in
-    let fits = fits-of c (f .0 .fit) in
-    picture-falls (g .screen) (graphicsOf c) (column-in (c .mode) (c .row) (c .column) (f .1) (fits .cursor)) byte e n
-console-falls K g byte f e n = keys-falls (g .console) byte e
+    let fits = fits-of c (f .fit) in
+    picture-falls (g .screen) (graphicsOf c) (column-in (c .mode) (c .row) (c .column) u (fits .cursor)) byte e n
+console-falls K g byte f u e n = keys-falls (g .console) byte e
 
-console-few : (h : Handler) (g : ConsoleGroup) → consoleLeft h g ≤ 61440
+console-few : (h : Handler) (g : ConsoleGroup) → consoleLeft h g < mostMoves
 unfolding consoleLeft
 console-few E g = few-E g
 console-few S g = few-S (g .console)
 console-few K g = few-K (g .console)
 
-pub console-lines : (h : Handler) → Lines (consoleHandler h) (consoleLeft h) (ConsoleFit h)
-console-lines h = record {
+-- a device of a group, by its owner
+pub owner-lines : (o : Owner) (asked : Asked) → Lines (ownActs o asked) (ownerLeft o) (FitOwn o)
+unfolding printerLeft
+owner-lines (owner.Console h) asked = record {
   read-fit = λ g f. (read-fit g (f .0) h (f .1), read-use g (f .0) h (f .1));
   write-fit = λ byte g f. (write-fit g (f .0) h byte (f .1), write-use g (f .0) h byte (f .1));
-  falls = console-falls h;
+  falls = λ g byte f. console-falls h g byte (f .0) (f .1);
   few = λ g f. console-few h g;
 }
-
-pub printer-lines : Lines printerHandler printerLeft FitPrinter
-unfolding printerLeft
-printer-lines = record {
+owner-lines owner.Printer asked = record {
   read-fit = λ g f. f;
-  write-fit = λ byte g f. printer-keeps.put-fit byte g f;
+  write-fit = λ byte g f. (printer-keeps.put-fit byte g (f .0), tt);
   falls = λ g byte f e n. absurd (no-character 0x83 byte e);
   few = λ g f. omega arith;
 }
-
--- the device of a handler
-abbrev pub deviceFor : Handler → Device
-deviceFor E = device.E
-deviceFor S = device.S
-deviceFor K = device.K
 
 refused-success : {A : Type 0} (status : ℕ) → Refused status ≡ Success → A
 refused-success status e = let z : _≡_ {A = ℕ} 0 1 = cc in absurd (omega arith)
@@ -191,33 +185,47 @@ or-left true b e = e
 or-left false b e = refl
 
 -- "AUX1 bit 4 is $91"
-console-unsplit : (h : Handler) (aux1 aux2 : ℕ) (g : ConsoleGroup) → consoleHandler h .opens aux1 aux2 g .says ≡ Success → splits (deviceFor h) aux1 ≡ false
+screen-unsplit : (asked : Asked) (g : ConsoleGroup) → openOf S (asked .aux1) (asked .aux2) g .says ≡ Success → bit 16 (asked .aux1) ≡ false
 unfolding openOf openS graphics.openOf
-console-unsplit E aux1 aux2 g = λ e. refl
-console-unsplit S aux1 aux2 g =
-    choose-go (λ (y : Answer Done graphics.Picture). y .says ≡ Success → bit 16 aux1 ≡ false) (or (bit 16 aux1) (not (within 3 8 aux2))) _ _
-    (λ t e. refused-success 0x91 e) (λ t e. or-left (bit 16 aux1) (not (within 3 8 aux2)) t)
-console-unsplit K aux1 aux2 g = λ e. refl
+screen-unsplit asked g =
+    choose-go (λ (y : Answer Done graphics.Picture). y .says ≡ Success → bit 16 (asked .aux1) ≡ false) (or (bit 16 (asked .aux1)) (not (within 3 8 (asked .aux2)))) _ _
+    (λ t e. refused-success 0x91 e) (λ t e. or-left (bit 16 (asked .aux1)) (not (within 3 8 (asked .aux2))) t)
 
-pub console-starts : (h : Handler) → Starts (consoleHandler h) FitGroup (ConsoleFit h) (deviceFor h)
-console-starts h = record {
-  open-fit = λ aux1 aux2 g f. open-fit g f h aux1 aux2;
-  unsplit = console-unsplit h;
-  prepare-fit = λ g f. prepare-fit g f h;
-  prepare-use = λ g f e. (prepare-fit g f h, prepare-use g f h e);
-  used = λ g f. f .0;
-}
+device-unsplit : (d : Device) (asked : Asked) (x : Part (groupOf d)) → deviceActs d asked .opens x .says ≡ Success → splits d (asked .aux1) ≡ false
+device-unsplit device.E asked x e = refl
+device-unsplit device.S asked x e = screen-unsplit asked x e
+device-unsplit device.K asked x e = refl
+device-unsplit device.P asked x e = refl
 
-pub printer-starts : Starts printerHandler FitPrinter FitPrinter device.P
-printer-starts = record {
-  open-fit = λ aux1 aux2 g f. f;
-  unsplit = λ aux1 aux2 g e. refl;
-  prepare-fit = λ g f. f;
-  prepare-use = λ g f e. f;
-  used = λ g f. f;
+-- what a device's acts before a transfer leave
+module _ (asked : Asked) where
+  close-fits : (o : Owner) (x : Part (groupIn o)) → FitPart (groupIn o) x → FitPart (groupIn o) (ownActs o asked .closes x)
+  close-fits (owner.Console h) x f = f
+  close-fits owner.Printer x f = f
+
+  prepare-fits : (o : Owner) (x : Part (groupIn o)) → FitPart (groupIn o) x → FitPart (groupIn o) (ownActs o asked .prepares x .leaves)
+  prepare-fits (owner.Console h) x f = prepare-fit x f h
+  prepare-fits owner.Printer x f = f
+
+  prepare-uses : (o : Owner) (x : Part (groupIn o)) → FitPart (groupIn o) x → ownActs o asked .prepares x .says ≡ Success → UsedBy o (ownActs o asked .prepares x .leaves)
+  prepare-uses (owner.Console h) x f e = prepare-use x f h e
+  prepare-uses owner.Printer x f e = tt
+
+pub device-lines : (d : Device) (asked : Asked) → Lines (deviceActs d asked) (deviceLeft d) (FitOwn (ownerOf d))
+device-lines d asked = owner-lines (ownerOf d) asked
+
+pub device-starts : (d : Device) → Starts (deviceActs d) (FitPart (groupOf d)) (FitOwn (ownerOf d)) d
+device-starts d = record {
+  open-fit = λ asked x f. opens-fit (ownerOf d) asked x f;
+  unsplit = device-unsplit d;
+  close-fit = λ asked x f. close-fits asked (ownerOf d) x f;
+  special-fit = λ asked x f. specials-fit (ownerOf d) asked x f;
+  prepare-fit = λ asked x f. prepare-fits asked (ownerOf d) x f;
+  prepare-use = λ asked x f e. (prepare-fits asked (ownerOf d) x f, prepare-uses asked (ownerOf d) x f e);
+  used = λ x f. f .0;
 }
 
 -- with no character left, the next one read is the EOL, or is refused
-pub none-left : {D : Type 0} (H : cio.Handler D) (left : D → ℕ) (Fit : D → Type 0) → Lines H left Fit → (x : D) (byte : ℕ) → Fit x → left x ≡ 0
+pub none-left : {D : Type 0} (H : Acts D) (left : D → ℕ) (Fit : D → Type 0) → Lines H left Fit → (x : D) (byte : ℕ) → Fit x → left x ≡ 0
     → H .reads x .says ≡ got.Character byte → byte ≡ eol
 none-left H left Fit Z x byte f z e = by-eq byte eol (λ q. q) (λ n. absurd (omega (arith, z, Z .falls x byte f e n)))

@@ -1,4 +1,4 @@
--- What the checks let through: a transfer has a length and an address in the area, an opening a number 1 to 8, each job its device.
+-- What the checks let through: a transfer has a length and an address in the area, an opening a number 1 to 8.
 -- Assumes nothing.
 use mathlib.Core.Path.{_≡_, refl}
 use mathlib.Core.Bool.{Bool, true, false}
@@ -9,38 +9,36 @@ use lib.Dec.{eqb, leb, ltb}
 use borrow.Author.Tests.{ne-eqb, leb-true}
 use Rattle.base.specs.Choice.{pick, or, within}
 use Rattle.base.proofs.Choices.{pick-go, pick-eq}
-use Rattle.blocks.specs.declared.Device.{Device}
-use Rattle.blocks.specs.declared.Device.the-variants.{E, S, K, P}
 use Rattle.blocks.specs.declared.BlockState.{BlockState}
 use Rattle.blocks.specs.declared.BlockState.the-variants as block
-use Rattle.blocks.specs.declared.Table.{Table}
-use Rattle.blocks.specs.declared.Way.{Way}
-use Rattle.blocks.specs.declared.Way.the-variants.{One, Characters, Record}
+use Rattle.blocks.specs.declared.ControlBlock.{ControlBlock}
+use Rattle.blocks.specs.declared.Device.{Device}
 use Rattle.blocks.specs.declared.Specification.{Specification}
 use Rattle.blocks.specs.declared.Specification.the-variants.{Refused, Names}
-use Rattle.blocks.specs.Blocks.{blockAt}
+use Rattle.blocks.specs.declared.Way.{Way}
+use Rattle.blocks.specs.declared.Way.the-variants.{One, Characters, Record}
 use Rattle.blocks.specs.Opening.{areaLength, reads, writes, specificationOf}
 use Rattle.blocks.proofs.Keeps.{names-number}
 use Rattle.wire.specs.declared.Call.{Call}
-use Rattle.cio.specs.declared.plan.Command.{Command}
-use Rattle.cio.specs.declared.plan.Command.the-variants as command
-use Rattle.cio.specs.declared.plan.After.{After}
-use Rattle.cio.specs.declared.plan.After.the-variants as after
-use Rattle.cio.specs.declared.plan.Work.{Work}
-use Rattle.cio.specs.declared.plan.Work.the-variants as work
-use Rattle.cio.specs.declared.plan.Errand.{Errand}
-use Rattle.cio.specs.declared.plan.Errand.the-variants as errand
-use Rattle.cio.specs.declared.plan.Plan.{Plan}
-use Rattle.cio.specs.declared.plan.Plan.the-variants as plan
-use Rattle.cio.specs.Plan.{commandOf, wayOf, kindOf, plannedOf, openPlan, areaPlan, transferPlan, blockPlan, callPlan}
-use Rattle.cio.specs.Move.{wayIn}
+use Rattle.transfer.specs.Spans.{wayIn}
+use Rattle.plan.specs.declared.After.{After}
+use Rattle.plan.specs.declared.After.the-variants as after
+use Rattle.plan.specs.declared.Command.{Command}
+use Rattle.plan.specs.declared.Command.the-variants as command
+use Rattle.plan.specs.declared.Errand.{Errand}
+use Rattle.plan.specs.declared.Errand.the-variants as errand
+use Rattle.plan.specs.declared.Plan.{Plan}
+use Rattle.plan.specs.declared.Plan.the-variants as plan
+use Rattle.plan.specs.declared.Work.{Work}
+use Rattle.plan.specs.declared.Work.the-variants as work
+use Rattle.plan.specs.Plan.{commandOf, wayOf, kindOf, openPlan, areaPlan, transferPlan, blockPlan, callPlan}
 use Rattle.alone.proofs.Span.{Span}
-use Rattle.alone.proofs.Lines.{deviceFor}
 
 abbrev pub PlannedWork : Work → Call → Type 0
 PlannedWork work.Close c = Unit {0}
-PlannedWork (work.Answer status) c = Unit {0}
-PlannedWork (work.Open then number) c = within 1 8 number ≡ true
+PlannedWork work.Status c = Unit {0}
+PlannedWork work.Special c = Unit {0}
+PlannedWork (work.Open then number name) c = within 1 8 number ≡ true
 PlannedWork (work.Transfer kind) c = Span (wayIn kind) (c .length) (c .address) 0
 
 -- a CALL without a group is a status
@@ -52,21 +50,14 @@ Called (errand.Bad status) = ⊥
 
 abbrev pub Planned : Plan → Type 0
 Planned (plan.Free e) = Called e
-Planned (plan.Console h job) = PlannedWork (job .work) (job .call) × (job .device ≡ deviceFor h)
-Planned (plan.Printer job) = PlannedWork (job .work) (job .call) × (job .device ≡ P)
+Planned (plan.On job) = PlannedWork (job .work) (job .call)
 
-planned-on : (device : Device) (w : Work) (c : Call) → PlannedWork w c → Planned (plannedOf device w c)
-planned-on E w c p = (p, refl)
-planned-on S w c p = (p, refl)
-planned-on K w c p = (p, refl)
-planned-on P w c p = (p, refl)
-
-open-planned : (then : After) (s : Specification) (c : Call) → ((device : Device) (number : ℕ) → s ≡ Names device number → within 1 8 number ≡ true) → Planned (openPlan then s c)
-open-planned then (Refused status) c n = tt
-open-planned then (Names device number) c n = planned-on device (work.Open then number) c (n device number refl)
+open-planned : (then : After) (s : Specification) (half : List ℕ) (c : Call) → ((device : Device) (number : ℕ) → s ≡ Names device number → within 1 8 number ≡ true) → Planned (openPlan then s half c)
+open-planned then (Refused status) half c n = tt
+open-planned then (Names device number) half c n = n device number refl
 
 -- a length that is not 0
-some-way : (records : Bool) (n address : ℕ) → (n ≡ 0 → ⊥) → address + n ≤ 16384 → Span (pick records Record Characters) n address 0
+some-way : (records : Bool) (n address : ℕ) → (n ≡ 0 → ⊥) → address + n ≤ areaLength → Span (pick records Record Characters) n address 0
 some-way true n address z h = (omega arith, (h, omega arith))
 some-way false n address z h = (omega arith, (h, omega arith))
 
@@ -74,9 +65,9 @@ way-span : (records : Bool) (n address : ℕ) → or (eqb n 0) (leb (address + n
 unfolding wayOf
 way-span records n address e =
     pick-eq (λ (way : Way). Span way n address 0) n 0 One (pick records Record Characters) (λ z. (z, refl))
-    (λ z. some-way records n address z (leb-true (address + n) 16384 (rw (ne-eqb n 0 z) at e)))
+    (λ z. some-way records n address z (leb-true (address + n) areaLength (rw (ne-eqb n 0 z) at e)))
 
-kind-span : (reads records : Bool) (n address : ℕ) → or (eqb n 0) (leb (address + n) areaLength) ≡ true → Span (wayIn (kindOf reads (wayOf records n))) n address 0
+pub kind-span : (reads records : Bool) (n address : ℕ) → or (eqb n 0) (leb (address + n) areaLength) ≡ true → Span (wayIn (kindOf reads (wayOf records n))) n address 0
 kind-span true records n address e = way-span records n address e
 kind-span false records n address e = way-span records n address e
 
@@ -84,7 +75,7 @@ area-planned : (reads records : Bool) (device : Device) (c : Call) → Planned (
 unfolding areaPlan
 area-planned reads records device c =
     pick-go Planned (or (eqb (c .length) 0) (leb (c .address + c .length) areaLength)) _ _
-    (λ e. planned-on device (work.Transfer (kindOf reads (wayOf records (c .length)))) c (kind-span reads records (c .length) (c .address) e))
+    (λ e. kind-span reads records (c .length) (c .address) e)
     (λ e. tt)
 
 transfer-planned : (reads records : Bool) (device : Device) (aux1 : ℕ) (c : Call) → Planned (transferPlan reads records device aux1 c)
@@ -95,18 +86,17 @@ transfer-planned false records device aux1 c = pick-go Planned (writes aux1) _ _
 block-planned : (k : Command) (state : BlockState) (c : Call) (half : List ℕ) → Planned (blockPlan k state c half)
 unfolding blockPlan
 block-planned command.Bad state c half = tt
-block-planned command.Open block.Closed c half = open-planned after.Stay (specificationOf half (c .address)) c (names-number half (c .address))
+block-planned command.Open block.Closed c half = open-planned after.Stay (specificationOf half (c .address)) half c (names-number half (c .address))
 block-planned command.Open (block.Open device number aux1) c half = tt
 block-planned command.Close block.Closed c half = tt
-block-planned command.Close (block.Open device number aux1) c half = planned-on device work.Close c tt
-block-planned command.Status block.Closed c half = open-planned after.Status (specificationOf half (c .address)) c (names-number half (c .address))
-block-planned command.Status (block.Open device number aux1) c half = planned-on device (work.Answer 0x01) c tt
-block-planned command.Special block.Closed c half = open-planned after.Special (specificationOf half (c .address)) c (names-number half (c .address))
-block-planned command.Special (block.Open device number aux1) c half = planned-on device (work.Answer 0x84) c tt
+block-planned command.Close (block.Open device number aux1) c half = tt
+block-planned command.Status block.Closed c half = open-planned after.Status (specificationOf half (c .address)) half c (names-number half (c .address))
+block-planned command.Status (block.Open device number aux1) c half = tt
+block-planned command.Special block.Closed c half = open-planned after.Special (specificationOf half (c .address)) half c (names-number half (c .address))
+block-planned command.Special (block.Open device number aux1) c half = tt
 block-planned (command.Transfer reads records) block.Closed c half = tt
 block-planned (command.Transfer reads records) (block.Open device number aux1) c half = transfer-planned reads records device aux1 c
 
-pub planned : (c : Call) (table : Table) (half : List ℕ) → Planned (callPlan c table half)
+pub planned : (c : Call) (b : ControlBlock) (half : List ℕ) → Planned (callPlan c b half)
 unfolding callPlan
-planned c table half =
-    pick-go Planned (ltb 7 (c .iocb)) _ _ (λ e. tt) (λ e. block-planned (commandOf (c .command)) (blockAt table (c .iocb) .state) c half)
+planned c b half = pick-go Planned (ltb 7 (c .iocb)) _ _ (λ e. tt) (λ e. block-planned (commandOf (c .command)) (b .state) c half)

@@ -9,22 +9,22 @@ use lib.Dec.{eqb}
 use lib.ListN.{getD, set}
 use borrow.Author.Tests.{ne-eqb, eqb-false}
 use Rattle.base.specs.Choice.{pick, choose}
-use Rattle.handler.specs.declared.Got.{Got}
-use Rattle.handler.specs.declared.Got.the-variants as got
 use Rattle.handler.specs.declared.Done.{Done}
 use Rattle.handler.specs.declared.Done.the-variants as done
+use Rattle.handler.specs.declared.Got.{Got}
+use Rattle.handler.specs.declared.Got.the-variants as got
+use Rattle.handler.specs.Acts.{Acts}
 use Rattle.blocks.specs.declared.Device.{Device}
-use Rattle.blocks.specs.declared.Way.{Way}
-use Rattle.blocks.specs.declared.Way.the-variants.{One, Characters, Record}
 use Rattle.blocks.specs.declared.Kind.{Kind}
 use Rattle.blocks.specs.declared.Kind.the-variants.{Get, Put}
 use Rattle.blocks.specs.declared.Run.{Run}
-use Rattle.cio.specs.declared.transfer.Next.{Next}
-use Rattle.cio.specs.declared.transfer.Next.the-variants.{On, Off}
-use Rattle.cio.specs.Transfer.{Progress, progress, furtherOf, endedOf, onwardOf, eol, recordOf, gotCharacter, gotOf, sentByte, sentRecord, sentNext, sentOf, outOf}
-use Rattle.cio.specs.Handlers.{Handler}
+use Rattle.blocks.specs.declared.Way.{Way}
+use Rattle.blocks.specs.declared.Way.the-variants.{One, Characters, Record}
+use Rattle.transfer.specs.declared.Next.{Next}
+use Rattle.transfer.specs.declared.Next.the-variants.{On, Off}
+use Rattle.transfer.specs.Transfer.{Progress, progress, furtherOf, endedOf, onwardOf, eol, recordOf, gotCharacter, gotOf, sentByte, sentRecord, sentNext, sentOf, outOf}
 use Rattle.cio.specs.Move.{Went, went, getOf, putOf, goOf}
-use Rattle.alone.specs.Transfer.{point, Outcome, last, next, onGot, onDone, getOne, putOne, getCharacters, dropLine, getRecord, putCharacters, putRecord, getting, putting, transferred}
+use Rattle.alone.specs.Transfer.{point, TransferEnd, last, next, onGot, onDone, getOne, putOne, getCharacters, dropLine, getRecord, putCharacters, putRecord, getting, putting, transferred}
 use Rattle.alone.specs.Moves.{wholeOf, Lines}
 
 -- a move, before its reply is made
@@ -46,22 +46,22 @@ gotStep way run says area y = let p = gotOf way run says area in stepped (p .are
 abbrev pub sentStep : {D : Type 0} → Way → Run → Done → List ℕ → D → Stepped D
 sentStep way run says area y = stepped area y (sentOf way run (sentByte way run area) says)
 
-abbrev pub stepOf : {D : Type 0} → Handler D → Kind → Run → List ℕ → D → Stepped D
+abbrev pub stepOf : {D : Type 0} → Acts D → Kind → Run → List ℕ → D → Stepped D
 stepOf H (Get way) run area x = gotStep way run (H .reads x .says) area (H .reads x .leaves)
 stepOf H (Put way) run area x = let y = H .writes (sentByte way run area) x in sentStep way run (y .says) area (y .leaves)
 
-pub go-is : {D : Type 0} (H : Handler D) (kind : Kind) (run : Run) (area : List ℕ) (x : D) → goOf H kind run area x ≡ landing (stepOf H kind run area x)
+pub go-is : {D : Type 0} (H : Acts D) (kind : Kind) (run : Run) (area : List ℕ) (x : D) → goOf H kind run area x ≡ landing (stepOf H kind run area x)
 unfolding goOf getOf putOf
 go-is H (Get way) run area x = refl
 go-is H (Put way) run area x = refl
 
 -- the rest after a move, with the move's own point
-module _ {D : Type 0} (H : Handler D) (left : D → ℕ) where
-  abbrev pub restNext : Next → List ℕ → D → Outcome D
+module _ {D : Type 0} (H : Acts D) (left : D → ℕ) where
+  abbrev pub restNext : Next → List ℕ → D → TransferEnd D
   restNext (On run) area y = next (point area y (run .count)) (wholeOf H left run area y)
   restNext (Off status count a) area y = last area y status count a
 
-  abbrev pub restOf : Stepped D → Outcome D
+  abbrev pub restOf : Stepped D → TransferEnd D
   restOf s = restNext (s .next) (s .area) (s .device)
 
 abbrev pub runBy : Kind → Device → (iocb n place count a : ℕ) → Run
@@ -127,7 +127,7 @@ module _ (kind : Kind) (device : Device) (iocb place count a : ℕ) where
   unfolding sentByte
   byte-none area = refl
 
-module _ {D : Type 0} (H : Handler D) (left : D → ℕ) (device : Device) (iocb a : ℕ) where
+module _ {D : Type 0} (H : Acts D) (left : D → ℕ) (device : Device) (iocb a : ℕ) where
   -- what of `left` is known when the handler says this
   abbrev Falls : ℕ → Got → D → Type 0
   Falls m says y = (byte : ℕ) → says ≡ got.Character byte → (byte ≡ eol → ⊥) → m ≡ left y + 1
@@ -228,7 +228,7 @@ module _ {D : Type 0} (H : Handler D) (left : D → ℕ) (device : Device) (iocb
   put-last place count byte area (done.Refused status) y = refl
 
   -- dropping, by what the handler says and leaves
-  abbrev dropped : ℕ → (count : ℕ) → List ℕ → Got → D → Outcome D
+  abbrev dropped : ℕ → (count : ℕ) → List ℕ → Got → D → TransferEnd D
   dropped zero count area says y = onGot says (λ byte. last area y 0x89 count a) (λ status. last area y status count a)
   dropped (suc m) count area says y =
       onGot says
@@ -291,6 +291,6 @@ module _ {D : Type 0} (H : Handler D) (left : D → ℕ) (device : Device) (iocb
     by-kind (Put way) n s = sent-rest way n s
 
 -- after a move of one character the rest is the whole
-pub rest-is : {D : Type 0} (H : Handler D) (left : D → ℕ) (Fit : D → Type 0) → Lines H left Fit → (run : Run) (area : List ℕ) (x : D) → Fit x → SomeIn (run .kind) (run .left)
+pub rest-is : {D : Type 0} (H : Acts D) (left : D → ℕ) (Fit : D → Type 0) → Lines H left Fit → (run : Run) (area : List ℕ) (x : D) → Fit x → SomeIn (run .kind) (run .left)
     → restOf H left (stepOf H (run .kind) run area x) ≡ wholeOf H left run area x
 rest-is H left Fit Z run area x f s = by-kind H left (run .device) (run .iocb) (run .a) Fit Z x f (run .place) (run .count) area (run .kind) (run .left) s

@@ -9,42 +9,43 @@ use lib.Dec.{eqb, leb, ltb}
 use borrow.Author.Tests.{eq-eqb, lt-ltb, le-leb, eqb-true, ltb-true, leb-true}
 use Rattle.base.specs.Choice.{and}
 use Rattle.base.proofs.Choices.{and-left, and-right, pick-eq, choose-eq}
-use Rattle.handler.specs.declared.Got.{Got}
-use Rattle.handler.specs.declared.Got.the-variants as got
 use Rattle.handler.specs.declared.Done.{Done}
 use Rattle.handler.specs.declared.Done.the-variants as done
-use Rattle.blocks.specs.declared.Way.{Way}
-use Rattle.blocks.specs.declared.Way.the-variants.{One, Characters, Record}
+use Rattle.handler.specs.declared.Got.{Got}
+use Rattle.handler.specs.declared.Got.the-variants as got
+use Rattle.handler.specs.Acts.{Acts}
 use Rattle.blocks.specs.declared.Kind.{Kind}
 use Rattle.blocks.specs.declared.Kind.the-variants.{Get, Put}
 use Rattle.blocks.specs.declared.Run.{Run}
-use Rattle.cio.specs.declared.transfer.Next.{Next}
-use Rattle.cio.specs.declared.transfer.Next.the-variants.{On, Off}
-use Rattle.cio.specs.Transfer.{Progress, furtherOf, endedOf, onwardOf, eol, recordOf, gotCharacter, gotOf, sentByte, sentRecord, sentNext, sentOf, spanFits, Spans}
-use Rattle.cio.specs.Handlers.{Handler}
-use Rattle.cio.specs.Move.{wayIn}
+use Rattle.blocks.specs.declared.Way.{Way}
+use Rattle.blocks.specs.declared.Way.the-variants.{One, Characters, Record}
+use Rattle.blocks.specs.Opening.{areaLength}
+use Rattle.transfer.specs.declared.Next.{Next}
+use Rattle.transfer.specs.declared.Next.the-variants.{On, Off}
+use Rattle.transfer.specs.Transfer.{Progress, furtherOf, endedOf, onwardOf, eol, recordOf, gotCharacter, gotOf, sentByte, sentRecord, sentNext, sentOf}
+use Rattle.transfer.specs.Spans.{spanFits, Spans, wayIn}
 use Rattle.alone.proofs.Rest.{stepOf, Some, SomeIn}
 
 -- the numbers that `spanFits` tests
 abbrev pub Span : Way → (n place count : ℕ) → Type 0
 Span One n place count = (n ≡ 0) × (count ≡ 0)
-Span Characters n place count = (0 < n) × ((place + n ≤ 16384) × (count ≤ place))
-Span Record n place count = (0 < n + count) × ((place + n ≤ 16384) × (count ≤ place))
+Span Characters n place count = (0 < n) × ((place + n ≤ areaLength) × (count ≤ place))
+Span Record n place count = (0 < n + count) × ((place + n ≤ areaLength) × (count ≤ place))
 
 both-true : (a b : Bool) → a ≡ true → b ≡ true → and a b ≡ true
 both-true a b p q = rw (p, q)
 
-three : (x n place count : ℕ) → and (ltb 0 x) (and (leb (place + n) 16384) (leb count place)) ≡ true → (0 < x) × ((place + n ≤ 16384) × (count ≤ place))
+three : (x n place count : ℕ) → and (ltb 0 x) (and (leb (place + n) areaLength) (leb count place)) ≡ true → (0 < x) × ((place + n ≤ areaLength) × (count ≤ place))
 three x n place count e =
-    let q = and-right (ltb 0 x) (and (leb (place + n) 16384) (leb count place)) e in (
-      ltb-true 0 x (and-left (ltb 0 x) (and (leb (place + n) 16384) (leb count place)) e),
-      (leb-true (place + n) 16384 (and-left (leb (place + n) 16384) (leb count place) q), leb-true count place (and-right (leb (place + n) 16384) (leb count place) q)),
+    let q = and-right (ltb 0 x) (and (leb (place + n) areaLength) (leb count place)) e in (
+      ltb-true 0 x (and-left (ltb 0 x) (and (leb (place + n) areaLength) (leb count place)) e),
+      (leb-true (place + n) areaLength (and-left (leb (place + n) areaLength) (leb count place) q), leb-true count place (and-right (leb (place + n) areaLength) (leb count place) q)),
     )
 
-to-three : (x n place count : ℕ) → (0 < x) × ((place + n ≤ 16384) × (count ≤ place)) → and (ltb 0 x) (and (leb (place + n) 16384) (leb count place)) ≡ true
+to-three : (x n place count : ℕ) → (0 < x) × ((place + n ≤ areaLength) × (count ≤ place)) → and (ltb 0 x) (and (leb (place + n) areaLength) (leb count place)) ≡ true
 to-three x n place count h =
-    both-true (ltb 0 x) (and (leb (place + n) 16384) (leb count place)) (lt-ltb 0 x (h .0))
-    (both-true (leb (place + n) 16384) (leb count place) (le-leb (place + n) 16384 (h .1 .0)) (le-leb count place (h .1 .1)))
+    both-true (ltb 0 x) (and (leb (place + n) areaLength) (leb count place)) (lt-ltb 0 x (h .0))
+    (both-true (leb (place + n) areaLength) (leb count place) (le-leb (place + n) areaLength (h .1 .0)) (le-leb count place (h .1 .1)))
 
 pub span-of : (way : Way) (run : Run) → Spans way run → Span way (run .left) (run .place) (run .count)
 unfolding spanFits
@@ -120,12 +121,12 @@ module _ (run : Run) where
   sent-spans way byte done.Success h = sent-next-spans way byte h
   sent-spans way byte (done.Refused status) h = tt
 
-  by-kind : {D : Type 0} (H : Handler D) (kind : Kind) (area : List ℕ) (x : D) → Span (wayIn kind) (run .left) (run .place) (run .count)
+  by-kind : {D : Type 0} (H : Acts D) (kind : Kind) (area : List ℕ) (x : D) → Span (wayIn kind) (run .left) (run .place) (run .count)
       → GoesOn run (wayIn kind) (stepOf H kind run area x .next)
   by-kind H (Get way) area x h = got-spans way (H .reads x .says) area h
   by-kind H (Put way) area x h = sent-spans way (sentByte way run area) (H .writes (sentByte way run area) x .says) h
 
-  pub step-spans : {D : Type 0} (H : Handler D) (area : List ℕ) (x : D) → Spanned run → GoesOn run (wayIn (run .kind)) (stepOf H (run .kind) run area x .next)
+  pub step-spans : {D : Type 0} (H : Acts D) (area : List ℕ) (x : D) → Spanned run → GoesOn run (wayIn (run .kind)) (stepOf H (run .kind) run area x .next)
   step-spans H area x h = by-kind H (run .kind) area x h
 
 pub goes-spanned : (run later : Run) → GoesOn run (wayIn (run .kind)) (On later) → Spanned later

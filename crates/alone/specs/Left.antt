@@ -5,11 +5,15 @@ use lib.Dec.{eqb}
 use Rattle.base.specs.Choice.{pick}
 use Rattle.cells.specs.Modes.{shapeOf}
 use Rattle.editor.specs.Get.{columnOf, endOf}
+use Rattle.printer.specs.Printer.{PrinterGroup}
 use Rattle.console.specs.declared.Handler.{Handler}
 use Rattle.console.specs.declared.Handler.the-variants.{E, S, K}
 use Rattle.console.specs.declared.state.Console.{Console}
 use Rattle.console.specs.Group.{ConsoleGroup}
-use Rattle.printer.specs.Printer.{PrinterGroup}
+use Rattle.blocks.specs.declared.Device.{Device}
+use Rattle.devices.specs.declared.Owner.{Owner}
+use Rattle.devices.specs.declared.Owner.the-variants as owner
+use Rattle.devices.specs.Groups.{Part, groupIn, groupOf, ownerOf}
 
 -- E: what is left of the row, from the read column to "the row's last column of 2 to 39 not holding $20"
 unfoldable pub leftE : ConsoleGroup → ℕ
@@ -31,3 +35,11 @@ consoleLeft K g = leftK (g .console)
 -- P: it has nothing to read
 unfoldable pub printerLeft : PrinterGroup → ℕ
 printerLeft g = 0
+
+-- of a device, by its owner
+abbrev pub ownerLeft : (o : Owner) → Part (groupIn o) → ℕ
+ownerLeft (owner.Console h) g = consoleLeft h g
+ownerLeft owner.Printer g = printerLeft g
+
+abbrev pub deviceLeft : (device : Device) → Part (groupOf device) → ℕ
+deviceLeft device = ownerLeft (ownerOf device)

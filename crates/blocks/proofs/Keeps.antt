@@ -1,6 +1,6 @@
 -- What callers cite: which blocks are made, what a table keeps, what a specification names.
 -- Assumes nothing.
-use mathlib.Core.Path.{_≡_, refl, subst}
+use mathlib.Core.Path.{_≡_, refl, ap, subst}
 use mathlib.Core.Bool.{Bool, true, false, not}
 use mathlib.Core.List.{List, [], _∷_}
 use Prim.Native.Nat.{ℕ, zero, suc, _+_, _-_, _≤_, _<_}
@@ -8,7 +8,7 @@ use native.Mathlib.Omega.{arith}
 use borrow.Author.Tests.{leb-true, le-leb, not-true}
 use lib.Dec.{eqb, leb, ltb}
 use lib.ListN.{length, getD, set, length-set}
-use lib.Seq.{getD-set-same, getD-set-other}
+use lib.Seq.{getD-set-same, getD-set-other, set-getD}
 use Rattle.base.specs.Choice.{and, within}
 use Rattle.base.proofs.Choices.{pick-go, and-left, and-right}
 use Rattle.blocks.specs.declared.Device.{Device}
@@ -39,6 +39,9 @@ block-same table iocb block h = getD-set-same (table .blocks) iocb block closedB
 
 pub block-other : (table : Table) (iocb other : ℕ) (block : ControlBlock) → (other ≡ iocb → ⊥) → blockAt (withBlock table iocb block) other ≡ blockAt table other
 block-other table iocb other block h = getD-set-other (table .blocks) iocb other block closedBlock h
+
+pub block-back : (table : Table) (iocb : ℕ) → withBlock table iocb (blockAt table iocb) ≡ table
+block-back table iocb = ap (λ (blocks : List ControlBlock). record { blocks = blocks }) (set-getD (table .blocks) iocb closedBlock)
 
 -- blocks that some OPEN makes
 pub closed-made : madeOf closedBlock ≡ true

@@ -1,9 +1,8 @@
 // A port's own state by value: its eight control blocks and its phase. And what an OPEN reads before any device is asked: its
 // device specification, and whether the device offers its AUX1.
 ghost use mathlib.Core.Path.{_≡_};
-ghost use Rattle.blocks.specs.Blocks.{closedBlock, openBlock, closedTable, withBlock, blockAt, freshGather, freshPort};
+ghost use Rattle.blocks.specs.Blocks.{closedTable, freshGather, freshPort};
 ghost use Rattle.blocks.specs.Opening.{deviceOf, colonOf, numberOf, namedOf, specificationOf, reads, writes, offersOf};
-ghost use Rattle.blocks.specs.Made.{splits, madeOpen, madeOf, tableMade};
 
 // The bytes of a port's own area.
 pub const AREA: usize = 16384;
@@ -103,64 +102,6 @@ impl Table {
         Table {
             blocks: [ControlBlock::CLOSED; 8],
         }
-    }
-
-    // The block of an IOCB; past the table the closed one.
-    pub fn block(self, iocb: u8) -> ControlBlock
-        ensures { λ r. ⌜ r ≡ blockAt self iocb ⌝ }
-    {
-        if iocb < 8 {
-            return self.blocks[iocb as usize];
-        }
-        ControlBlock::CLOSED
-    }
-
-    // The block of an IOCB becomes this one; past the table nothing changes.
-    pub fn with_block(self, iocb: u8, block: ControlBlock) -> Table
-        ensures { λ r. ⌜ r ≡ withBlock self iocb block ⌝ }
-    {
-        if iocb < 8 {
-            let mut next = self;
-            next.blocks[iocb as usize] = block;
-            return next;
-        }
-        self
-    }
-
-    // The block becomes the closed one.
-    pub fn close(self, iocb: u8) -> Table
-        ensures { λ r. ⌜ r ≡ withBlock self iocb closedBlock ⌝ }
-    {
-        self.with_block(iocb, ControlBlock::CLOSED)
-    }
-
-    // The block is open with its device, number and AUX1.
-    pub fn open(self, iocb: u8, device: Device, number: u8, aux1: u8) -> Table
-        ensures { λ r. ⌜ r ≡ withBlock self iocb (openBlock device number aux1) ⌝ }
-    {
-        let block = ControlBlock {
-            state: BlockState::Open {
-                device,
-                number,
-                aux1,
-            },
-        };
-        self.with_block(iocb, block)
-    }
-
-    // Whether each of the eight blocks is closed or some OPEN makes it.
-    pub fn made(self) -> bool
-        ensures { λ r. ⌜ r ≡ tableMade self ⌝ }
-    {
-        let mut iocb: usize = 0;
-        while iocb < 8 {
-            if made(self.blocks[iocb]) {
-                iocb += 1;
-            } else {
-                return false;
-            }
-        }
-        true
     }
 }
 
@@ -301,48 +242,5 @@ pub fn offers(device: Device, aux1: u8) -> bool
         Device::S => true,
         Device::K => !aux1_writes(aux1),
         Device::P => !aux1_reads(aux1),
-    }
-}
-
-// AUX1's bit 4 for S, which no open takes.
-fn splits_of(device: Device, aux1: u8) -> bool
-    ensures { λ r. ⌜ r ≡ splits device aux1 ⌝ }
-{
-    match device {
-        Device::E => false,
-        Device::S => aux1 / 16 % 2 == 1,
-        Device::K => false,
-        Device::P => false,
-    }
-}
-
-// Whether some OPEN makes a block open so.
-fn open_made(device: Device, number: u8, aux1: u8) -> bool
-    ensures { λ r. ⌜ r ≡ madeOpen device number aux1 ⌝ }
-{
-    if number < 1 {
-        return false;
-    }
-    if 8 < number {
-        return false;
-    }
-    if offers(device, aux1) {
-        return !splits_of(device, aux1);
-    }
-    false
-}
-
-// Whether some OPEN makes the block, or it is closed.
-pub fn made(block: ControlBlock) -> bool
-    ensures { λ r. ⌜ r ≡ madeOf block ⌝ }
-{
-    let state = block.state;
-    match state {
-        BlockState::Closed => true,
-        BlockState::Open {
-            device,
-            number,
-            aux1,
-        } => open_made(device, number, aux1),
     }
 }

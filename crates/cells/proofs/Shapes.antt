@@ -64,6 +64,17 @@ product-below a b h k = mul-le-mul (le-of-lt h) (le-of-lt k)
 pub cell-byte : (x colours : ℕ) → Colours colours → x % colours < 256
 cell-byte x colours c = omega (arith, mod-lt x (c .some), c .byte)
 
+-- a byte modulo the colours
+module _ (byte colours : ℕ) where
+  pub colour-is : (some : ℕ) → colours ≡ some → byte % some ≡ byte % colours
+  colour-is some e = rw e
+
+  pub colour-some : Colours colours → 0 < colours
+  colour-some c = c .some
+
+  pub colour-byte : Colours colours → Fits w8 (byte % colours)
+  colour-byte c = record { fits = cell-byte byte colours c }
+
 -- a row of the table, and what is past it
 module _ (mode row : ℕ) (e : row ≡ rowOf mode) where
   pub shape-row : row < 7 → getD modes row (shaped 0 0 0) ≡ shapeOf mode
@@ -96,10 +107,10 @@ module _ (mode : ℕ) (shape : Shape) (e : shape ≡ shapeOf mode) where
   count-bound = record { fits = omega (arith, good-shape .fit) }
 
   module _ (row column place : ℕ) (cells : List ℕ) (p : place ≡ placeOf shape row column) where
-    pub read-law : (byte : ℕ) → byte ≡ getD cells place 0 → byte % shape .colours ≡ cellOf mode row column cells
+    pub read-law : (byte cell : ℕ) → byte ≡ getD cells place 0 → cell ≡ byte % shape .colours → cell ≡ cellOf mode row column cells
     unfolding cellOf
-    read-law byte q = rw (q, p, e)
+    read-law byte cell q r = r ∙ rw (q, p, e)
 
-    pub write-law : (byte : ℕ) (after : List ℕ) → after ≡ set cells place (byte % shape .colours) → after ≡ withCell mode row column byte cells
+    pub write-law : (byte cell : ℕ) (after : List ℕ) → cell ≡ byte % shape .colours → after ≡ set cells place cell → after ≡ withCell mode row column byte cells
     unfolding withCell
-    write-law byte after q = q ∙ rw (p, e)
+    write-law byte cell after r q = q ∙ rw (r, p, e)

@@ -3,9 +3,10 @@
 pub mod part;
 
 ghost use mathlib.Core.Path.{_≡_};
+ghost use Prim.Native.Nat.{_%_};
 ghost use Prim.Native.Nat.{_<_, _≤_};
 ghost use Rattle.cells.specs.Modes.{isMode, rowOf, shapeOf, countOf};
-ghost use Rattle.cells.specs.Cells.{Whole, placeOf, cellOf, withCell, filled, reduced, scrolled};
+ghost use Rattle.cells.specs.Cells.{Colours, Whole, placeOf, cellOf, withCell, filled, reduced, scrolled};
 
 pub struct Shape {
     pub columns: u16,
@@ -108,13 +109,26 @@ pub fn place(shape: Shape, row: u16, column: u16) -> usize
     row as usize * shape.columns as usize + column as usize
 }
 
+// A byte modulo some colours; by the two and four of most modes without a division.
+fn colour(byte: u8, colours: u16) -> u8
+    requires { ⌜ Colours colours ⌝ }
+    ensures { λ r. ⌜ r ≡ byte % colours ⌝ }
+{
+    if colours == 2 {
+        return byte % 2;
+    }
+    if colours == 4 {
+        return byte % 4;
+    }
+    (byte as u16 % colours) as u8
+}
+
 // A cell of a mode, modulo the mode's colours.
 pub fn read(screen: &[u8], mode: u8, row: u16, column: u16) -> u8
     ensures { λ r. ⌜ r ≡ cellOf mode row column (now (screen .entry)) ⌝ }
 {
     let s = shape_of(mode);
-    let cell = base::byte_at(screen, place(s, row, column)) as u16;
-    (cell % s.colours) as u8
+    colour(base::byte_at(screen, place(s, row, column)), s.colours)
 }
 
 // A cell of a mode becomes a byte modulo the mode's colours.
@@ -122,8 +136,7 @@ pub fn write(screen: &mut [u8], mode: u8, row: u16, column: u16, byte: u8)
     ensures { λ _. ⌜ now (screen .exit) ≡ withCell mode row column byte (now (screen .entry)) ⌝ }
 {
     let s = shape_of(mode);
-    let cell = byte as u16;
-    base::set_byte(screen, place(s, row, column), (cell % s.colours) as u8);
+    base::set_byte(screen, place(s, row, column), colour(byte, s.colours));
 }
 
 // All cells of a mode become one byte.

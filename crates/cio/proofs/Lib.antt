@@ -1,4 +1,5 @@
-pub mod Plans
-pub mod Transfers
+pub mod Errands
 pub mod Starts
+pub mod Through
+pub mod Outs
 pub mod Decided

@@ -1,5 +1,3 @@
-pub mod Plan
-pub mod Transfer
-pub mod Handlers
 pub mod Start
 pub mod Move
+pub mod Lends

@@ -1,7 +1,6 @@
-// CIO, the device-independent rules: what a ready message needs, its start, which does all but transfers, and its move of one
-// character. Each takes the message or the running request, the port's own control blocks, half of the area and room, and the
-// device of the request's own group; nothing else is in its reach.
+// CIO, the device-independent rules: the start of a request, which does all but transfers, and its move of one character. Each is
+// given the request, the port's own half of the area or the block of its IOCB, and the devices' numbers and buffers, which it lends
+// on to `devices`; nothing else is in its reach, and it knows no device.
+pub mod errand;
 pub mod moves;
-pub mod plan;
 pub mod start;
-pub mod transfer;

@@ -27,8 +27,6 @@ use Rattle.console.proofs.state.Console.with_keyboard.Kinds as with-key
 use Rattle.console.proofs.state.Console.with_keyboard.Reads as with-keyboard-reads
 use Rattle.console.proofs.state.Console.press.Kinds as press-kinds
 use Rattle.console.proofs.state.Console.press.Reads as press-reads
-use Rattle.console.proofs.state.Console.fits.Kinds as fits-kinds
-use Rattle.console.proofs.state.Console.fits.Reads as fits-reads
 use Rattle.console.proofs.fresh.Kinds as fresh-kinds
 use Rattle.console.proofs.fresh.Reads as fresh-reads
 use Rattle.console.proofs.open.Kinds as open-kinds
@@ -105,12 +103,6 @@ press-decides κs a z z′ ws ws′ p e e′ = (e ∙ sym e′, refl)
 
 pub press-allows : Allows 0 press-kinds.ps press-kinds.r press-reads.Pre press-reads.Learnt
 press-allows κs a p = (_, (_, refl))
-
-pub fits-decides : Decides 0 fits-kinds.ps fits-kinds.r fits-reads.Pre fits-reads.Learnt
-fits-decides κs a z z′ ws ws′ p e e′ = (e ∙ sym e′, refl)
-
-pub fits-allows : Allows 0 fits-kinds.ps fits-kinds.r fits-reads.Pre fits-reads.Learnt
-fits-allows κs a p = (_, (_, refl))
 
 pub fresh-decides : Decides 1 fresh-kinds.ps fresh-kinds.r fresh-reads.Pre fresh-reads.Learnt
 fresh-decides κs a z z′ ws ws′ p e e′ = let q = e ∙ sym e′ in (ap (λ (w : ConsoleGroup). w .console) q, ap (λ (w : ConsoleGroup). (w .screen, tt)) q)

@@ -4,10 +4,12 @@ use Prim.Native.Nat.{ℕ}
 use mathlib.Core.List.{List}
 use lib.Dec.{eqb}
 use Rattle.base.specs.Choice.{pick, choose}
+use Rattle.handler.specs.declared.Asked.{Asked}
 use Rattle.handler.specs.declared.Got.{Got}
 use Rattle.handler.specs.declared.Done.{Done}
 use Rattle.handler.specs.declared.Done.the-variants.{Success, Refused}
 use Rattle.handler.specs.Answer.{Answer, answer, seen}
+use Rattle.handler.specs.Acts.{Acts}
 use Rattle.keys.specs.Keyboard as keys
 use Rattle.keys.specs.declared.keyboard.Keyboard.{Keyboard}
 use Rattle.editor.specs.Text.{Text, text}
@@ -86,3 +88,15 @@ unfoldable pub writeOf : Handler → ℕ → ConsoleGroup → Answer Done Consol
 writeOf E byte g = writeE byte g
 writeOf S byte g = writeS byte g
 writeOf K byte g = answer (Refused 0x87) g
+
+-- the handler as CIO calls it. CLOSE changes nothing; "GET STATUS $0D, SPECIAL above .. On an open one: $01 or $84."
+abbrev pub consoleActs : Handler → Asked → Acts ConsoleGroup
+consoleActs h asked = record {
+  opens = openOf h (asked .aux1) (asked .aux2);
+  closes = λ g. g;
+  prepares = prepareOf h;
+  reads = readOf h;
+  writes = writeOf h;
+  statuses = λ g. Success;
+  specials = λ g. answer (Refused 0x84) g;
+}

@@ -5,7 +5,6 @@ use graphics::Graphics;
 use keys::keyboard::Keyboard;
 ghost use mathlib.Core.Path.{_≡_};
 ghost use Rattle.console.specs.Group.{freshConsole, editorOf, withEditor, withMode, graphicsOf, withGraphics, withKeyboard, pressedOf};
-ghost use Rattle.console.specs.Fit.{cursorFits, readingFits, keysFit, fitOf};
 
 pub struct Console {
     pub mode: u8,
@@ -101,24 +100,6 @@ impl Console {
         next
     }
 
-    // Nothing that is stored is damaged.
-    pub fn fits(self) -> bool
-        ensures { λ r. ⌜ r ≡ fitOf self ⌝ }
-    {
-        let reading = self.reading;
-        let keyboard = self.keyboard;
-        if cells::is_mode(self.mode) {
-            if cursor_fits(self.mode, self.row, self.column) {
-                if reading_fits(reading) {
-                    return keys_fit(keyboard);
-                }
-                return false;
-            }
-            return false;
-        }
-        false
-    }
-
     // A key pressed.
     pub fn press(self, code: u8) -> Console
         ensures { λ r. ⌜ r ≡ pressedOf code self ⌝ }
@@ -126,49 +107,4 @@ impl Console {
         let keyboard = self.keyboard;
         self.with_keyboard(keyboard.press(code))
     }
-}
-
-// The cursor is in its mode.
-fn cursor_fits(mode: u8, row: u16, column: u16) -> bool
-    ensures { λ r. ⌜ r ≡ cursorFits mode row column ⌝ }
-{
-    if mode == 0 {
-        if 24 <= row {
-            return false;
-        }
-        if column < 2 {
-            return false;
-        }
-        return column <= 39;
-    }
-    let shape = cells::shape_of(mode);
-    if shape.rows < row {
-        return false;
-    }
-    column < shape.columns
-}
-
-fn reading_fits(reading: ReadColumn) -> bool
-    ensures { λ r. ⌜ r ≡ readingFits reading ⌝ }
-{
-    match reading {
-        ReadColumn::Dropped => true,
-        ReadColumn::At(column) => {
-            if column < 2 {
-                return false;
-            }
-            column <= 40
-        }
-    }
-}
-
-fn keys_fit(keyboard: Keyboard) -> bool
-    ensures { λ r. ⌜ r ≡ keysFit keyboard ⌝ }
-{
-    let lock = keyboard.lock;
-    let inverse = keyboard.inverse;
-    if 2 < lock {
-        return false;
-    }
-    inverse <= 1
 }

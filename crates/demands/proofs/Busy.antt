@@ -1,158 +1,142 @@
--- Not vacuous: one computed run of the five calls with both ports busy and a key, in which the answers 0 and 4 to 8 all come; every
--- call of it, and one answered 1 and one answered 2 besides, can be made as the functions' own claims tell.
+-- Not vacuous: one computed run of the functions, in calls that their own claims tell of. A fresh start over zeros gives 0; a
+-- call that is lent no paper is answered 2, and one of port 2 is answered 1; then both ports are busy and a key is pressed, and
+-- the answers 0 and 4 to 8 all come. It meets every premise, so the demands speak of it.
 -- Assumes nothing.
 use mathlib.Core.Path.{_≡_, refl, sym, _∙_, ap, subst}
-use mathlib.Core.List.{List, [], _∷_, _++_}
-use Prim.Native.Nat.{ℕ}
+use mathlib.Core.List.{[]}
+use Prim.Native.Nat.{ℕ, _*_}
 use native.Mathlib.Omega.{arith}
-use lib.ListN.{replicate}
-use Rattle.keys.specs.Table as keys
-use Rattle.keys.specs.Translation as keys-to
-use Rattle.keys.specs.Keyboard as keyboard
-use Rattle.printer.specs.Printer as printer
-use Rattle.console.specs.Handlers.{openE, openOf, prepareE, prepareOf, readE, readK, readOf, writeE, writeOf}
-use Rattle.blocks.specs.Opening.{deviceOf, numberOf, namedOf, specificationOf, offersOf}
-use Rattle.wire.specs.Messages.{goodField, senseOf, badStatus, messageOf}
-use Rattle.wire.specs.Replies.{bytesAt, fetchStatus, fetchReply}
-use Rattle.cio.specs.Plan.{commandOf, wayOf, areaPlan, transferPlan, blockPlan, callPlan, planOf}
-use Rattle.cio.specs.Start.{loadedOf, loadStatus, openingOf, transferOf, workOf}
-use Rattle.cio.specs.Transfer.{onwardOf, recordOf, gotCharacter, gotOf, sentByte, sentRecord, sentNext, sentOf}
-use Rattle.cio.specs.Move as moves
-use Rattle.alone.specs.Alone.{loaded}
+use lib.ListN.{replicate, length-replicate}
+use Rattle.blocks.specs.Opening.{areaLength}
+use Rattle.layout.specs.Places.{stateLength}
+use Rattle.layout.specs.Stick.{freshStick}
+use Rattle.calls.specs.Stick.{screenLength, paperLength}
+use Rattle.calls.specs.Calls.{freshLent}
+use Rattle.calls.specs.Bytes.{Buffers, buffers, stickBy, lentBy}
+use Rattle.calls.specs.Parts.{Lengths}
 use Rattle.serial.specs.Machine.{port-0, port-1}
-use Rattle.stick.specs.Stick.{lent, Outcome}
-use Rattle.stick.specs.Calls.{takeOf, tickOf}
-use Rattle.rules.proofs.Answers.{take-answers, tick-answers}
-use Rattle.serial.specs.Core.{Phase, gathering, Quiet, phaseAt, Call, take, tick, give, press}
+use Rattle.serial.specs.Core.{Phase, gathering, Quiet, View, phaseAt}
 use Rattle.serial.specs.Calls.{coreOf}
-use Rattle.serial.specs.Run.{State, after, begin}
+use Rattle.serial.specs.Run.{State, OkCalls, Begun, after, begin}
 use Rattle.serial.specs.Demand3.{Finished, wholeOf, serial}
 use Rattle.serial.proofs.Runs.{reached-first}
 use Rattle.serial.proofs.Follows.{run-is, answers-is}
 use Rattle.serial.proofs.Tested.{answers}
-use Rattle.demands.specs.Spells.{nothingYet, feed, fedOf}
-use Rattle.demands.specs.Real.{startErrand, startPlan, moveBy, real}
-use Rattle.demands.specs.Sticks.{World, seen, sticks}
-use Rattle.demands.specs.Told.{worldAfter, takeLeaves, tickLeaves, any-take, any-tick, not-lent, lent-on, Aside, CodeRun, above, aside}
-use Rattle.demands.proofs.Linked.{fresh-sound, follows, demand3}
-use Rattle.demands.proofs.Told.{same-world, aside-same}
-use Rattle.demands.proofs.Made.{take-call, tick-call, can-run}
-use Rattle.demands.proofs.Plugged.{plugged, plugged-started, plugged-begins, first, ok-by, says, calls, opens}
+use Rattle.machine.specs.Spells.{nothingYet}
+use Rattle.machine.specs.Real.{real}
+use Rattle.machine.specs.Sticks.{seen}
+use Rattle.machine.proofs.Plugged.{zeros, first, ok-by}
+use Rattle.machine.proofs.Busy.{busyCalls, busyNumbers, machineEnd, busyGiven, machine-answers, machine-used, machine-0, machine-1, machine-given}
+use Rattle.demands.specs.Bytes.{standsFor, bytes, SoundBuffers}
+use Rattle.demands.specs.Told.{lends, leaves, FreshCall, any-fresh, any-take, any-tick, not-lent, lent-on, Aside, RunByC, above, aside}
+use Rattle.demands.specs.Demands.{Linked}
+use Rattle.demands.proofs.Bytes.{lent-lengths, bytes-follow, always-undamaged, started-stands}
+use Rattle.demands.proofs.Told.{exact}
+use Rattle.demands.proofs.Made.{fresh-call, take-call, tick-call, can-run}
+use Rattle.demands.proofs.Run.{after-fresh, run-begins, two-same, aside-same}
+use Rattle.demands.proofs.Demands.{demands}
 
--- both ports have P on block 0, and port 1 has K on block 1
-abbrev pub before : List (Call real)
-before = opens port-0 0x50 0 8 ++ opens port-1 0x50 0 8 ++ opens port-1 0x4B 1 4
+abbrev pub zeroBytes : Buffers
+zeroBytes = buffers (replicate stateLength 0) (zeros .area) (zeros .screen) (zeros .paper)
 
--- port 0 prints two characters; meanwhile a key is pressed, port 1 reads it, and its own print waits
-abbrev pub busy : List (Call real)
-busy =
-    says port-0 (calls 0 0x0B 0 2 0) ++ (tick port-0 ∷ take port-0 1 ∷ give port-0 ∷ tick port-1 ∷ press 0x3F ∷ [])
-    ++ says port-1 (calls 1 0x07 0 0 0) ++ (tick port-1 ∷ press 0x15 ∷ tick port-0 ∷ tick port-1 ∷ replicate 7 (give port-1))
-    ++ says port-1 (calls 0 0x0B 0 1 0) ++ (tick port-1 ∷ tick port-0 ∷ tick port-1 ∷ tick port-1 ∷ replicate 7 (give port-1))
-    ++ replicate 7 (give port-0)
+zeros-fitting : Lengths zeroBytes
+zeros-fitting = record {
+  long = length-replicate {A = ℕ} stateLength 0;
+  halves = length-replicate {A = ℕ} (2 * areaLength) 0;
+  whole = record { all = length-replicate {A = ℕ} screenLength 0 };
+  sheet = length-replicate {A = ℕ} paperLength 0;
+}
 
-machine-answers : answers real (coreOf real) (before ++ busy) first ≡
-    replicate 96 0
-    ++ replicate 12 0 ++ (0 ∷ 4 ∷ 5 ∷ 7 ∷ 0 ∷ [])
-    ++ replicate 12 0 ++ (0 ∷ 6 ∷ 0 ∷ 0 ∷ replicate 7 0)
-    ++ replicate 12 0 ++ (8 ∷ 0 ∷ 0 ∷ 0 ∷ replicate 7 0)
-    ++ replicate 7 0
-unfolding after feed fedOf goodField senseOf badStatus messageOf startErrand startPlan moveBy keys.keys keys-to.entryOf keys-to.answerOf keys-to.translateOf keyboard.obeyed keyboard.struckBy keyboard.getOf printer.putOf openE openOf prepareE prepareOf readE readK readOf writeE writeOf deviceOf numberOf namedOf specificationOf offersOf bytesAt fetchStatus fetchReply moves.getOf moves.putOf moves.goOf commandOf wayOf areaPlan transferPlan blockPlan callPlan planOf loadedOf loadStatus openingOf transferOf workOf onwardOf recordOf gotCharacter gotOf sentByte sentRecord sentNext sentOf loaded
-machine-answers = refl
-
-abbrev all : List (Call real)
-all = before ++ busy
-
-pub busy-answers : answers real sticks all plugged ≡
-    replicate 96 0
-    ++ replicate 12 0 ++ (0 ∷ 4 ∷ 5 ∷ 7 ∷ 0 ∷ [])
-    ++ replicate 12 0 ++ (0 ∷ 6 ∷ 0 ∷ 0 ∷ replicate 7 0)
-    ++ replicate 12 0 ++ (8 ∷ 0 ∷ 0 ∷ 0 ∷ replicate 7 0)
-    ++ replicate 7 0
-busy-answers = answers-is real sticks follows all plugged (reached-first real sticks plugged plugged-begins) (ok-by all tt) ∙ machine-answers
-
--- two characters and one on the paper, both ports gathering
-abbrev machineEnd : State real (coreOf real)
-machineEnd = after real (coreOf real) all (begin real (coreOf real) first)
-
-abbrev pub busyEnd : State real sticks
-busyEnd = after real sticks all (begin real sticks plugged)
-
-end-is : record { world = seen (busyEnd .world); seen = busyEnd .seen } ≡ machineEnd
-end-is = run-is real sticks follows plugged plugged-begins all (ok-by all tt)
-
-machine-used : machineEnd .world .devs .printer .used ≡ 3
-unfolding after feed fedOf goodField senseOf badStatus messageOf startErrand startPlan moveBy keys.keys keys-to.entryOf keys-to.answerOf keys-to.translateOf keyboard.obeyed keyboard.struckBy keyboard.getOf printer.putOf openE openOf prepareE prepareOf readE readK readOf writeE writeOf deviceOf numberOf namedOf specificationOf offersOf bytesAt fetchStatus fetchReply moves.getOf moves.putOf moves.goOf commandOf wayOf areaPlan transferPlan blockPlan callPlan planOf loadedOf loadStatus openingOf transferOf workOf onwardOf recordOf gotCharacter gotOf sentByte sentRecord sentNext sentOf loaded
-machine-used = refl
-
-machine-0 : phaseAt real port-0 (machineEnd .world) ≡ gathering nothingYet
-unfolding after feed fedOf goodField senseOf badStatus messageOf startErrand startPlan moveBy keys.keys keys-to.entryOf keys-to.answerOf keys-to.translateOf keyboard.obeyed keyboard.struckBy keyboard.getOf printer.putOf openE openOf prepareE prepareOf readE readK readOf writeE writeOf deviceOf numberOf namedOf specificationOf offersOf bytesAt fetchStatus fetchReply moves.getOf moves.putOf moves.goOf commandOf wayOf areaPlan transferPlan blockPlan callPlan planOf loadedOf loadStatus openingOf transferOf workOf onwardOf recordOf gotCharacter gotOf sentByte sentRecord sentNext sentOf loaded
-machine-0 = refl
-
-machine-1 : phaseAt real port-1 (machineEnd .world) ≡ gathering nothingYet
-unfolding after feed fedOf goodField senseOf badStatus messageOf startErrand startPlan moveBy keys.keys keys-to.entryOf keys-to.answerOf keys-to.translateOf keyboard.obeyed keyboard.struckBy keyboard.getOf printer.putOf openE openOf prepareE prepareOf readE readK readOf writeE writeOf deviceOf numberOf namedOf specificationOf offersOf bytesAt fetchStatus fetchReply moves.getOf moves.putOf moves.goOf commandOf wayOf areaPlan transferPlan blockPlan callPlan planOf loadedOf loadStatus openingOf transferOf workOf onwardOf recordOf gotCharacter gotOf sentByte sentRecord sentNext sentOf loaded
-machine-1 = refl
-
-machine-given : machineEnd .seen .port .first .given ≡
-    0x91 ∷ 1 ∷ 0 ∷ 1 ∷ 0x90 ∷ 4 ∷ 0 ∷ 1 ∷ 0 ∷ 0 ∷ 0 ∷ 0x91 ∷ 1 ∷ 0 ∷ 1 ∷ 0x90 ∷ 4 ∷ 0 ∷ 1 ∷ 0 ∷ 0 ∷ 0 ∷
-    0x90 ∷ 4 ∷ 0 ∷ 1 ∷ 0 ∷ 0 ∷ 0x41 ∷ 0x90 ∷ 4 ∷ 0 ∷ 1 ∷ 1 ∷ 0 ∷ 0 ∷ []
-unfolding after feed fedOf goodField senseOf badStatus messageOf startErrand startPlan moveBy keys.keys keys-to.entryOf keys-to.answerOf keys-to.translateOf keyboard.obeyed keyboard.struckBy keyboard.getOf printer.putOf openE openOf prepareE prepareOf readE readK readOf writeE writeOf deviceOf numberOf namedOf specificationOf offersOf bytesAt fetchStatus fetchReply moves.getOf moves.putOf moves.goOf commandOf wayOf areaPlan transferPlan blockPlan callPlan planOf loadedOf loadStatus openingOf transferOf workOf onwardOf recordOf gotCharacter gotOf sentByte sentRecord sentNext sentOf loaded
-machine-given = refl
-
-pub busy-used : busyEnd .world .stick .printer .used ≡ 3
-busy-used = ap (λ (s : State real (coreOf real)). s .world .devs .printer .used) end-is ∙ machine-used
-
--- port 1 was given the key's character, and its own counts
-pub busy-given : busyEnd .seen .port .first .given ≡
-    0x91 ∷ 1 ∷ 0 ∷ 1 ∷ 0x90 ∷ 4 ∷ 0 ∷ 1 ∷ 0 ∷ 0 ∷ 0 ∷ 0x91 ∷ 1 ∷ 0 ∷ 1 ∷ 0x90 ∷ 4 ∷ 0 ∷ 1 ∷ 0 ∷ 0 ∷ 0 ∷
-    0x90 ∷ 4 ∷ 0 ∷ 1 ∷ 0 ∷ 0 ∷ 0x41 ∷ 0x90 ∷ 4 ∷ 0 ∷ 1 ∷ 1 ∷ 0 ∷ 0 ∷ []
-busy-given = ap (λ (s : State real (coreOf real)). s .seen .port .first .given) end-is ∙ machine-given
+busy-ok : OkCalls real busyCalls
+busy-ok = ok-by busyCalls tt
 
 quiet : (x : Phase real) → x ≡ gathering nothingYet → Quiet real x
 quiet x e = subst (Quiet real) (sym e) tt
 
--- "every started request finished", so demand 3 speaks of it
-pub busy-finished : Finished real sticks busyEnd
-busy-finished = (
-  quiet _ (ap (λ (s : State real (coreOf real)). phaseAt real port-0 (s .world)) end-is ∙ machine-0),
-  quiet _ (ap (λ (s : State real (coreOf real)). phaseAt real port-1 (s .world)) end-is ∙ machine-1),
-)
+-- a call of port 2
+above-one : (b : Buffers) → SoundBuffers b → leaves (take-call b 2 0) .number ≡ 1
+above-one b g =
+    exact (any-take (take-call b 2 0)) .stick (g .lengths) (g .stands) .first .above .1
+    (record { sound = record { lengths = lent-lengths b (g .lengths); fits = g .fits }; above = omega arith })
 
-pub busy-serial : wholeOf real sticks busyEnd ≡ serial real (busyEnd .seen .log) (wholeOf real sticks (begin real sticks plugged))
-busy-serial = demand3 .as-serial plugged plugged-begins all (ok-by all tt) busy-finished
+-- a call that is lent no paper, and what is there after it: the three buffers as it left them, and the paper that was not lent
+abbrev torn : Buffers → Buffers
+torn b = buffers (b .state) (b .area) (b .screen) []
 
--- a call of port 2, and one that is lent no paper
-plugged-above : takeOf (plugged .stick) (plugged .buffers) 2 0 .answer ≡ 1
-plugged-above = take-answers (plugged .stick) (plugged .buffers) 2 0 .first .above .1 (record { sound = fresh-sound plugged plugged-started; above = omega arith })
+abbrev mended : Buffers → Buffers
+mended b = let e = leaves (tick-call (torn b) 0) .buffers in buffers (e .state) (e .area) (e .screen) (b .paper)
 
-abbrev torn : World
-torn = record { stick = plugged .stick; buffers = lent (plugged .buffers .rooms) (plugged .buffers .area) (plugged .buffers .screen) [] }
+torn-two : (b : Buffers) → leaves (tick-call (torn b) 0) .number ≡ 2
+torn-two b = exact (any-tick (tick-call (torn b) 0)) .lengths .1 (λ f. let e : 0 ≡ paperLength = f .sheet in omega arith)
 
-torn-lengths : tickOf (torn .stick) (torn .buffers) 0 .answer ≡ 2
-torn-lengths = tick-answers (torn .stick) (torn .buffers) 0 .first .lengths .1 (λ l. let e : _≡_ {A = ℕ} 0 4096 = l .paper in omega arith)
+torn-aside : (b : Buffers) → Aside b (torn b) (leaves (tick-call (torn b) 0) .buffers) (mended b)
+torn-aside b = record { state = lent-on refl; area = lent-on refl; screen = lent-on refl; paper = not-lent }
 
-same-answer : (o x : Outcome) (n : ℕ) → o ≡ x → x .answer ≡ n → o .answer ≡ n
-same-answer o x n e q = ap (λ (y : Outcome). y .answer) e ∙ q
+mended-same : (b : Buffers) → mended b ≡ b
+mended-same b = aside-same (two-same (any-tick (tick-call (torn b) 0)) (torn-two b)) (torn-aside b)
 
--- what is there after it: the state and three buffers as it left them, and the paper that was not lent
-abbrev mended : World
-mended = let e = worldAfter (tickLeaves (tick-call torn 0)) in record { stick = e .stick; buffers = lent (e .buffers .rooms) (e .buffers .area) (e .buffers .screen) (plugged .buffers .paper) }
+-- such a fresh start
+pub can-start : (o : FreshCall) × (lends o ≡ zeroBytes)
+can-start = (fresh-call zeroBytes, refl)
 
-torn-two : tickLeaves (tick-call torn 0) .answer ≡ 2
-torn-two = same-answer (tickLeaves (tick-call torn 0)) _ 2 (tick-call torn 0 .told) torn-lengths
+module _ (o : FreshCall) (e : lends o ≡ zeroBytes) where
+  pub start-gives-0 : leaves o .number ≡ 0
+  start-gives-0 = exact (any-fresh o) .done .1 (subst Lengths (sym e) zeros-fitting)
 
-torn-aside : Aside plugged torn (worldAfter (tickLeaves (tick-call torn 0))) mended
-torn-aside = record { stick = lent-on refl; rooms = lent-on refl; area = lent-on refl; screen = lent-on refl; paper = not-lent }
+  abbrev start : Buffers
+  start = leaves o .buffers
 
-mended-same : mended ≡ plugged
-mended-same = aside-same (same-world 2 (λ z. omega arith) (any-tick (tick-call torn 0)) torn-two) torn-aside
+  start-begins : Begun real bytes start
+  start-begins = run-begins o start-gives-0
 
-mended-above : takeOf (mended .stick) (mended .buffers) 2 0 .answer ≡ 1
-mended-above = subst (λ (w : World). takeOf (w .stick) (w .buffers) 2 0 .answer ≡ 1) (sym mended-same) plugged-above
+  start-seen : seen (standsFor start) ≡ first
+  start-seen =
+      sym (ap seen (started-stands start (after-fresh o start-gives-0)))
+      ∙ ap (λ (b : Buffers). seen (record { stick = freshStick; buffers = freshLent (lentBy b) })) e
 
--- the same run as calls of the functions, one answered 2 and one answered 1 before it
-pub busy-run : (w : World) × CodeRun plugged all w
-busy-run =
-    let a = take-call mended 2 0 in
-    let r = can-run all (worldAfter (takeLeaves a)) in
-    (r .0, aside (any-tick (tick-call torn 0)) torn-two torn-aside (above (any-take a) (same-answer (takeLeaves a) _ 1 (a .told) mended-above) (r .1)))
+  -- "each is given exactly then"
+  pub busy-answers : answers real bytes busyCalls start ≡ busyNumbers
+  busy-answers =
+      answers-is real bytes bytes-follow busyCalls start (reached-first real bytes start start-begins) busy-ok
+      ∙ ap (λ (v : View real). answers real (coreOf real) busyCalls v) start-seen ∙ machine-answers
+
+  abbrev pub busyEnd : State real bytes
+  busyEnd = after real bytes busyCalls (begin real bytes start)
+
+  end-is : record { world = seen (standsFor (busyEnd .world)); seen = busyEnd .seen } ≡ machineEnd
+  end-is =
+      run-is real bytes bytes-follow start start-begins busyCalls busy-ok
+      ∙ ap (λ (v : View real). after real (coreOf real) busyCalls (begin real (coreOf real) v)) start-seen
+
+  -- two characters and one on the paper
+  pub busy-used : stickBy (busyEnd .world) .printer .used ≡ 3
+  busy-used = ap (λ (s : State real (coreOf real)). s .world .devs .printer .used) end-is ∙ machine-used
+
+  -- port 1 was given the key's character, and its own counts
+  pub busy-given : busyEnd .seen .port .first .given ≡ busyGiven
+  busy-given = ap (λ (s : State real (coreOf real)). s .seen .port .first .given) end-is ∙ machine-given
+
+  -- "every started request finished", so demand 3 speaks of it
+  pub busy-finished : Finished real bytes busyEnd
+  busy-finished = (
+    quiet _ (ap (λ (s : State real (coreOf real)). phaseAt real port-0 (s .world)) end-is ∙ machine-0),
+    quiet _ (ap (λ (s : State real (coreOf real)). phaseAt real port-1 (s .world)) end-is ∙ machine-1),
+  )
+
+  pub busy-serial : wholeOf real bytes busyEnd ≡ serial real (busyEnd .seen .log) (wholeOf real bytes (begin real bytes start))
+  busy-serial = demands .demand3 .as-serial start start-begins busyCalls busy-ok busy-finished
+
+  -- the same run as calls of the functions, one answered 2 and one answered 1 before it
+  mended-sound : SoundBuffers (mended start)
+  mended-sound =
+      subst SoundBuffers (sym (mended-same start)) (always-undamaged start (reached-first real bytes start start-begins))
+
+  pub busy-run : (b : Buffers) × RunByC start busyCalls b
+  busy-run =
+      let a = take-call (mended start) 2 0 in
+      let r = can-run busyCalls (leaves a .buffers) in
+      let rest = above (any-take a) (above-one (mended start) mended-sound) (r .1) in
+      (r .0, aside (any-tick (tick-call (torn start) 0)) (torn-two start) (torn-aside start) rest)
+
+  pub busy-linked : (b : Buffers) → RunByC start busyCalls b → Linked o busyCalls b
+  busy-linked b r = demands .link o start-gives-0 busyCalls busy-ok b r

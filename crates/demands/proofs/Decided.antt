@@ -1,6 +1,6 @@
--- Each promise decides, and allows an outcome: of every public function of every crate, gathered, crate by crate from the bottom
--- up. (The functions of the two programs promise nothing; the functions that ask something of their caller are listed in
--- docs/DECISIONS.md.)
+-- Each promise decides, and allows an outcome: of the public functions up to those that C calls, gathered from each crate's own
+-- file `proofs/Decided.antt`, from the bottom up. (The functions of the program `play` promise nothing; the functions that ask
+-- something of their caller are listed in docs/DECISIONS.md.)
 -- Assumes nothing.
 use mathlib.Core.List.{List}
 use Prim.Native.Nat.{ℕ}
@@ -12,8 +12,8 @@ use Rattle.base.proofs.byte_at.Reads as base-byte-at-reads
 use Rattle.base.proofs.set_byte.Kinds as base-set-byte-kinds
 use Rattle.base.proofs.set_byte.Reads as base-set-byte-reads
 use Rattle.base.proofs.Decided as base
-use Rattle.keys.proofs.table.key.Kinds as keys-key-kinds
-use Rattle.keys.proofs.table.key.Reads as keys-key-reads
+use Rattle.keys.proofs.table.entry.Kinds as keys-entry-kinds
+use Rattle.keys.proofs.table.entry.Reads as keys-entry-reads
 use Rattle.keys.proofs.translate.Kinds as keys-translate-kinds
 use Rattle.keys.proofs.translate.Reads as keys-translate-reads
 use Rattle.keys.proofs.keyboard.Keyboard.fresh.Kinds as keys-fresh-kinds
@@ -99,8 +99,6 @@ use Rattle.console.proofs.state.Console.with_keyboard.Kinds as console-with-key
 use Rattle.console.proofs.state.Console.with_keyboard.Reads as console-with-keyboard-reads
 use Rattle.console.proofs.state.Console.press.Kinds as console-press-kinds
 use Rattle.console.proofs.state.Console.press.Reads as console-press-reads
-use Rattle.console.proofs.state.Console.fits.Kinds as console-fits-kinds
-use Rattle.console.proofs.state.Console.fits.Reads as console-fits-reads
 use Rattle.console.proofs.fresh.Kinds as console-fresh-kinds
 use Rattle.console.proofs.fresh.Reads as console-fresh-reads
 use Rattle.console.proofs.open.Kinds as console-open-kinds
@@ -132,16 +130,6 @@ use Rattle.console.proofs.each.write_screen.Reads as console-write-screen-reads
 use Rattle.console.proofs.Decided as console
 use Rattle.blocks.proofs.Table.closed.Kinds as blocks-table-closed-kinds
 use Rattle.blocks.proofs.Table.closed.Reads as blocks-table-closed-reads
-use Rattle.blocks.proofs.Table.block.Kinds as blocks-table-block-kinds
-use Rattle.blocks.proofs.Table.block.Reads as blocks-table-block-reads
-use Rattle.blocks.proofs.Table.with_block.Kinds as blocks-table-with-block-kinds
-use Rattle.blocks.proofs.Table.with_block.Reads as blocks-table-with-block-reads
-use Rattle.blocks.proofs.Table.close.Kinds as blocks-table-close-kinds
-use Rattle.blocks.proofs.Table.close.Reads as blocks-table-close-reads
-use Rattle.blocks.proofs.Table.open.Kinds as blocks-table-open-kinds
-use Rattle.blocks.proofs.Table.open.Reads as blocks-table-open-reads
-use Rattle.blocks.proofs.Table.made.Kinds as blocks-table-made-kinds
-use Rattle.blocks.proofs.Table.made.Reads as blocks-table-made-reads
 use Rattle.blocks.proofs.Gather.fresh.Kinds as blocks-gather-fresh-kinds
 use Rattle.blocks.proofs.Gather.fresh.Reads as blocks-gather-fresh-reads
 use Rattle.blocks.proofs.Port.fresh.Kinds as blocks-port-fresh-kinds
@@ -156,8 +144,6 @@ use Rattle.blocks.proofs.aux1_writes.Kinds as blocks-aux1-writes-kinds
 use Rattle.blocks.proofs.aux1_writes.Reads as blocks-aux1-writes-reads
 use Rattle.blocks.proofs.offers.Kinds as blocks-offers-kinds
 use Rattle.blocks.proofs.offers.Reads as blocks-offers-reads
-use Rattle.blocks.proofs.made.Kinds as blocks-made-kinds
-use Rattle.blocks.proofs.made.Reads as blocks-made-reads
 use Rattle.blocks.proofs.Decided as blocks
 use Rattle.wire.proofs.field_is_good.Kinds as wire-field-is-good-kinds
 use Rattle.wire.proofs.field_is_good.Reads as wire-field-is-good-reads
@@ -180,129 +166,133 @@ use Rattle.wire.proofs.gather_fits.Reads as wire-gather-fits-reads
 use Rattle.wire.proofs.reply_fits.Kinds as wire-reply-fits-kinds
 use Rattle.wire.proofs.reply_fits.Reads as wire-reply-fits-reads
 use Rattle.wire.proofs.Decided as wire
-use Rattle.cio.proofs.plan.command_of.Kinds as cio-command-of-kinds
-use Rattle.cio.proofs.plan.command_of.Reads as cio-command-of-reads
-use Rattle.cio.proofs.plan.way_of.Kinds as cio-way-of-kinds
-use Rattle.cio.proofs.plan.way_of.Reads as cio-way-of-reads
-use Rattle.cio.proofs.plan.kind_of.Kinds as cio-kind-of-kinds
-use Rattle.cio.proofs.plan.kind_of.Reads as cio-kind-of-reads
-use Rattle.cio.proofs.plan.planned.Kinds as cio-planned-kinds
-use Rattle.cio.proofs.plan.planned.Reads as cio-planned-reads
-use Rattle.cio.proofs.plan.open_plan.Kinds as cio-open-plan-kinds
-use Rattle.cio.proofs.plan.open_plan.Reads as cio-open-plan-reads
-use Rattle.cio.proofs.plan.area_plan.Kinds as cio-area-plan-kinds
-use Rattle.cio.proofs.plan.area_plan.Reads as cio-area-plan-reads
-use Rattle.cio.proofs.plan.transfer_plan.Kinds as cio-transfer-plan-kinds
-use Rattle.cio.proofs.plan.transfer_plan.Reads as cio-transfer-plan-reads
-use Rattle.cio.proofs.plan.block_plan.Kinds as cio-block-plan-kinds
-use Rattle.cio.proofs.plan.block_plan.Reads as cio-block-plan-reads
-use Rattle.cio.proofs.plan.call_plan.Kinds as cio-call-plan-kinds
-use Rattle.cio.proofs.plan.call_plan.Reads as cio-call-plan-reads
-use Rattle.cio.proofs.plan.plan_of.Kinds as cio-plan-of-kinds
-use Rattle.cio.proofs.plan.plan_of.Reads as cio-plan-of-reads
-use Rattle.cio.proofs.plan.group_of.Kinds as cio-group-of-kinds
-use Rattle.cio.proofs.plan.group_of.Reads as cio-group-of-reads
-use Rattle.cio.proofs.transfer.further.Kinds as cio-further-kinds
-use Rattle.cio.proofs.transfer.further.Reads as cio-further-reads
-use Rattle.cio.proofs.transfer.ended.Kinds as cio-ended-kinds
-use Rattle.cio.proofs.transfer.ended.Reads as cio-ended-reads
-use Rattle.cio.proofs.transfer.onward.Kinds as cio-onward-kinds
-use Rattle.cio.proofs.transfer.onward.Reads as cio-onward-reads
-use Rattle.cio.proofs.transfer.record_next.Kinds as cio-record-next-kinds
-use Rattle.cio.proofs.transfer.record_next.Reads as cio-record-next-reads
-use Rattle.cio.proofs.transfer.after_get.Kinds as cio-after-get-kinds
-use Rattle.cio.proofs.transfer.after_get.Reads as cio-after-get-reads
-use Rattle.cio.proofs.transfer.byte_to_send.Kinds as cio-byte-to-send-kinds
-use Rattle.cio.proofs.transfer.byte_to_send.Reads as cio-byte-to-send-reads
-use Rattle.cio.proofs.transfer.after_put.Kinds as cio-after-put-kinds
-use Rattle.cio.proofs.transfer.after_put.Reads as cio-after-put-reads
-use Rattle.cio.proofs.transfer.land.Kinds as cio-land-kinds
-use Rattle.cio.proofs.transfer.land.Reads as cio-land-reads
-use Rattle.cio.proofs.start.load.Kinds as cio-load-kinds
-use Rattle.cio.proofs.start.load.Reads as cio-load-reads
-use Rattle.cio.proofs.start.run_errand.Kinds as cio-run-errand-kinds
-use Rattle.cio.proofs.start.run_errand.Reads as cio-run-errand-reads
-use Rattle.cio.proofs.start.over.Kinds as cio-over-kinds
-use Rattle.cio.proofs.start.over.Reads as cio-over-reads
-use Rattle.cio.proofs.start.settle.Kinds as cio-settle-kinds
-use Rattle.cio.proofs.start.settle.Reads as cio-settle-reads
-use Rattle.cio.proofs.start.prepared.Kinds as cio-prepared-kinds
-use Rattle.cio.proofs.start.prepared.Reads as cio-prepared-reads
-use Rattle.cio.proofs.start.open_console.Kinds as cio-open-console-kinds
-use Rattle.cio.proofs.start.open_console.Reads as cio-open-console-reads
-use Rattle.cio.proofs.start.transfer_console.Kinds as cio-transfer-console-kinds
-use Rattle.cio.proofs.start.transfer_console.Reads as cio-transfer-console-reads
-use Rattle.cio.proofs.start.start_console.Kinds as cio-start-console-kinds
-use Rattle.cio.proofs.start.start_console.Reads as cio-start-console-reads
-use Rattle.cio.proofs.start.open_printer.Kinds as cio-open-printer-kinds
-use Rattle.cio.proofs.start.open_printer.Reads as cio-open-printer-reads
-use Rattle.cio.proofs.start.start_printer.Kinds as cio-start-printer-kinds
-use Rattle.cio.proofs.start.start_printer.Reads as cio-start-printer-reads
-use Rattle.cio.proofs.moves.get_console.Kinds as cio-get-console-kinds
-use Rattle.cio.proofs.moves.get_console.Reads as cio-get-console-reads
-use Rattle.cio.proofs.moves.put_console.Kinds as cio-put-console-kinds
-use Rattle.cio.proofs.moves.put_console.Reads as cio-put-console-reads
-use Rattle.cio.proofs.moves.move_console.Kinds as cio-move-console-kinds
-use Rattle.cio.proofs.moves.move_console.Reads as cio-move-console-reads
-use Rattle.cio.proofs.moves.get_printer.Kinds as cio-get-printer-kinds
-use Rattle.cio.proofs.moves.get_printer.Reads as cio-get-printer-reads
-use Rattle.cio.proofs.moves.put_printer.Kinds as cio-put-printer-kinds
-use Rattle.cio.proofs.moves.put_printer.Reads as cio-put-printer-reads
-use Rattle.cio.proofs.moves.move_printer.Kinds as cio-move-printer-kinds
-use Rattle.cio.proofs.moves.move_printer.Reads as cio-move-printer-reads
+use Rattle.reading.proofs.word.Kinds as reading-word-kinds
+use Rattle.reading.proofs.word.Reads as reading-word-reads
+use Rattle.reading.proofs.three.Kinds as reading-three-kinds
+use Rattle.reading.proofs.three.Reads as reading-three-reads
+use Rattle.reading.proofs.block.Kinds as reading-block-kinds
+use Rattle.reading.proofs.block.Reads as reading-block-reads
+use Rattle.reading.proofs.phase.Kinds as reading-phase-kinds
+use Rattle.reading.proofs.phase.Reads as reading-phase-reads
+use Rattle.reading.proofs.console.Kinds as reading-console-kinds
+use Rattle.reading.proofs.console.Reads as reading-console-reads
+use Rattle.reading.proofs.printer.Kinds as reading-printer-kinds
+use Rattle.reading.proofs.printer.Reads as reading-printer-reads
+use Rattle.reading.proofs.gather.Kinds as reading-gather-kinds
+use Rattle.reading.proofs.gather.Reads as reading-gather-reads
+use Rattle.reading.proofs.header.Kinds as reading-header-kinds
+use Rattle.reading.proofs.header.Reads as reading-header-reads
+use Rattle.reading.proofs.run.Kinds as reading-run-kinds
+use Rattle.reading.proofs.run.Reads as reading-run-reads
+use Rattle.reading.proofs.reply.Kinds as reading-reply-kinds
+use Rattle.reading.proofs.reply.Reads as reading-reply-reads
+use Rattle.reading.proofs.Decided as reading
+use Rattle.writing.proofs.block.Kinds as writing-block-kinds
+use Rattle.writing.proofs.block.Reads as writing-block-reads
+use Rattle.writing.proofs.phase.Kinds as writing-phase-kinds
+use Rattle.writing.proofs.phase.Reads as writing-phase-reads
+use Rattle.writing.proofs.port.Kinds as writing-port-kinds
+use Rattle.writing.proofs.port.Reads as writing-port-reads
+use Rattle.writing.proofs.console.Kinds as writing-console-kinds
+use Rattle.writing.proofs.console.Reads as writing-console-reads
+use Rattle.writing.proofs.printer.Kinds as writing-printer-kinds
+use Rattle.writing.proofs.printer.Reads as writing-printer-reads
+use Rattle.writing.proofs.Decided as writing
+use Rattle.ports.proofs.phase_of.Kinds as ports-phase-of-kinds
+use Rattle.ports.proofs.phase_of.Reads as ports-phase-of-reads
+use Rattle.ports.proofs.set_phase.Kinds as ports-set-phase-kinds
+use Rattle.ports.proofs.set_phase.Reads as ports-set-phase-reads
+use Rattle.ports.proofs.block_of.Kinds as ports-block-of-kinds
+use Rattle.ports.proofs.block_of.Reads as ports-block-of-reads
+use Rattle.ports.proofs.set_block.Kinds as ports-set-block-kinds
+use Rattle.ports.proofs.set_block.Reads as ports-set-block-reads
+use Rattle.ports.proofs.set_port.Kinds as ports-set-port-kinds
+use Rattle.ports.proofs.set_port.Reads as ports-set-port-reads
+use Rattle.ports.proofs.phase_number.Kinds as ports-phase-number-kinds
+use Rattle.ports.proofs.phase_number.Reads as ports-phase-number-reads
+use Rattle.ports.proofs.gather_of.Kinds as ports-gather-of-kinds
+use Rattle.ports.proofs.gather_of.Reads as ports-gather-of-reads
+use Rattle.ports.proofs.header_of.Kinds as ports-header-of-kinds
+use Rattle.ports.proofs.header_of.Reads as ports-header-of-reads
+use Rattle.ports.proofs.run_of.Kinds as ports-run-of-kinds
+use Rattle.ports.proofs.run_of.Reads as ports-run-of-reads
+use Rattle.ports.proofs.reply_of.Kinds as ports-reply-of-kinds
+use Rattle.ports.proofs.reply_of.Reads as ports-reply-of-reads
+use Rattle.ports.proofs.Decided as ports
+use Rattle.transfer.proofs.further.Kinds as transfer-further-kinds
+use Rattle.transfer.proofs.further.Reads as transfer-further-reads
+use Rattle.transfer.proofs.ended.Kinds as transfer-ended-kinds
+use Rattle.transfer.proofs.ended.Reads as transfer-ended-reads
+use Rattle.transfer.proofs.onward.Kinds as transfer-onward-kinds
+use Rattle.transfer.proofs.onward.Reads as transfer-onward-reads
+use Rattle.transfer.proofs.record_next.Kinds as transfer-record-next-kinds
+use Rattle.transfer.proofs.record_next.Reads as transfer-record-next-reads
+use Rattle.transfer.proofs.after_get.Kinds as transfer-after-get-kinds
+use Rattle.transfer.proofs.after_get.Reads as transfer-after-get-reads
+use Rattle.transfer.proofs.byte_to_send.Kinds as transfer-byte-to-send-kinds
+use Rattle.transfer.proofs.byte_to_send.Reads as transfer-byte-to-send-reads
+use Rattle.transfer.proofs.after_put.Kinds as transfer-after-put-kinds
+use Rattle.transfer.proofs.after_put.Reads as transfer-after-put-reads
+use Rattle.transfer.proofs.land.Kinds as transfer-land-kinds
+use Rattle.transfer.proofs.land.Reads as transfer-land-reads
+use Rattle.transfer.proofs.Decided as transfer
+use Rattle.devices.proofs.owner_of.Kinds as devices-owner-of-kinds
+use Rattle.devices.proofs.owner_of.Reads as devices-owner-of-reads
+use Rattle.devices.proofs.group_of.Kinds as devices-group-of-kinds
+use Rattle.devices.proofs.group_of.Reads as devices-group-of-reads
+use Rattle.devices.proofs.held_by.Kinds as devices-held-by-kinds
+use Rattle.devices.proofs.held_by.Reads as devices-held-by-reads
+use Rattle.devices.proofs.clashes.Kinds as devices-clashes-kinds
+use Rattle.devices.proofs.clashes.Reads as devices-clashes-reads
+use Rattle.devices.proofs.open.Kinds as devices-open-kinds
+use Rattle.devices.proofs.open.Reads as devices-open-reads
+use Rattle.devices.proofs.close.Kinds as devices-close-kinds
+use Rattle.devices.proofs.close.Reads as devices-close-reads
+use Rattle.devices.proofs.prepare.Kinds as devices-prepare-kinds
+use Rattle.devices.proofs.prepare.Reads as devices-prepare-reads
+use Rattle.devices.proofs.read.Kinds as devices-read-kinds
+use Rattle.devices.proofs.read.Reads as devices-read-reads
+use Rattle.devices.proofs.write.Kinds as devices-write-kinds
+use Rattle.devices.proofs.write.Reads as devices-write-reads
+use Rattle.devices.proofs.status.Kinds as devices-status-kinds
+use Rattle.devices.proofs.status.Reads as devices-status-reads
+use Rattle.devices.proofs.special.Kinds as devices-special-kinds
+use Rattle.devices.proofs.special.Reads as devices-special-reads
+use Rattle.devices.proofs.fresh.fresh.Kinds as devices-fresh-kinds
+use Rattle.devices.proofs.fresh.fresh.Reads as devices-fresh-reads
+use Rattle.devices.proofs.numbers.console_of.Kinds as devices-console-of-kinds
+use Rattle.devices.proofs.numbers.console_of.Reads as devices-console-of-reads
+use Rattle.devices.proofs.numbers.set_console.Kinds as devices-set-console-kinds
+use Rattle.devices.proofs.numbers.set_console.Reads as devices-set-console-reads
+use Rattle.devices.proofs.numbers.printer_of.Kinds as devices-printer-of-kinds
+use Rattle.devices.proofs.numbers.printer_of.Reads as devices-printer-of-reads
+use Rattle.devices.proofs.numbers.set_printer.Kinds as devices-set-printer-kinds
+use Rattle.devices.proofs.numbers.set_printer.Reads as devices-set-printer-reads
+use Rattle.devices.proofs.Decided as devices
+use Rattle.judge.proofs.undamaged.Kinds as judge-undamaged-kinds
+use Rattle.judge.proofs.undamaged.Reads as judge-undamaged-reads
+use Rattle.judge.proofs.Decided as judge
+use Rattle.plan.proofs.iocb_of.Kinds as plan-iocb-of-kinds
+use Rattle.plan.proofs.iocb_of.Reads as plan-iocb-of-reads
+use Rattle.plan.proofs.plan_in.Kinds as plan-plan-in-kinds
+use Rattle.plan.proofs.plan_in.Reads as plan-plan-in-reads
+use Rattle.plan.proofs.group_needed.Kinds as plan-group-needed-kinds
+use Rattle.plan.proofs.group_needed.Reads as plan-group-needed-reads
+use Rattle.plan.proofs.Decided as plan
+use Rattle.cio.proofs.errand.load.Kinds as cio-load-kinds
+use Rattle.cio.proofs.errand.load.Reads as cio-load-reads
+use Rattle.cio.proofs.errand.run_errand.Kinds as cio-run-errand-kinds
+use Rattle.cio.proofs.errand.run_errand.Reads as cio-run-errand-reads
+use Rattle.cio.proofs.moves.on_block.Kinds as cio-on-block-kinds
+use Rattle.cio.proofs.moves.on_block.Reads as cio-on-block-reads
+use Rattle.cio.proofs.moves.advance.Kinds as cio-advance-kinds
+use Rattle.cio.proofs.moves.advance.Reads as cio-advance-reads
+use Rattle.cio.proofs.start.start.Kinds as cio-start-kinds
+use Rattle.cio.proofs.start.start.Reads as cio-start-reads
 use Rattle.cio.proofs.Decided as cio
-use Rattle.state.proofs.fits.letter_of.Kinds as state-letter-of-kinds
-use Rattle.state.proofs.fits.letter_of.Reads as state-letter-of-reads
-use Rattle.state.proofs.fits.group_of.Kinds as state-group-of-kinds
-use Rattle.state.proofs.fits.group_of.Reads as state-group-of-reads
-use Rattle.state.proofs.fits.held_by.Kinds as state-held-by-kinds
-use Rattle.state.proofs.fits.held_by.Reads as state-held-by-reads
-use Rattle.state.proofs.fits.clashes.Kinds as state-clashes-kinds
-use Rattle.state.proofs.fits.clashes.Reads as state-clashes-reads
-use Rattle.state.proofs.fits.direction_fits.Kinds as state-direction-fits-kinds
-use Rattle.state.proofs.fits.direction_fits.Reads as state-direction-fits-reads
-use Rattle.state.proofs.fits.block_fits.Kinds as state-block-fits-kinds
-use Rattle.state.proofs.fits.block_fits.Reads as state-block-fits-reads
-use Rattle.state.proofs.fits.mode_fits.Kinds as state-mode-fits-kinds
-use Rattle.state.proofs.fits.mode_fits.Reads as state-mode-fits-reads
-use Rattle.state.proofs.fits.buffer_fits.Kinds as state-buffer-fits-kinds
-use Rattle.state.proofs.fits.buffer_fits.Reads as state-buffer-fits-reads
-use Rattle.state.proofs.fits.kind_fits.Kinds as state-kind-fits-kinds
-use Rattle.state.proofs.fits.kind_fits.Reads as state-kind-fits-reads
-use Rattle.state.proofs.fits.run_fits.Kinds as state-run-fits-kinds
-use Rattle.state.proofs.fits.run_fits.Reads as state-run-fits-reads
-use Rattle.state.proofs.fits.phase_fits.Kinds as state-phase-fits-kinds
-use Rattle.state.proofs.fits.phase_fits.Reads as state-phase-fits-reads
-use Rattle.state.proofs.fits.port_fits.Kinds as state-port-fits-kinds
-use Rattle.state.proofs.fits.port_fits.Reads as state-port-fits-reads
-use Rattle.state.proofs.fits.stick_fits.Kinds as state-stick-fits-kinds
-use Rattle.state.proofs.fits.stick_fits.Reads as state-stick-fits-reads
-use Rattle.state.proofs.Decided as state
-use Rattle.port.proofs.in_phase.Kinds as port-in-phase-kinds
-use Rattle.port.proofs.in_phase.Reads as port-in-phase-reads
-use Rattle.port.proofs.start.Kinds as port-start-kinds
-use Rattle.port.proofs.start.Reads as port-start-reads
-use Rattle.port.proofs.move_console.Kinds as port-move-console-kinds
-use Rattle.port.proofs.move_console.Reads as port-move-console-reads
-use Rattle.port.proofs.advance.Kinds as port-advance-kinds
-use Rattle.port.proofs.advance.Reads as port-advance-reads
-use Rattle.port.proofs.tick_ready.Kinds as port-tick-ready-kinds
-use Rattle.port.proofs.tick_ready.Reads as port-tick-ready-reads
-use Rattle.port.proofs.tick_running.Kinds as port-tick-running-kinds
-use Rattle.port.proofs.tick_running.Reads as port-tick-running-reads
-use Rattle.port.proofs.tick.Kinds as port-tick-kinds
-use Rattle.port.proofs.tick.Reads as port-tick-reads
-use Rattle.port.proofs.take.Kinds as port-take-kinds
-use Rattle.port.proofs.take.Reads as port-take-reads
-use Rattle.port.proofs.give.Kinds as port-give-kinds
-use Rattle.port.proofs.give.Reads as port-give-reads
-use Rattle.port.proofs.Decided as port
-use Rattle.stick.proofs.guard.lengths_fit.Kinds as stick-lengths-fit-kinds
-use Rattle.stick.proofs.guard.lengths_fit.Reads as stick-lengths-fit-reads
-use Rattle.stick.proofs.guard.refusal.Kinds as stick-refusal-kinds
-use Rattle.stick.proofs.guard.refusal.Reads as stick-refusal-reads
-use Rattle.stick.proofs.fresh_stick.Kinds as stick-fresh-stick-kinds
-use Rattle.stick.proofs.fresh_stick.Reads as stick-fresh-stick-reads
+use Rattle.ticks.proofs.tick_at.Kinds as ticks-tick-at-kinds
+use Rattle.ticks.proofs.tick_at.Reads as ticks-tick-at-reads
+use Rattle.ticks.proofs.Decided as ticks
 use Rattle.stick.proofs.fresh.Kinds as stick-fresh-kinds
 use Rattle.stick.proofs.fresh.Reads as stick-fresh-reads
 use Rattle.stick.proofs.take.Kinds as stick-take-kinds
@@ -313,43 +303,15 @@ use Rattle.stick.proofs.give.Kinds as stick-give-kinds
 use Rattle.stick.proofs.give.Reads as stick-give-reads
 use Rattle.stick.proofs.press.Kinds as stick-press-kinds
 use Rattle.stick.proofs.press.Reads as stick-press-reads
+use Rattle.stick.proofs.served.take_at.Kinds as stick-take-at-kinds
+use Rattle.stick.proofs.served.take_at.Reads as stick-take-at-reads
+use Rattle.stick.proofs.served.give_at.Kinds as stick-give-at-kinds
+use Rattle.stick.proofs.served.give_at.Reads as stick-give-at-reads
+use Rattle.stick.proofs.served.press_at.Kinds as stick-press-at-kinds
+use Rattle.stick.proofs.served.press_at.Reads as stick-press-at-reads
+use Rattle.stick.proofs.started.fresh_all.Kinds as stick-fresh-all-kinds
+use Rattle.stick.proofs.started.fresh_all.Reads as stick-fresh-all-reads
 use Rattle.stick.proofs.Decided as stick
-use Rattle.layout.proofs.judge.head_stands.Kinds as layout-head-stands-kinds
-use Rattle.layout.proofs.judge.head_stands.Reads as layout-head-stands-reads
-use Rattle.layout.proofs.read.stick.Kinds as layout-read-kinds
-use Rattle.layout.proofs.read.stick.Reads as layout-read-reads
-use Rattle.layout.proofs.write.stick.Kinds as layout-write-kinds
-use Rattle.layout.proofs.write.stick.Reads as layout-write-reads
-use Rattle.layout.proofs.fits.head_fits.Kinds as layout-head-fits-kinds
-use Rattle.layout.proofs.fits.head_fits.Reads as layout-head-fits-reads
-use Rattle.layout.proofs.read.block.Kinds as layout-read-block-kinds
-use Rattle.layout.proofs.read.block.Reads as layout-read-block-reads
-use Rattle.layout.proofs.read.phase.Kinds as layout-read-phase-kinds
-use Rattle.layout.proofs.read.phase.Reads as layout-read-phase-reads
-use Rattle.layout.proofs.read.console.Kinds as layout-read-console-kinds
-use Rattle.layout.proofs.read.console.Reads as layout-read-console-reads
-use Rattle.layout.proofs.read.printer.Kinds as layout-read-printer-kinds
-use Rattle.layout.proofs.read.printer.Reads as layout-read-printer-reads
-use Rattle.layout.proofs.write.phase.Kinds as layout-write-phase-kinds
-use Rattle.layout.proofs.write.phase.Reads as layout-write-phase-reads
-use Rattle.layout.proofs.write.phase_1.Kinds as layout-write-phase-1-kinds
-use Rattle.layout.proofs.write.phase_1.Reads as layout-write-phase-1-reads
-use Rattle.layout.proofs.write.console_in.Kinds as layout-write-console-kinds
-use Rattle.layout.proofs.write.console_in.Reads as layout-write-console-reads
-use Rattle.layout.proofs.write.printer_in.Kinds as layout-write-printer-kinds
-use Rattle.layout.proofs.write.printer_in.Reads as layout-write-printer-reads
-use Rattle.layout.proofs.Decided as layout
-use Rattle.lent.proofs.fresh.Kinds as lent-fresh-kinds
-use Rattle.lent.proofs.fresh.Reads as lent-fresh-reads
-use Rattle.lent.proofs.take.Kinds as lent-take-kinds
-use Rattle.lent.proofs.take.Reads as lent-take-reads
-use Rattle.lent.proofs.tick.Kinds as lent-tick-kinds
-use Rattle.lent.proofs.tick.Reads as lent-tick-reads
-use Rattle.lent.proofs.give.Kinds as lent-give-kinds
-use Rattle.lent.proofs.give.Reads as lent-give-reads
-use Rattle.lent.proofs.press.Kinds as lent-press-kinds
-use Rattle.lent.proofs.press.Reads as lent-press-reads
-use Rattle.lent.proofs.Decided as lent
 use Rattle.firmware.proofs.fixlomand_translate.Kinds as firmware-translate-kinds
 use Rattle.firmware.proofs.fixlomand_translate.Reads as firmware-translate-reads
 use Rattle.firmware.proofs.fixlomand_fresh.Kinds as firmware-fresh-kinds
@@ -375,7 +337,7 @@ base-decided =
 
 pub keys-decided : Promises
 keys-decided =
-    promise 0 keys-key-kinds.ps keys-key-kinds.r keys-key-reads.Pre keys-key-reads.Learnt keys.key-decides keys.key-allows (
+    promise 0 keys-entry-kinds.ps keys-entry-kinds.r keys-entry-reads.Pre keys-entry-reads.Learnt keys.entry-decides keys.entry-allows (
     promise 0 keys-translate-kinds.ps keys-translate-kinds.r keys-translate-reads.Pre keys-translate-reads.Learnt keys.translate-decides keys.translate-allows (
     promise 0 keys-fresh-kinds.ps keys-fresh-kinds.r keys-fresh-reads.Pre keys-fresh-reads.Learnt keys.fresh-decides keys.fresh-allows (
     promise 0 keys-press-kinds.ps keys-press-kinds.r keys-press-reads.Pre keys-press-reads.Learnt keys.press-decides keys.press-allows (
@@ -431,7 +393,6 @@ console-decided =
     promise 0 console-with-graphics-kinds.ps console-with-graphics-kinds.r console-with-graphics-reads.Pre console-with-graphics-reads.Learnt console.with-graphics-decides console.with-graphics-allows (
     promise 0 console-with-keyboard-kinds.ps console-with-keyboard-kinds.r console-with-keyboard-reads.Pre console-with-keyboard-reads.Learnt console.with-keyboard-decides console.with-keyboard-allows (
     promise 0 console-press-kinds.ps console-press-kinds.r console-press-reads.Pre console-press-reads.Learnt console.press-decides console.press-allows (
-    promise 0 console-fits-kinds.ps console-fits-kinds.r console-fits-reads.Pre console-fits-reads.Learnt console.fits-decides console.fits-allows (
     promise 1 console-fresh-kinds.ps console-fresh-kinds.r console-fresh-reads.Pre console-fresh-reads.Learnt console.fresh-decides console.fresh-allows (
     promise 1 console-open-kinds.ps console-open-kinds.r console-open-reads.Pre console-open-reads.Learnt console.open-decides console.open-allows (
     promise 1 console-prepare-kinds.ps console-prepare-kinds.r console-prepare-reads.Pre console-prepare-reads.Learnt console.prepare-decides console.prepare-allows (
@@ -445,24 +406,18 @@ console-decided =
     promise 1 console-read-screen-kinds.ps console-read-screen-kinds.r console-read-screen-reads.Pre console-read-screen-reads.Learnt console.read-screen-decides console.read-screen-allows (
     promise 0 console-read-keyboard-kinds.ps console-read-keyboard-kinds.r console-read-keyboard-reads.Pre console-read-keyboard-reads.Learnt console.read-keyboard-decides console.read-keyboard-allows (
     promise 1 console-write-editor-kinds.ps console-write-editor-kinds.r console-write-editor-reads.Pre console-write-editor-reads.Learnt console.write-editor-decides console.write-editor-allows (
-    promise 1 console-write-screen-kinds.ps console-write-screen-kinds.r console-write-screen-reads.Pre console-write-screen-reads.Learnt console.write-screen-decides console.write-screen-allows printer-decided))))))))))))))))))))))
+    promise 1 console-write-screen-kinds.ps console-write-screen-kinds.r console-write-screen-reads.Pre console-write-screen-reads.Learnt console.write-screen-decides console.write-screen-allows printer-decided)))))))))))))))))))))
 
 pub blocks-decided : Promises
 blocks-decided =
     promise 0 blocks-table-closed-kinds.ps blocks-table-closed-kinds.r blocks-table-closed-reads.Pre blocks-table-closed-reads.Learnt blocks.table-closed-decides blocks.table-closed-allows (
-    promise 0 blocks-table-block-kinds.ps blocks-table-block-kinds.r blocks-table-block-reads.Pre blocks-table-block-reads.Learnt blocks.table-block-decides blocks.table-block-allows (
-    promise 0 blocks-table-with-block-kinds.ps blocks-table-with-block-kinds.r blocks-table-with-block-reads.Pre blocks-table-with-block-reads.Learnt blocks.table-with-block-decides blocks.table-with-block-allows (
-    promise 0 blocks-table-close-kinds.ps blocks-table-close-kinds.r blocks-table-close-reads.Pre blocks-table-close-reads.Learnt blocks.table-close-decides blocks.table-close-allows (
-    promise 0 blocks-table-open-kinds.ps blocks-table-open-kinds.r blocks-table-open-reads.Pre blocks-table-open-reads.Learnt blocks.table-open-decides blocks.table-open-allows (
-    promise 0 blocks-table-made-kinds.ps blocks-table-made-kinds.r blocks-table-made-reads.Pre blocks-table-made-reads.Learnt blocks.table-made-decides blocks.table-made-allows (
     promise 0 blocks-gather-fresh-kinds.ps blocks-gather-fresh-kinds.r blocks-gather-fresh-reads.Pre blocks-gather-fresh-reads.Learnt blocks.gather-fresh-decides blocks.gather-fresh-allows (
     promise 0 blocks-port-fresh-kinds.ps blocks-port-fresh-kinds.r blocks-port-fresh-reads.Pre blocks-port-fresh-reads.Learnt blocks.port-fresh-decides blocks.port-fresh-allows (
     promise 0 blocks-device-of-kinds.ps blocks-device-of-kinds.r blocks-device-of-reads.Pre blocks-device-of-reads.Learnt blocks.device-of-decides blocks.device-of-allows (
     promise 1 blocks-specification-at-kinds.ps blocks-specification-at-kinds.r blocks-specification-at-reads.Pre blocks-specification-at-reads.Learnt blocks.specification-at-decides blocks.specification-at-allows (
     promise 0 blocks-aux1-reads-kinds.ps blocks-aux1-reads-kinds.r blocks-aux1-reads-reads.Pre blocks-aux1-reads-reads.Learnt blocks.aux1-reads-decides blocks.aux1-reads-allows (
     promise 0 blocks-aux1-writes-kinds.ps blocks-aux1-writes-kinds.r blocks-aux1-writes-reads.Pre blocks-aux1-writes-reads.Learnt blocks.aux1-writes-decides blocks.aux1-writes-allows (
-    promise 0 blocks-offers-kinds.ps blocks-offers-kinds.r blocks-offers-reads.Pre blocks-offers-reads.Learnt blocks.offers-decides blocks.offers-allows (
-    promise 0 blocks-made-kinds.ps blocks-made-kinds.r blocks-made-reads.Pre blocks-made-reads.Learnt blocks.made-decides blocks.made-allows console-decided)))))))))))))
+    promise 0 blocks-offers-kinds.ps blocks-offers-kinds.r blocks-offers-reads.Pre blocks-offers-reads.Learnt blocks.offers-decides blocks.offers-allows console-decided)))))))
 
 pub wire-decided : Promises
 wire-decided =
@@ -477,105 +432,103 @@ wire-decided =
     promise 0 wire-gather-fits-kinds.ps wire-gather-fits-kinds.r wire-gather-fits-reads.Pre wire-gather-fits-reads.Learnt wire.gather-fits-decides wire.gather-fits-allows (
     promise 0 wire-reply-fits-kinds.ps wire-reply-fits-kinds.r wire-reply-fits-reads.Pre wire-reply-fits-reads.Learnt wire.reply-fits-decides wire.reply-fits-allows blocks-decided)))))))))
 
+pub reading-decided : Promises
+reading-decided =
+    promise 0 reading-word-kinds.ps reading-word-kinds.r reading-word-reads.Pre reading-word-reads.Learnt reading.word-decides reading.word-allows (
+    promise 0 reading-three-kinds.ps reading-three-kinds.r reading-three-reads.Pre reading-three-reads.Learnt reading.three-decides reading.three-allows (
+    promise 1 reading-block-kinds.ps reading-block-kinds.r reading-block-reads.Pre reading-block-reads.Learnt reading.block-decides reading.block-allows (
+    promise 1 reading-phase-kinds.ps reading-phase-kinds.r reading-phase-reads.Pre reading-phase-reads.Learnt reading.phase-decides reading.phase-allows (
+    promise 1 reading-console-kinds.ps reading-console-kinds.r reading-console-reads.Pre reading-console-reads.Learnt reading.console-decides reading.console-allows (
+    promise 1 reading-printer-kinds.ps reading-printer-kinds.r reading-printer-reads.Pre reading-printer-reads.Learnt reading.printer-decides reading.printer-allows (
+    promise 1 reading-gather-kinds.ps reading-gather-kinds.r reading-gather-reads.Pre reading-gather-reads.Learnt reading.gather-decides reading.gather-allows (
+    promise 1 reading-header-kinds.ps reading-header-kinds.r reading-header-reads.Pre reading-header-reads.Learnt reading.header-decides reading.header-allows (
+    promise 1 reading-run-kinds.ps reading-run-kinds.r reading-run-reads.Pre reading-run-reads.Learnt reading.run-decides reading.run-allows (
+    promise 1 reading-reply-kinds.ps reading-reply-kinds.r reading-reply-reads.Pre reading-reply-reads.Learnt reading.reply-decides reading.reply-allows wire-decided)))))))))
+
+pub writing-decided : Promises
+writing-decided =
+    promise 1 writing-block-kinds.ps writing-block-kinds.r writing-block-reads.Pre writing-block-reads.Learnt writing.block-decides writing.block-allows (
+    promise 1 writing-phase-kinds.ps writing-phase-kinds.r writing-phase-reads.Pre writing-phase-reads.Learnt writing.phase-decides writing.phase-allows (
+    promise 1 writing-port-kinds.ps writing-port-kinds.r writing-port-reads.Pre writing-port-reads.Learnt writing.port-decides writing.port-allows (
+    promise 1 writing-console-kinds.ps writing-console-kinds.r writing-console-reads.Pre writing-console-reads.Learnt writing.console-decides writing.console-allows (
+    promise 1 writing-printer-kinds.ps writing-printer-kinds.r writing-printer-reads.Pre writing-printer-reads.Learnt writing.printer-decides writing.printer-allows reading-decided))))
+
+pub ports-decided : Promises
+ports-decided =
+    promise 1 ports-phase-of-kinds.ps ports-phase-of-kinds.r ports-phase-of-reads.Pre ports-phase-of-reads.Learnt ports.phase-of-decides ports.phase-of-allows (
+    promise 1 ports-set-phase-kinds.ps ports-set-phase-kinds.r ports-set-phase-reads.Pre ports-set-phase-reads.Learnt ports.set-phase-decides ports.set-phase-allows (
+    promise 1 ports-block-of-kinds.ps ports-block-of-kinds.r ports-block-of-reads.Pre ports-block-of-reads.Learnt ports.block-of-decides ports.block-of-allows (
+    promise 1 ports-set-block-kinds.ps ports-set-block-kinds.r ports-set-block-reads.Pre ports-set-block-reads.Learnt ports.set-block-decides ports.set-block-allows (
+    promise 1 ports-set-port-kinds.ps ports-set-port-kinds.r ports-set-port-reads.Pre ports-set-port-reads.Learnt ports.set-port-decides ports.set-port-allows (
+    promise 1 ports-phase-number-kinds.ps ports-phase-number-kinds.r ports-phase-number-reads.Pre ports-phase-number-reads.Learnt ports.phase-number-decides ports.phase-number-allows (
+    promise 1 ports-gather-of-kinds.ps ports-gather-of-kinds.r ports-gather-of-reads.Pre ports-gather-of-reads.Learnt ports.gather-of-decides ports.gather-of-allows (
+    promise 1 ports-header-of-kinds.ps ports-header-of-kinds.r ports-header-of-reads.Pre ports-header-of-reads.Learnt ports.header-of-decides ports.header-of-allows (
+    promise 1 ports-run-of-kinds.ps ports-run-of-kinds.r ports-run-of-reads.Pre ports-run-of-reads.Learnt ports.run-of-decides ports.run-of-allows (
+    promise 1 ports-reply-of-kinds.ps ports-reply-of-kinds.r ports-reply-of-reads.Pre ports-reply-of-reads.Learnt ports.reply-of-decides ports.reply-of-allows writing-decided)))))))))
+
+pub transfer-decided : Promises
+transfer-decided =
+    promise 0 transfer-further-kinds.ps transfer-further-kinds.r transfer-further-reads.Pre transfer-further-reads.Learnt transfer.further-decides transfer.further-allows (
+    promise 0 transfer-ended-kinds.ps transfer-ended-kinds.r transfer-ended-reads.Pre transfer-ended-reads.Learnt transfer.ended-decides transfer.ended-allows (
+    promise 0 transfer-onward-kinds.ps transfer-onward-kinds.r transfer-onward-reads.Pre transfer-onward-reads.Learnt transfer.onward-decides transfer.onward-allows (
+    promise 0 transfer-record-next-kinds.ps transfer-record-next-kinds.r transfer-record-next-reads.Pre transfer-record-next-reads.Learnt transfer.record-next-decides transfer.record-next-allows (
+    promise 1 transfer-after-get-kinds.ps transfer-after-get-kinds.r transfer-after-get-reads.Pre transfer-after-get-reads.Learnt transfer.after-get-decides transfer.after-get-allows (
+    promise 1 transfer-byte-to-send-kinds.ps transfer-byte-to-send-kinds.r transfer-byte-to-send-reads.Pre transfer-byte-to-send-reads.Learnt transfer.byte-to-send-decides transfer.byte-to-send-allows (
+    promise 0 transfer-after-put-kinds.ps transfer-after-put-kinds.r transfer-after-put-reads.Pre transfer-after-put-reads.Learnt transfer.after-put-decides transfer.after-put-allows (
+    promise 1 transfer-land-kinds.ps transfer-land-kinds.r transfer-land-reads.Pre transfer-land-reads.Learnt transfer.land-decides transfer.land-allows ports-decided)))))))
+
+pub devices-decided : Promises
+devices-decided =
+    promise 0 devices-owner-of-kinds.ps devices-owner-of-kinds.r devices-owner-of-reads.Pre devices-owner-of-reads.Learnt devices.owner-of-decides devices.owner-of-allows (
+    promise 0 devices-group-of-kinds.ps devices-group-of-kinds.r devices-group-of-reads.Pre devices-group-of-reads.Learnt devices.group-of-decides devices.group-of-allows (
+    promise 0 devices-held-by-kinds.ps devices-held-by-kinds.r devices-held-by-reads.Pre devices-held-by-reads.Learnt devices.held-by-decides devices.held-by-allows (
+    promise 0 devices-clashes-kinds.ps devices-clashes-kinds.r devices-clashes-reads.Pre devices-clashes-reads.Learnt devices.clashes-decides devices.clashes-allows (
+    promise 3 devices-open-kinds.ps devices-open-kinds.r devices-open-reads.Pre devices-open-reads.Learnt devices.open-decides devices.open-allows (
+    promise 3 devices-close-kinds.ps devices-close-kinds.r devices-close-reads.Pre devices-close-reads.Learnt devices.close-decides devices.close-allows (
+    promise 3 devices-prepare-kinds.ps devices-prepare-kinds.r devices-prepare-reads.Pre devices-prepare-reads.Learnt devices.prepare-decides devices.prepare-allows (
+    promise 3 devices-read-kinds.ps devices-read-kinds.r devices-read-reads.Pre devices-read-reads.Learnt devices.read-decides devices.read-allows (
+    promise 3 devices-write-kinds.ps devices-write-kinds.r devices-write-reads.Pre devices-write-reads.Learnt devices.write-decides devices.write-allows (
+    promise 3 devices-status-kinds.ps devices-status-kinds.r devices-status-reads.Pre devices-status-reads.Learnt devices.status-decides devices.status-allows (
+    promise 3 devices-special-kinds.ps devices-special-kinds.r devices-special-reads.Pre devices-special-reads.Learnt devices.special-decides devices.special-allows (
+    promise 3 devices-fresh-kinds.ps devices-fresh-kinds.r devices-fresh-reads.Pre devices-fresh-reads.Learnt devices.fresh-decides devices.fresh-allows (
+    promise 1 devices-console-of-kinds.ps devices-console-of-kinds.r devices-console-of-reads.Pre devices-console-of-reads.Learnt devices.console-of-decides devices.console-of-allows (
+    promise 1 devices-set-console-kinds.ps devices-set-console-kinds.r devices-set-console-reads.Pre devices-set-console-reads.Learnt devices.set-console-decides devices.set-console-allows (
+    promise 1 devices-printer-of-kinds.ps devices-printer-of-kinds.r devices-printer-of-reads.Pre devices-printer-of-reads.Learnt devices.printer-of-decides devices.printer-of-allows (
+    promise 1 devices-set-printer-kinds.ps devices-set-printer-kinds.r devices-set-printer-reads.Pre devices-set-printer-reads.Learnt devices.set-printer-decides devices.set-printer-allows transfer-decided)))))))))))))))
+
+pub judge-decided : Promises
+judge-decided =
+    promise 4 judge-undamaged-kinds.ps judge-undamaged-kinds.r judge-undamaged-reads.Pre judge-undamaged-reads.Learnt judge.undamaged-decides judge.undamaged-allows devices-decided
+
+pub plan-decided : Promises
+plan-decided =
+    promise 0 plan-iocb-of-kinds.ps plan-iocb-of-kinds.r plan-iocb-of-reads.Pre plan-iocb-of-reads.Learnt plan.iocb-of-decides plan.iocb-of-allows (
+    promise 1 plan-plan-in-kinds.ps plan-plan-in-kinds.r plan-plan-in-reads.Pre plan-plan-in-reads.Learnt plan.plan-in-decides plan.plan-in-allows (
+    promise 0 plan-group-needed-kinds.ps plan-group-needed-kinds.r plan-group-needed-reads.Pre plan-group-needed-reads.Learnt plan.group-needed-decides plan.group-needed-allows judge-decided))
+
 pub cio-decided : Promises
 cio-decided =
-    promise 0 cio-command-of-kinds.ps cio-command-of-kinds.r cio-command-of-reads.Pre cio-command-of-reads.Learnt cio.command-of-decides cio.command-of-allows (
-    promise 0 cio-way-of-kinds.ps cio-way-of-kinds.r cio-way-of-reads.Pre cio-way-of-reads.Learnt cio.way-of-decides cio.way-of-allows (
-    promise 0 cio-kind-of-kinds.ps cio-kind-of-kinds.r cio-kind-of-reads.Pre cio-kind-of-reads.Learnt cio.kind-of-decides cio.kind-of-allows (
-    promise 0 cio-planned-kinds.ps cio-planned-kinds.r cio-planned-reads.Pre cio-planned-reads.Learnt cio.planned-decides cio.planned-allows (
-    promise 0 cio-open-plan-kinds.ps cio-open-plan-kinds.r cio-open-plan-reads.Pre cio-open-plan-reads.Learnt cio.open-plan-decides cio.open-plan-allows (
-    promise 0 cio-area-plan-kinds.ps cio-area-plan-kinds.r cio-area-plan-reads.Pre cio-area-plan-reads.Learnt cio.area-plan-decides cio.area-plan-allows (
-    promise 0 cio-transfer-plan-kinds.ps cio-transfer-plan-kinds.r cio-transfer-plan-reads.Pre cio-transfer-plan-reads.Learnt cio.transfer-plan-decides cio.transfer-plan-allows (
-    promise 1 cio-block-plan-kinds.ps cio-block-plan-kinds.r cio-block-plan-reads.Pre cio-block-plan-reads.Learnt cio.block-plan-decides cio.block-plan-allows (
-    promise 1 cio-call-plan-kinds.ps cio-call-plan-kinds.r cio-call-plan-reads.Pre cio-call-plan-reads.Learnt cio.call-plan-decides cio.call-plan-allows (
-    promise 1 cio-plan-of-kinds.ps cio-plan-of-kinds.r cio-plan-of-reads.Pre cio-plan-of-reads.Learnt cio.plan-of-decides cio.plan-of-allows (
-    promise 0 cio-group-of-kinds.ps cio-group-of-kinds.r cio-group-of-reads.Pre cio-group-of-reads.Learnt cio.group-of-decides cio.group-of-allows (
-    promise 0 cio-further-kinds.ps cio-further-kinds.r cio-further-reads.Pre cio-further-reads.Learnt cio.further-decides cio.further-allows (
-    promise 0 cio-ended-kinds.ps cio-ended-kinds.r cio-ended-reads.Pre cio-ended-reads.Learnt cio.ended-decides cio.ended-allows (
-    promise 0 cio-onward-kinds.ps cio-onward-kinds.r cio-onward-reads.Pre cio-onward-reads.Learnt cio.onward-decides cio.onward-allows (
-    promise 0 cio-record-next-kinds.ps cio-record-next-kinds.r cio-record-next-reads.Pre cio-record-next-reads.Learnt cio.record-next-decides cio.record-next-allows (
-    promise 1 cio-after-get-kinds.ps cio-after-get-kinds.r cio-after-get-reads.Pre cio-after-get-reads.Learnt cio.after-get-decides cio.after-get-allows (
-    promise 1 cio-byte-to-send-kinds.ps cio-byte-to-send-kinds.r cio-byte-to-send-reads.Pre cio-byte-to-send-reads.Learnt cio.byte-to-send-decides cio.byte-to-send-allows (
-    promise 0 cio-after-put-kinds.ps cio-after-put-kinds.r cio-after-put-reads.Pre cio-after-put-reads.Learnt cio.after-put-decides cio.after-put-allows (
-    promise 1 cio-land-kinds.ps cio-land-kinds.r cio-land-reads.Pre cio-land-reads.Learnt cio.land-decides cio.land-allows (
     promise 2 cio-load-kinds.ps cio-load-kinds.r cio-load-reads.Pre cio-load-reads.Learnt cio.load-decides cio.load-allows (
     promise 2 cio-run-errand-kinds.ps cio-run-errand-kinds.r cio-run-errand-reads.Pre cio-run-errand-reads.Learnt cio.run-errand-decides cio.run-errand-allows (
-    promise 1 cio-over-kinds.ps cio-over-kinds.r cio-over-reads.Pre cio-over-reads.Learnt cio.over-decides cio.over-allows (
-    promise 0 cio-settle-kinds.ps cio-settle-kinds.r cio-settle-reads.Pre cio-settle-reads.Learnt cio.settle-decides cio.settle-allows (
-    promise 1 cio-prepared-kinds.ps cio-prepared-kinds.r cio-prepared-reads.Pre cio-prepared-reads.Learnt cio.prepared-decides cio.prepared-allows (
-    promise 2 cio-open-console-kinds.ps cio-open-console-kinds.r cio-open-console-reads.Pre cio-open-console-reads.Learnt cio.open-console-decides cio.open-console-allows (
-    promise 2 cio-transfer-console-kinds.ps cio-transfer-console-kinds.r cio-transfer-console-reads.Pre cio-transfer-console-reads.Learnt cio.transfer-console-decides cio.transfer-console-allows (
-    promise 2 cio-start-console-kinds.ps cio-start-console-kinds.r cio-start-console-reads.Pre cio-start-console-reads.Learnt cio.start-console-decides cio.start-console-allows (
-    promise 2 cio-open-printer-kinds.ps cio-open-printer-kinds.r cio-open-printer-reads.Pre cio-open-printer-reads.Learnt cio.open-printer-decides cio.open-printer-allows (
-    promise 2 cio-start-printer-kinds.ps cio-start-printer-kinds.r cio-start-printer-reads.Pre cio-start-printer-reads.Learnt cio.start-printer-decides cio.start-printer-allows (
-    promise 3 cio-get-console-kinds.ps cio-get-console-kinds.r cio-get-console-reads.Pre cio-get-console-reads.Learnt cio.get-console-decides cio.get-console-allows (
-    promise 3 cio-put-console-kinds.ps cio-put-console-kinds.r cio-put-console-reads.Pre cio-put-console-reads.Learnt cio.put-console-decides cio.put-console-allows (
-    promise 3 cio-move-console-kinds.ps cio-move-console-kinds.r cio-move-console-reads.Pre cio-move-console-reads.Learnt cio.move-console-decides cio.move-console-allows (
-    promise 3 cio-get-printer-kinds.ps cio-get-printer-kinds.r cio-get-printer-reads.Pre cio-get-printer-reads.Learnt cio.get-printer-decides cio.get-printer-allows (
-    promise 3 cio-put-printer-kinds.ps cio-put-printer-kinds.r cio-put-printer-reads.Pre cio-put-printer-reads.Learnt cio.put-printer-decides cio.put-printer-allows (
-    promise 3 cio-move-printer-kinds.ps cio-move-printer-kinds.r cio-move-printer-reads.Pre cio-move-printer-reads.Learnt cio.move-printer-decides cio.move-printer-allows wire-decided))))))))))))))))))))))))))))))))))
+    promise 0 cio-on-block-kinds.ps cio-on-block-kinds.r cio-on-block-reads.Pre cio-on-block-reads.Learnt cio.on-block-decides cio.on-block-allows (
+    promise 4 cio-advance-kinds.ps cio-advance-kinds.r cio-advance-reads.Pre cio-advance-reads.Learnt cio.advance-decides cio.advance-allows (
+    promise 3 cio-start-kinds.ps cio-start-kinds.r cio-start-reads.Pre cio-start-reads.Learnt cio.start-decides cio.start-allows plan-decided))))
 
-pub state-decided : Promises
-state-decided =
-    promise 0 state-letter-of-kinds.ps state-letter-of-kinds.r state-letter-of-reads.Pre state-letter-of-reads.Learnt state.letter-of-decides state.letter-of-allows (
-    promise 0 state-group-of-kinds.ps state-group-of-kinds.r state-group-of-reads.Pre state-group-of-reads.Learnt state.group-of-decides state.group-of-allows (
-    promise 0 state-held-by-kinds.ps state-held-by-kinds.r state-held-by-reads.Pre state-held-by-reads.Learnt state.held-by-decides state.held-by-allows (
-    promise 0 state-clashes-kinds.ps state-clashes-kinds.r state-clashes-reads.Pre state-clashes-reads.Learnt state.clashes-decides state.clashes-allows (
-    promise 0 state-direction-fits-kinds.ps state-direction-fits-kinds.r state-direction-fits-reads.Pre state-direction-fits-reads.Learnt state.direction-fits-decides state.direction-fits-allows (
-    promise 0 state-block-fits-kinds.ps state-block-fits-kinds.r state-block-fits-reads.Pre state-block-fits-reads.Learnt state.block-fits-decides state.block-fits-allows (
-    promise 0 state-mode-fits-kinds.ps state-mode-fits-kinds.r state-mode-fits-reads.Pre state-mode-fits-reads.Learnt state.mode-fits-decides state.mode-fits-allows (
-    promise 0 state-buffer-fits-kinds.ps state-buffer-fits-kinds.r state-buffer-fits-reads.Pre state-buffer-fits-reads.Learnt state.buffer-fits-decides state.buffer-fits-allows (
-    promise 0 state-kind-fits-kinds.ps state-kind-fits-kinds.r state-kind-fits-reads.Pre state-kind-fits-reads.Learnt state.kind-fits-decides state.kind-fits-allows (
-    promise 0 state-run-fits-kinds.ps state-run-fits-kinds.r state-run-fits-reads.Pre state-run-fits-reads.Learnt state.run-fits-decides state.run-fits-allows (
-    promise 0 state-phase-fits-kinds.ps state-phase-fits-kinds.r state-phase-fits-reads.Pre state-phase-fits-reads.Learnt state.phase-fits-decides state.phase-fits-allows (
-    promise 0 state-port-fits-kinds.ps state-port-fits-kinds.r state-port-fits-reads.Pre state-port-fits-reads.Learnt state.port-fits-decides state.port-fits-allows (
-    promise 0 state-stick-fits-kinds.ps state-stick-fits-kinds.r state-stick-fits-reads.Pre state-stick-fits-reads.Learnt state.stick-fits-decides state.stick-fits-allows cio-decided))))))))))))
-
-pub port-decided : Promises
-port-decided =
-    promise 0 port-in-phase-kinds.ps port-in-phase-kinds.r port-in-phase-reads.Pre port-in-phase-reads.Learnt port.in-phase-decides port.in-phase-allows (
-    promise 4 port-start-kinds.ps port-start-kinds.r port-start-reads.Pre port-start-reads.Learnt port.start-decides port.start-allows (
-    promise 4 port-move-console-kinds.ps port-move-console-kinds.r port-move-console-reads.Pre port-move-console-reads.Learnt port.move-console-decides port.move-console-allows (
-    promise 4 port-advance-kinds.ps port-advance-kinds.r port-advance-reads.Pre port-advance-reads.Learnt port.advance-decides port.advance-allows (
-    promise 4 port-tick-ready-kinds.ps port-tick-ready-kinds.r port-tick-ready-reads.Pre port-tick-ready-reads.Learnt port.tick-ready-decides port.tick-ready-allows (
-    promise 4 port-tick-running-kinds.ps port-tick-running-kinds.r port-tick-running-reads.Pre port-tick-running-reads.Learnt port.tick-running-decides port.tick-running-allows (
-    promise 4 port-tick-kinds.ps port-tick-kinds.r port-tick-reads.Pre port-tick-reads.Learnt port.tick-decides port.tick-allows (
-    promise 1 port-take-kinds.ps port-take-kinds.r port-take-reads.Pre port-take-reads.Learnt port.take-decides port.take-allows (
-    promise 1 port-give-kinds.ps port-give-kinds.r port-give-reads.Pre port-give-reads.Learnt port.give-decides port.give-allows state-decided))))))))
+pub ticks-decided : Promises
+ticks-decided =
+    promise 4 ticks-tick-at-kinds.ps ticks-tick-at-kinds.r ticks-tick-at-reads.Pre ticks-tick-at-reads.Learnt ticks.tick-at-decides ticks.tick-at-allows cio-decided
 
 pub stick-decided : Promises
 stick-decided =
-    promise 4 stick-lengths-fit-kinds.ps stick-lengths-fit-kinds.r stick-lengths-fit-reads.Pre stick-lengths-fit-reads.Learnt stick.lengths-fit-decides stick.lengths-fit-allows (
-    promise 4 stick-refusal-kinds.ps stick-refusal-kinds.r stick-refusal-reads.Pre stick-refusal-reads.Learnt stick.refusal-decides stick.refusal-allows (
-    promise 0 stick-fresh-stick-kinds.ps stick-fresh-stick-kinds.r stick-fresh-stick-reads.Pre stick-fresh-stick-reads.Learnt stick.fresh-stick-decides stick.fresh-stick-allows (
     promise 4 stick-fresh-kinds.ps stick-fresh-kinds.r stick-fresh-reads.Pre stick-fresh-reads.Learnt stick.fresh-decides stick.fresh-allows (
     promise 4 stick-take-kinds.ps stick-take-kinds.r stick-take-reads.Pre stick-take-reads.Learnt stick.take-decides stick.take-allows (
     promise 4 stick-tick-kinds.ps stick-tick-kinds.r stick-tick-reads.Pre stick-tick-reads.Learnt stick.tick-decides stick.tick-allows (
     promise 4 stick-give-kinds.ps stick-give-kinds.r stick-give-reads.Pre stick-give-reads.Learnt stick.give-decides stick.give-allows (
-    promise 4 stick-press-kinds.ps stick-press-kinds.r stick-press-reads.Pre stick-press-reads.Learnt stick.press-decides stick.press-allows port-decided)))))))
-
-pub layout-decided : Promises
-layout-decided =
-    promise 1 layout-head-stands-kinds.ps layout-head-stands-kinds.r layout-head-stands-reads.Pre layout-head-stands-reads.Learnt layout.head-stands-decides layout.head-stands-allows (
-    promise 1 layout-read-kinds.ps layout-read-kinds.r layout-read-reads.Pre layout-read-reads.Learnt layout.read-decides layout.read-allows (
-    promise 1 layout-write-kinds.ps layout-write-kinds.r layout-write-reads.Pre layout-write-reads.Learnt layout.write-decides layout.write-allows (
-    promise 1 layout-head-fits-kinds.ps layout-head-fits-kinds.r layout-head-fits-reads.Pre layout-head-fits-reads.Learnt layout.head-fits-decides layout.head-fits-allows (
-    promise 1 layout-read-block-kinds.ps layout-read-block-kinds.r layout-read-block-reads.Pre layout-read-block-reads.Learnt layout.read-block-decides layout.read-block-allows (
-    promise 1 layout-read-phase-kinds.ps layout-read-phase-kinds.r layout-read-phase-reads.Pre layout-read-phase-reads.Learnt layout.read-phase-decides layout.read-phase-allows (
-    promise 1 layout-read-console-kinds.ps layout-read-console-kinds.r layout-read-console-reads.Pre layout-read-console-reads.Learnt layout.read-console-decides layout.read-console-allows (
-    promise 1 layout-read-printer-kinds.ps layout-read-printer-kinds.r layout-read-printer-reads.Pre layout-read-printer-reads.Learnt layout.read-printer-decides layout.read-printer-allows (
-    promise 1 layout-write-phase-kinds.ps layout-write-phase-kinds.r layout-write-phase-reads.Pre layout-write-phase-reads.Learnt layout.write-phase-decides layout.write-phase-allows (
-    promise 1 layout-write-phase-1-kinds.ps layout-write-phase-1-kinds.r layout-write-phase-1-reads.Pre layout-write-phase-1-reads.Learnt layout.write-phase-1-decides layout.write-phase-1-allows (
-    promise 1 layout-write-console-kinds.ps layout-write-console-kinds.r layout-write-console-reads.Pre layout-write-console-reads.Learnt layout.write-console-decides layout.write-console-allows (
-    promise 1 layout-write-printer-kinds.ps layout-write-printer-kinds.r layout-write-printer-reads.Pre layout-write-printer-reads.Learnt layout.write-printer-decides layout.write-printer-allows stick-decided)))))))))))
-
-pub lent-decided : Promises
-lent-decided =
-    promise 4 lent-fresh-kinds.ps lent-fresh-kinds.r lent-fresh-reads.Pre lent-fresh-reads.Learnt lent.fresh-decides lent.fresh-allows (
-    promise 4 lent-take-kinds.ps lent-take-kinds.r lent-take-reads.Pre lent-take-reads.Learnt lent.take-decides lent.take-allows (
-    promise 4 lent-tick-kinds.ps lent-tick-kinds.r lent-tick-reads.Pre lent-tick-reads.Learnt lent.tick-decides lent.tick-allows (
-    promise 4 lent-give-kinds.ps lent-give-kinds.r lent-give-reads.Pre lent-give-reads.Learnt lent.give-decides lent.give-allows (
-    promise 4 lent-press-kinds.ps lent-press-kinds.r lent-press-reads.Pre lent-press-reads.Learnt lent.press-decides lent.press-allows layout-decided))))
+    promise 4 stick-press-kinds.ps stick-press-kinds.r stick-press-reads.Pre stick-press-reads.Learnt stick.press-decides stick.press-allows (
+    promise 4 stick-take-at-kinds.ps stick-take-at-kinds.r stick-take-at-reads.Pre stick-take-at-reads.Learnt stick.take-at-decides stick.take-at-allows (
+    promise 4 stick-give-at-kinds.ps stick-give-at-kinds.r stick-give-at-reads.Pre stick-give-at-reads.Learnt stick.give-at-decides stick.give-at-allows (
+    promise 4 stick-press-at-kinds.ps stick-press-at-kinds.r stick-press-at-reads.Pre stick-press-at-reads.Learnt stick.press-at-decides stick.press-at-allows (
+    promise 4 stick-fresh-all-kinds.ps stick-fresh-all-kinds.r stick-fresh-all-reads.Pre stick-fresh-all-reads.Learnt stick.fresh-all-decides stick.fresh-all-allows ticks-decided))))))))
 
 pub firmware-decided : Promises
 firmware-decided =
@@ -584,7 +537,7 @@ firmware-decided =
     promise 4 firmware-take-kinds.ps firmware-take-kinds.r firmware-take-reads.Pre firmware-take-reads.Learnt firmware.take-decides firmware.take-allows (
     promise 4 firmware-tick-kinds.ps firmware-tick-kinds.r firmware-tick-reads.Pre firmware-tick-reads.Learnt firmware.tick-decides firmware.tick-allows (
     promise 4 firmware-give-kinds.ps firmware-give-kinds.r firmware-give-reads.Pre firmware-give-reads.Learnt firmware.give-decides firmware.give-allows (
-    promise 4 firmware-press-kinds.ps firmware-press-kinds.r firmware-press-reads.Pre firmware-press-reads.Learnt firmware.press-decides firmware.press-allows lent-decided)))))
+    promise 4 firmware-press-kinds.ps firmware-press-kinds.r firmware-press-reads.Pre firmware-press-reads.Learnt firmware.press-decides firmware.press-allows stick-decided)))))
 
 -- all of them
 pub all-decided : Promises

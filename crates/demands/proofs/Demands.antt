@@ -1,60 +1,72 @@
 -- The three demands hold.
 -- Assumes nothing.
-use mathlib.Core.Path.{_≡_, refl, sym, ap, subst}
+use mathlib.Core.Path.{_≡_, sym, _∙_, ap}
 use mathlib.Core.Bool.{true}
-use mathlib.Core.List.{[], _∷_}
-use Rattle.stick.specs.Stick.{Lent, Outcome, Guarded}
-use Rattle.state.specs.declared.Stick.{Stick}
-use Rattle.rules.specs.Answers.{Damaged, oneOf}
-use Rattle.state.specs.Fits.{stickFits}
-use Rattle.rules.proofs.Answers as answers
-use Rattle.rules.proofs.NeverDamaged as never
-use Rattle.serial.specs.Run.{Reached, begin}
-use Rattle.demands.specs.Real.{real}
-use Rattle.demands.specs.Sticks.{World, sticks}
-use Rattle.demands.specs.Told.{worldAfter, freshFrom, takeFrom, tickFrom, giveFrom, pressFrom, freshLeaves, Any, any-fresh, any-take, any-tick, any-give, any-press}
-use Rattle.demands.specs.Demands.{TakesByte, Demands}
-use Rattle.demands.proofs.Demand1 as first
-use Rattle.demands.proofs.Demanded.{one-reading}
-use Rattle.demands.proofs.Linked.{fresh-begins, follows, demand1, demand2, demand3, unfinished, courses, always-sound}
-use Rattle.demands.proofs.Told.{code-call, code-start, code-run}
-use Rattle.demands.proofs.Made.{can-call}
+use mathlib.Core.List.{List}
+use Prim.Native.Nat.{ℕ}
+use native.Mathlib.Omega.{arith}
+use lib.ListN.{length, take}
+use Rattle.layout.specs.Places.{roomsPlace, stateLength}
+use Rattle.layout.specs.Layout.{headOf, stickIn}
+use Rattle.layout.specs.Stands.{stands}
+use Rattle.layout.specs.InBytes.{Bytes}
+use Rattle.layout.proofs.Lengths.{head-length}
+use Rattle.layout.proofs.ReadWrite.{read-write, head-stands}
+use Rattle.layout.proofs.WriteRead.{head-back}
+use Rattle.damage.proofs.Undamaged.{in-bytes}
+use Rattle.firmware.specs.Answers.{Returned}
+use Rattle.serial.proofs.Follows as follow
+use Rattle.machine.specs.Real.{real}
+use Rattle.machine.proofs.Lawful.{lawful}
+use Rattle.machine.proofs.Demanded.{one-reading}
+use Rattle.machine.proofs.Course.{course}
+use Rattle.demands.specs.Bytes.{bytes}
+use Rattle.demands.specs.Told.{lends}
+use Rattle.demands.specs.Demands.{Demands}
+use Rattle.demands.proofs.Bytes.{bytes-follow, always-undamaged, always-numbers}
+use Rattle.demands.proofs.Translated.{translated}
+use Rattle.demands.proofs.Over.{fresh-all, paper-stays}
+use Rattle.demands.proofs.Told.{exact, any-still, kept, give-says, never-3, call-is}
+use Rattle.demands.proofs.Made.{fresh-open, take-open, tick-open, give-open, press-open, translate-open, can-call}
+use Rattle.demands.proofs.Run.{linked}
 
-not-damaged : (s : Stick) (l : Lent) → Guarded s l → Damaged s l → ⊥
-not-damaged s l g d = answers.never (g .fits) (d .damaged)
-
-abbrev whole : Outcome → Type 0
-whole o = stickFits (o .stick) ≡ true
-
-never-3 : {w : World} {o : Outcome} → Reached real sticks w → Any w o → o .answer ≡ 3 → ⊥
-never-3 {w} {o} r (any-fresh c) e = answers.never (first.demand1 .exactly (any-fresh c) .numbers) (ap (oneOf (0 ∷ 2 ∷ [])) e)
-never-3 {w} {o} r (any-take c) e = not-damaged _ _ (always-sound w r) (first.demand1 .exactly (any-take c) .first .damaged .0 e)
-never-3 {w} {o} r (any-tick c) e = not-damaged _ _ (always-sound w r) (first.demand1 .exactly (any-tick c) .first .damaged .0 e)
-never-3 {w} {o} r (any-give c) e = not-damaged _ _ (always-sound w r) (first.demand1 .exactly (any-give c) .first .damaged .0 e)
-never-3 {w} {o} r (any-press c) e = not-damaged _ _ (always-sound w r) (first.demand1 .exactly (any-press c) .damaged .0 e)
-
-kept : {w : World} {o : Outcome} (c : Any w o) → TakesByte c → stickFits (w .stick) ≡ true → stickFits (o .stick) ≡ true
-kept (any-fresh c) t e = subst whole (sym (c .told)) (never.never-damaged (never.fresh (freshFrom c .buffers)) tt (freshFrom c .stick) e)
-kept (any-take c) t e = subst whole (sym (c .told)) (never.never-damaged (never.take-byte (takeFrom c .buffers) _ _) t (takeFrom c .stick) e)
-kept (any-tick c) t e = subst whole (sym (c .told)) (never.never-damaged (never.tick (tickFrom c .buffers) _) tt (tickFrom c .stick) e)
-kept (any-give c) t e = subst whole (sym (c .told)) (never.never-damaged (never.give (giveFrom c .buffers) _) tt (giveFrom c .stick) e)
-kept (any-press c) t e = subst whole (sym (c .told)) (never.never-damaged (never.press (pressFrom c .buffers) _) tt (pressFrom c .stick) e)
+one-head : (x y : List ℕ) → Bytes x → Bytes y → length x ≡ stateLength → length y ≡ stateLength
+    → stands x ≡ true → stands y ≡ true → stickIn x ≡ stickIn y → take roomsPlace x ≡ take roomsPlace y
+one-head x y v w l m s t e = sym (head-back x v s (omega (arith, l))) ∙ ap headOf e ∙ head-back y w t (omega (arith, m))
 
 pub demands : Demands
 demands = record {
-  demand1 = first.demand1;
-  demand1-run = demand1;
-  demand2 = demand2;
-  demand2-course = courses;
-  demand3 = demand3;
-  demand3-unfinished = unfinished;
+  fresh-open = fresh-open;
+  take-open = take-open;
+  tick-open = tick-open;
+  give-open = give-open;
+  press-open = press-open;
+  translate-open = translate-open;
+  exactly = exact;
+  still = any-still;
+  give-says = give-says;
+  translates = translated;
+  demand1-run = follow.demand1 real bytes bytes-follow lawful;
+  demand2 = follow.demand2 real bytes bytes-follow lawful;
+  demand2-course =
+      course bytes (follow.demand2 real bytes bytes-follow lawful .later) (follow.never-damaged real bytes bytes-follow lawful);
+  demand3 = follow.demand3 real bytes bytes-follow lawful;
+  demand3-unfinished = follow.unfinished real bytes bytes-follow lawful;
   one-reading = one-reading;
-  follows = follows;
-  undamaged = always-sound;
+  follows = bytes-follow;
+  undamaged = always-undamaged;
   never-3 = never-3;
   kept = kept;
+  decodes = λ s w rooms. (read-write s rooms w, (head-stands s rooms, head-length s));
+  fits-in = in-bytes;
+  one-head = one-head;
   fresh-is = λ o. o .told;
-  call-is = code-call;
+  fresh-writes =
+      λ o e. ap (λ (x : Returned). x .buffers .state) (o .told)
+      ∙ fresh-all (lends o) (sym (ap (λ (x : Returned). x .number) (o .told)) ∙ e);
+  fresh-spares = λ o. ap (λ (x : Returned). x .buffers .paper) (o .told) ∙ paper-stays (lends o);
+  call-is = call-is;
+  numbers = always-numbers;
   can-call = can-call;
-  link = λ o e cs ok w r. record { begins = fresh-begins (worldAfter (freshLeaves o)) (code-start o e); comes = code-run r (begin real sticks (worldAfter (freshLeaves o))) refl };
+  link = linked;
 }

@@ -5,75 +5,91 @@ use mathlib.Core.Path.{refl}
 use mathlib.Core.List.{List, [], _∷_}
 use Prim.Native.Nat.{ℕ}
 use contract.Lifetimes.{Lfts}
+use denote.Ref.{RefT}
 use borrow.Fn.Kind.{PK, RK}
 use borrow.Fn.Kinds.{In, Out, Dens}
-use denote.Ref.{RefT}
-use Rattle.base.specs.Decides.{Allows, Told}
-use Rattle.stick.specs.Stick.{Outcome}
-use Rattle.stick.proofs.fresh.Kinds as fresh-kinds
-use Rattle.stick.proofs.fresh.Reads as fresh-reads
-use Rattle.stick.proofs.take.Kinds as take-kinds
-use Rattle.stick.proofs.take.Reads as take-reads
-use Rattle.stick.proofs.tick.Kinds as tick-kinds
-use Rattle.stick.proofs.tick.Reads as tick-reads
-use Rattle.stick.proofs.give.Kinds as give-kinds
-use Rattle.stick.proofs.give.Reads as give-reads
-use Rattle.stick.proofs.press.Kinds as press-kinds
-use Rattle.stick.proofs.press.Reads as press-reads
-use Rattle.stick.proofs.Decided as stick
-use Rattle.serial.specs.Core.{Call}
-use Rattle.serial.specs.Core as calls
-use Rattle.demands.specs.Real.{real}
-use Rattle.demands.specs.Sticks.{World, portNumber}
-use Rattle.demands.specs.Told.{worldAfter, Fresh, Take, Tick, Give, Press, ByCode, took, ticked, gave, pressed, CodeRun, here, then}
+use Rattle.base.specs.Decides.{Told}
+use Rattle.calls.specs.Bytes.{Buffers}
+use Rattle.firmware.specs.Answers.{Returned}
+use Rattle.firmware.proofs.Decided as firmware
+use Rattle.firmware.proofs.fixlomand_fresh.Kinds as fresh-kinds
+use Rattle.firmware.proofs.fixlomand_fresh.Reads as fresh-reads
+use Rattle.firmware.proofs.fixlomand_take.Kinds as take-kinds
+use Rattle.firmware.proofs.fixlomand_take.Reads as take-reads
+use Rattle.firmware.proofs.fixlomand_tick.Kinds as tick-kinds
+use Rattle.firmware.proofs.fixlomand_tick.Reads as tick-reads
+use Rattle.firmware.proofs.fixlomand_give.Kinds as give-kinds
+use Rattle.firmware.proofs.fixlomand_give.Reads as give-reads
+use Rattle.firmware.proofs.fixlomand_press.Kinds as press-kinds
+use Rattle.firmware.proofs.fixlomand_press.Reads as press-reads
+use Rattle.firmware.proofs.fixlomand_translate.Kinds as translate-kinds
+use Rattle.firmware.proofs.fixlomand_translate.Reads as translate-reads
+use Rattle.serial.specs.Core.{Call, take, tick, give, press}
+use Rattle.machine.specs.Real.{real}
+use Rattle.machine.specs.Sticks.{portNumber}
+use Rattle.demands.specs.Told.{fourLent, FreshCall, TakeCall, TickCall, GiveCall, PressCall, CallByC, by-take, by-tick, by-give, by-press, RunByC, here, then}
+use Rattle.demands.specs.Demand1.{Open}
+
+-- "No entry point trusts its caller to have checked"
+pub fresh-open : Open 4 fresh-kinds.ps fresh-kinds.r fresh-reads.Pre fresh-reads.Learnt
+fresh-open = record { asks-nothing = λ κs a. tt; answers = firmware.fresh-allows }
+
+pub take-open : Open 4 take-kinds.ps take-kinds.r take-reads.Pre take-reads.Learnt
+take-open = record { asks-nothing = λ κs a. tt; answers = firmware.take-allows }
+
+pub tick-open : Open 4 tick-kinds.ps tick-kinds.r tick-reads.Pre tick-reads.Learnt
+tick-open = record { asks-nothing = λ κs a. tt; answers = firmware.tick-allows }
+
+pub give-open : Open 4 give-kinds.ps give-kinds.r give-reads.Pre give-reads.Learnt
+give-open = record { asks-nothing = λ κs a. tt; answers = firmware.give-allows }
+
+pub press-open : Open 4 press-kinds.ps press-kinds.r press-reads.Pre press-reads.Learnt
+press-open = record { asks-nothing = λ κs a. tt; answers = firmware.press-allows }
+
+pub translate-open : Open 0 translate-kinds.ps translate-kinds.r translate-reads.Pre translate-reads.Learnt
+translate-open = record { asks-nothing = λ κs a. tt; answers = firmware.translate-allows }
 
 -- a buffer, lent from anywhere
-abbrev lends : List ℕ → RefT (List ℕ)
-lends bytes = record { ptr = (0, 0); name = 0; now = bytes }
+abbrev lentAs : List ℕ → RefT (List ℕ)
+lentAs xs = record { ptr = (0, 0); name = 0; now = xs }
 
 abbrev lifetimes : Lfts 4
 lifetimes = ([], ([], ([], ([], tt))))
 
--- a call with these arguments, as its claim allows one
-module _ (ps : List (PK 4)) (r : RK 4) (Pre : In 4 ps) (Learnt : Out 4 ps r) (allows : Allows 4 ps r Pre Learnt) where
-  abbrev asked : (a : Dens lifetimes ps) → Pre lifetimes a → Told 4 ps r Learnt
-  asked a p = let x = allows lifetimes a p in record { κs = lifetimes; args = a; result = x .0; lasts = x .1 .0; told = x .1 .1 }
+-- a call with these buffers and numbers, as its claim allows one
+module _ {given : List (PK 4)} {r : RK 4} {Pre : In 4 (fourLent given)} {Learnt : Out 4 (fourLent given) r} where
+  abbrev asked : Open 4 (fourLent given) r Pre Learnt → Buffers → Dens lifetimes given → Told 4 (fourLent given) r Learnt
+  asked o b numbers =
+      let a : Dens lifetimes (fourLent given) =
+      (lentAs (b .state), (lentAs (b .area), (lentAs (b .screen), (lentAs (b .paper), numbers)))) in
+      let x = o .answers lifetimes a (o .asks-nothing lifetimes a) in
+      record { κs = lifetimes; args = a; result = x .0; lasts = x .1 .0; told = x .1 .1 }
 
-module _ (w : World) where
-  abbrev pub fresh-call : Fresh
-  fresh-call =
-      asked fresh-kinds.ps fresh-kinds.r fresh-reads.Pre fresh-reads.Learnt stick.fresh-allows
-      (w .stick, (lends (w .buffers .rooms), (lends (w .buffers .area), (lends (w .buffers .screen), (lends (w .buffers .paper), tt))))) tt
+module _ (b : Buffers) where
+  abbrev pub fresh-call : FreshCall
+  fresh-call = asked fresh-open b tt
 
-  abbrev pub take-call : (port byte : ℕ) → Take
-  take-call port byte =
-      asked take-kinds.ps take-kinds.r take-reads.Pre take-reads.Learnt stick.take-allows
-      (w .stick, (lends (w .buffers .rooms), (lends (w .buffers .area), (lends (w .buffers .screen), (lends (w .buffers .paper), (port, (byte, tt))))))) tt
+  abbrev pub take-call : (port byte : ℕ) → TakeCall
+  take-call port byte = asked take-open b (port, (byte, tt))
 
-  abbrev pub tick-call : (port : ℕ) → Tick
-  tick-call port =
-      asked tick-kinds.ps tick-kinds.r tick-reads.Pre tick-reads.Learnt stick.tick-allows
-      (w .stick, (lends (w .buffers .rooms), (lends (w .buffers .area), (lends (w .buffers .screen), (lends (w .buffers .paper), (port, tt)))))) tt
+  abbrev pub tick-call : (port : ℕ) → TickCall
+  tick-call port = asked tick-open b (port, tt)
 
-  abbrev pub give-call : (port : ℕ) → Give
-  give-call port =
-      asked give-kinds.ps give-kinds.r give-reads.Pre give-reads.Learnt stick.give-allows
-      (w .stick, (lends (w .buffers .rooms), (lends (w .buffers .area), (lends (w .buffers .screen), (lends (w .buffers .paper), (port, tt)))))) tt
+  abbrev pub give-call : (port : ℕ) → GiveCall
+  give-call port = asked give-open b (port, tt)
 
-  abbrev pub press-call : (code : ℕ) → Press
-  press-call code =
-      asked press-kinds.ps press-kinds.r press-reads.Pre press-reads.Learnt stick.press-allows
-      (w .stick, (lends (w .buffers .rooms), (lends (w .buffers .area), (lends (w .buffers .screen), (lends (w .buffers .paper), (code, tt)))))) tt
+  abbrev pub press-call : (code : ℕ) → PressCall
+  press-call code = asked press-open b (code, tt)
 
-  pub can-call : (c : Call real) → (o : Outcome) × ByCode w c o
-  can-call (calls.take p byte) = (_, took (take-call (portNumber p) byte) p refl)
-  can-call (calls.tick p) = (_, ticked (tick-call (portNumber p)) p refl)
-  can-call (calls.give p) = (_, gave (give-call (portNumber p)) p refl)
-  can-call (calls.press code) = (_, pressed (press-call code))
+  pub can-call : (c : Call real) → (r : Returned) × CallByC b c r
+  can-call (take p byte) = (_, by-take (take-call (portNumber p) byte) p refl)
+  can-call (tick p) = (_, by-tick (tick-call (portNumber p)) p refl)
+  can-call (give p) = (_, by-give (give-call (portNumber p)) p refl)
+  can-call (press code) = (_, by-press (press-call code))
 
-pub can-run : (cs : List (Call real)) (w : World) → (w′ : World) × CodeRun w cs w′
-can-run [] w = (w, here)
-can-run (c ∷ cs) w =
-    let o = can-call w c in
-    let r = can-run cs (worldAfter (o .0)) in
+pub can-run : (cs : List (Call real)) (b : Buffers) → (b′ : Buffers) × RunByC b cs b′
+can-run [] b = (b, here)
+can-run (c ∷ cs) b =
+    let o = can-call b c in
+    let r = can-run cs (o .0 .buffers) in
     (r .0, then (o .1) (r .1))

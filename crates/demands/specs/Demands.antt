@@ -1,68 +1,110 @@
--- The three demands, of the five calls and of key translation: what the stick is bought for, on one page. Each line is one statement,
--- a type whose words are in the file that it is used from: `serial/specs` for any machine of two ports, here for document 01's and
--- for the code. (The other files of `serial/specs`, `Laws` and `Follows`, and `rules` are the way to them.)
+-- The three demands, of the five functions and key translation that the port firmware calls: what the stick is bought for, on one
+-- page. Each line is one statement, a type whose words are in the file that it is used from: `serial/specs` for any machine of
+-- two ports, `machine/specs` for document 01's, here for the functions. (The other files of `serial/specs`, `Laws` and `Follows`,
+-- and `rules` are the way to them.) That C's pointer and length are the slice is the toolchain's. That each promise decides is in
+-- `firmware/proofs/Decided.antt`.
 -- Assumes nothing.
 use mathlib.Core.Path.{_≡_}
 use mathlib.Core.Bool.{true}
-use mathlib.Core.List.{List}
-use Prim.Native.Nat.{_<_}
-use Rattle.state.specs.Fits.{stickFits}
-use Rattle.stick.specs.Stick.{Outcome}
-use Rattle.stick.specs.Calls.{freshOf}
-use Rattle.serial.specs.Core.{Call}
+use mathlib.Core.List.{List, _++_}
+use Prim.Native.Nat.{ℕ, _*_}
+use lib.ListN.{length, take, replicate}
+use Rattle.wire.specs.Messages.{roomLength}
+use Rattle.layout.specs.Places.{roomsPlace, stateLength}
+use Rattle.layout.specs.Stick.{Stick, freshStick, Lent}
+use Rattle.layout.specs.Layout.{headOf, stickIn}
+use Rattle.layout.specs.Stands.{stands}
+use Rattle.layout.specs.InBytes.{Bytes, InBytes, Typed}
+use Rattle.damage.specs.Fits.{stickFits}
+use Rattle.calls.specs.Bytes.{Buffers, freshBytes, giveBytes}
+use Rattle.firmware.specs.Answers.{Returned, returned, answerOf}
+use Rattle.firmware.proofs.fixlomand_fresh.Kinds as fresh-kinds
+use Rattle.firmware.proofs.fixlomand_fresh.Reads as fresh-reads
+use Rattle.firmware.proofs.fixlomand_take.Kinds as take-kinds
+use Rattle.firmware.proofs.fixlomand_take.Reads as take-reads
+use Rattle.firmware.proofs.fixlomand_tick.Kinds as tick-kinds
+use Rattle.firmware.proofs.fixlomand_tick.Reads as tick-reads
+use Rattle.firmware.proofs.fixlomand_give.Kinds as give-kinds
+use Rattle.firmware.proofs.fixlomand_give.Reads as give-reads
+use Rattle.firmware.proofs.fixlomand_press.Kinds as press-kinds
+use Rattle.firmware.proofs.fixlomand_press.Reads as press-reads
+use Rattle.firmware.proofs.fixlomand_translate.Kinds as translate-kinds
+use Rattle.firmware.proofs.fixlomand_translate.Reads as translate-reads
+use Rattle.serial.specs.Core.{Call, number}
 use Rattle.serial.specs.Run.{OkCalls, Begun, Reached, after, begin}
 use Rattle.serial.specs.Reading.{OneReading}
-use Rattle.serial.specs.Demand1 as serial
+use Rattle.serial.specs.Demand1.{Demand1}
 use Rattle.serial.specs.Demand2.{Demand2}
 use Rattle.serial.specs.Demand3.{Demand3, UnfinishedRule}
 use Rattle.serial.specs.Follows.{Follows}
-use Rattle.demands.specs.Real.{real}
-use Rattle.demands.specs.Sticks.{World, outcomeOf, Sound, sticks}
-use Rattle.demands.specs.Course.{CourseRule}
-use Rattle.demands.specs.Told.{worldAfter, Fresh, freshFrom, freshLeaves, ByCode, Any, any-fresh, any-take, any-tick, any-give, any-press, CodeRun}
-use Rattle.demands.specs.Demand1.{Demand1}
+use Rattle.machine.specs.Real.{real}
+use Rattle.machine.specs.Course.{CourseRule}
+use Rattle.demands.specs.Bytes.{leftBy, bytes, SoundBuffers, UndamagedState}
+use Rattle.demands.specs.Told.{lends, leaves, answerIn, replyByteIn, FreshCall, GiveCall, portNamed, TranslateCall, codeAsked, lockAsked, inverseAsked, translation, AnyCall, CallByC, returnedBy, RunByC}
+use Rattle.demands.specs.Demand1.{Open, Exactly, OffersByte, TranslateAnswers}
 
 -- a run of the functions is the run that the demands speak of: it begins as they ask, and comes where they say
-pub record Linked (o : Fresh) (cs : List (Call real)) (w : World) : Type 0 where
-  pub begins : Begun real sticks (worldAfter (freshLeaves o))
-  pub comes : after real sticks cs (begin real sticks (worldAfter (freshLeaves o))) .world ≡ w
-
--- what is taken is a byte
-abbrev pub TakesByte : {w : World} {o : Outcome} → Any w o → Type 0
-TakesByte (any-fresh c) = Unit {0}
-TakesByte (any-take c) = c .args .1 .1 .1 .1 .1 .1 .0 < 256
-TakesByte (any-tick c) = Unit {0}
-TakesByte (any-give c) = Unit {0}
-TakesByte (any-press c) = Unit {0}
+pub record Linked (o : FreshCall) (cs : List (Call real)) (b : Buffers) : Type 0 where
+  pub begins : Begun real bytes (leaves o .buffers)
+  pub comes : after real bytes cs (begin real bytes (leaves o .buffers)) .world ≡ b
 
 pub record Demands : Type 0 where
-  -- 1. "Whatever bytes the two hosts send, whatever keys are pressed and in whatever order the core is called, every call returns,
-  -- nothing is read or written outside its buffer [the check itself], and each refusal gives the number in the tables of document 01
-  -- and changes only what they say. No entry point trusts its caller to have checked."
-  pub demand1 : Demand1
+  -- 1. "Whatever bytes the two hosts send, whatever keys are pressed and in whatever order the core is called, every call
+  -- returns, nothing is read or written outside its buffer [the check itself], and each refusal gives the number in the tables of
+  -- document 01 and changes only what they say. No entry point trusts its caller to have checked."
+  pub fresh-open : Open 4 fresh-kinds.ps fresh-kinds.r fresh-reads.Pre fresh-reads.Learnt
+  pub take-open : Open 4 take-kinds.ps take-kinds.r take-reads.Pre take-reads.Learnt
+  pub tick-open : Open 4 tick-kinds.ps tick-kinds.r tick-reads.Pre tick-reads.Learnt
+  pub give-open : Open 4 give-kinds.ps give-kinds.r give-reads.Pre give-reads.Learnt
+  pub press-open : Open 4 press-kinds.ps press-kinds.r press-reads.Pre press-reads.Learnt
+  pub translate-open : Open 0 translate-kinds.ps translate-kinds.r translate-reads.Pre translate-reads.Learnt
+  pub exactly : {b : Buffers} {r : Returned} (c : AnyCall b r) → Exactly c
+  -- "Numbers 1 to 8 change nothing"; "A byte beside a refusal is 0.": every byte of every buffer stays. That a lent state is made
+  -- of bytes is its type's.
+  pub still : {b : Buffers} {r : Returned} → AnyCall b r → Bytes (b .state) → (answerIn r ≡ 0 → ⊥) → r ≡ returned (answerIn r) b
+  -- the answer and the reply byte can be told apart in the number that C is given
+  pub give-says : (o : GiveCall)
+      → let l = giveBytes (lends o) (portNamed o) in (answerIn (leaves o) ≡ l .answer) × (replyByteIn (leaves o) ≡ l .byte)
+  pub translates : (o : TranslateCall) → TranslateAnswers (codeAsked o) (lockAsked o) (inverseAsked o) (translation o)
   -- the same within a run, by what each port does; `presses` there is 2's taken key
-  pub demand1-run : serial.Demand1 real sticks
-  -- 2. "A request or a taken key alone gives the whole reply (a key has none), memory, control blocks, console and paper that the CIO
-  -- rules .. give. .. A request waits only while the other port holds the device group it needs. Once started, it moves one character
-  -- a tick and ends within 61,441 further ticks of its port."
-  pub demand2 : Demand2 real sticks
-  pub demand2-course : CourseRule sticks
-  -- 3. "The replies made for each port, both memory areas, both control-block tables, the console and the paper are those of the run
-  -- in which the started requests and the taken keys go one at a time .. The bytes taken on a port spell its started requests .. the
-  -- bytes given on it are those of its own replies"
-  pub demand3 : Demand3 real sticks
-  pub demand3-unfinished : UnfinishedRule real sticks
+  pub demand1-run : Demand1 real bytes
+  -- 2. "A request or a taken key alone gives the whole reply (a key has none), memory, control blocks, console and paper that the
+  -- CIO rules .. give. .. A request waits only while the other port holds the device group it needs. Once started, it moves one
+  -- character a tick and ends within 61,441 further ticks of its port."
+  pub demand2 : Demand2 real bytes
+  pub demand2-course : CourseRule bytes
+  -- 3. "The replies made for each port, both memory areas, both control-block tables, the console and the paper are those of the
+  -- run in which the started requests and the taken keys go one at a time .. The bytes taken on a port spell its started requests
+  -- .. the bytes given on it are those of its own replies"
+  pub demand3 : Demand3 real bytes
+  pub demand3-unfinished : UnfinishedRule real bytes
   -- bytes are read as messages in one way
   pub one-reading : OneReading real
   -- each call leaves and answers what document 01's machine does, and nothing else
-  pub follows : Follows real sticks
-  -- "No state reached from fresh by these calls is damaged.": answer 3 is in no run; and no call damages a state, whatever it is lent
-  pub undamaged : (w : World) → Reached real sticks w → Sound w
-  pub never-3 : {w : World} {o : Outcome} → Reached real sticks w → Any w o → o .answer ≡ 3 → ⊥
-  pub kept : {w : World} {o : Outcome} (c : Any w o) → TakesByte c → stickFits (w .stick) ≡ true → stickFits (o .stick) ≡ true
-  -- the link: what a function returns and leaves is what the run's call does: answer, byte, state and buffers; and each can be called
-  pub fresh-is : (o : Fresh) → freshLeaves o ≡ freshOf (freshFrom o .stick) (freshFrom o .buffers)
-  pub call-is : {w : World} {c : Call real} {o : Outcome} → ByCode w c o → o ≡ outcomeOf c w
-  pub can-call : (w : World) (c : Call real) → (o : Outcome) × ByCode w c o
-  -- "any sequence of calls after one fresh start that gives 0 .. the same state and lent buffers in every call but those answered 2"
-  pub link : (o : Fresh) → o .result .answer ≡ 0 → (cs : List (Call real)) → OkCalls real cs → (w : World) → CodeRun (worldAfter (freshLeaves o)) cs w → Linked o cs w
+  pub follows : Follows real bytes
+  -- "No state reached from fresh by these calls is damaged.": answer 3 is in no run; and no call that is done damages a state
+  -- that is handed in
+  pub undamaged : (b : Buffers) → Reached real bytes b → SoundBuffers b
+  pub never-3 : {b : Buffers} {r : Returned} → Reached real bytes b → AnyCall b r → answerIn r ≡ 3 → ⊥
+  pub kept : {b : Buffers} {r : Returned} (c : AnyCall b r) → OffersByte c → answerIn r ≡ 0 → UndamagedState (r .buffers)
+  -- decoding what was encoded gives it back, of every undamaged stick; and two heads that stand for one stick are one
+  pub decodes : (s : Stick) → InBytes s → (rooms : List ℕ)
+      → (stickIn (headOf s ++ rooms) ≡ s) × ((stands (headOf s ++ rooms) ≡ true) × (length (headOf s) ≡ roomsPlace))
+  pub fits-in : (s : Stick) (l : Lent) → Typed s → stickFits s l ≡ true → InBytes s
+  pub one-head : (x y : List ℕ) → Bytes x → Bytes y → length x ≡ stateLength → length y ≡ stateLength
+      → stands x ≡ true → stands y ≡ true → stickIn x ≡ stickIn y → take roomsPlace x ≡ take roomsPlace y
+  -- a fresh start writes every byte of the state, whatever it held, and leaves the paper's bytes
+  pub fresh-is : (o : FreshCall) → leaves o ≡ answerOf (freshBytes (lends o))
+  pub fresh-writes : (o : FreshCall) → leaves o .number ≡ 0
+      → leaves o .buffers .state ≡ headOf freshStick ++ replicate (2 * roomLength) 0
+  pub fresh-spares : (o : FreshCall) → leaves o .buffers .paper ≡ lends o .paper
+  -- the link: what a function returns and leaves is what the run's call does: answer, byte, state and buffers; the run's answers
+  -- are those numbers; and each can be called
+  pub call-is : {b : Buffers} {c : Call real} {r : Returned} → CallByC b c r → r ≡ returnedBy c (leftBy c b)
+  pub numbers : (b : Buffers) → Reached real bytes b → (c : Call real)
+      → number real (bytes .call c b .answer) ≡ leftBy c b .answer
+  pub can-call : (b : Buffers) (c : Call real) → (r : Returned) × CallByC b c r
+  -- "any sequence of calls after one fresh start that gives 0 .. the same state and lent buffers in every call but those answered
+  -- 2"
+  pub link : (o : FreshCall) → leaves o .number ≡ 0 → (cs : List (Call real)) → OkCalls real cs → (b : Buffers)
+      → RunByC (leaves o .buffers) cs b → Linked o cs b

@@ -1,7 +1,4 @@
-pub mod Spells
-pub mod Real
-pub mod Sticks
-pub mod Course
+pub mod Bytes
 pub mod Told
 pub mod Demand1
 pub mod Demands

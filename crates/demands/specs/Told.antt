@@ -1,109 +1,140 @@
--- A call of a real function as its own promise tells a caller of it: its arguments, its result, and what is left in each lent buffer.
--- A run of such calls, each made with the state and the buffers that the one before it left, save those answered 2.
+-- A call of a function that the port firmware calls, as its own promise tells a caller of it: what it is lent and given, what it
+-- returns and leaves. A run of such calls, each made with the buffers that the one before it left, save those answered 2.
 -- Assumes nothing.
 use mathlib.Core.Path.{_≡_}
 use mathlib.Core.List.{List, [], _∷_}
+use Prim.Native.Nat.{ℕ, _/_, _%_}
+use mir.Syntax.{Width, w8}
 use denote.Ref.{now}
+use borrow.Table.Referent.{rtF, fInt}
+use borrow.Kind.MutSlice.{pMutS}
+use borrow.Fn.Kinds.{PK, Out, pNum, rNum}
 use Rattle.base.specs.Decides.{Told}
-use Rattle.stick.specs.Stick.{Outcome, outcome, lent}
-use Rattle.stick.proofs.fresh.Kinds as fresh-kinds
-use Rattle.stick.proofs.fresh.Reads as fresh-reads
-use Rattle.stick.proofs.take.Kinds as take-kinds
-use Rattle.stick.proofs.take.Reads as take-reads
-use Rattle.stick.proofs.tick.Kinds as tick-kinds
-use Rattle.stick.proofs.tick.Reads as tick-reads
-use Rattle.stick.proofs.give.Kinds as give-kinds
-use Rattle.stick.proofs.give.Reads as give-reads
-use Rattle.stick.proofs.press.Kinds as press-kinds
-use Rattle.stick.proofs.press.Reads as press-reads
+use Rattle.calls.specs.Bytes.{Buffers, buffers, Left}
+use Rattle.firmware.specs.Answers.{Returned, returned, answerOf, bothOf}
+use Rattle.firmware.proofs.fixlomand_fresh.Kinds as fresh-kinds
+use Rattle.firmware.proofs.fixlomand_fresh.Reads as fresh-reads
+use Rattle.firmware.proofs.fixlomand_take.Kinds as take-kinds
+use Rattle.firmware.proofs.fixlomand_take.Reads as take-reads
+use Rattle.firmware.proofs.fixlomand_tick.Kinds as tick-kinds
+use Rattle.firmware.proofs.fixlomand_tick.Reads as tick-reads
+use Rattle.firmware.proofs.fixlomand_give.Kinds as give-kinds
+use Rattle.firmware.proofs.fixlomand_give.Reads as give-reads
+use Rattle.firmware.proofs.fixlomand_press.Kinds as press-kinds
+use Rattle.firmware.proofs.fixlomand_press.Reads as press-reads
+use Rattle.firmware.proofs.fixlomand_translate.Kinds as translate-kinds
+use Rattle.firmware.proofs.fixlomand_translate.Reads as translate-reads
 use Rattle.serial.specs.Machine.{Port}
 use Rattle.serial.specs.Core.{Call, take, tick, give, press}
-use Rattle.demands.specs.Real.{real}
-use Rattle.demands.specs.Sticks.{World, portNumber}
+use Rattle.machine.specs.Real.{real}
+use Rattle.machine.specs.Sticks.{portNumber}
 
--- the state and the buffers that a call leaves
-abbrev pub worldAfter : Outcome → World
-worldAfter o = record { stick = o .stick; buffers = o .lent }
+-- each of the five functions is lent state, area, screen and paper first, and returns a number
+abbrev pub fourLent : List (PK 4) → List (PK 4)
+fourLent given =
+    pMutS (rtF (fInt w8)) 0 tt ∷ pMutS (rtF (fInt w8)) 1 tt ∷ pMutS (rtF (fInt w8)) 2 tt ∷ pMutS (rtF (fInt w8)) 3 tt ∷ given
 
-abbrev pub Fresh : Type 0
-Fresh = Told 4 fresh-kinds.ps fresh-kinds.r fresh-reads.Learnt
+module _ {given : List (PK 4)} {returns : Width} {Learnt : Out 4 (fourLent given) (rNum returns)} where
+  -- the buffers that it is lent
+  abbrev pub lends : Told 4 (fourLent given) (rNum returns) Learnt → Buffers
+  lends o = buffers (now (o .args .0)) (now (o .args .1 .0)) (now (o .args .1 .1 .0)) (now (o .args .1 .1 .1 .0))
 
-abbrev pub freshFrom : Fresh → World
-freshFrom o = record { stick = o .args .0; buffers = lent (now (o .args .1 .0)) (now (o .args .1 .1 .0)) (now (o .args .1 .1 .1 .0)) (now (o .args .1 .1 .1 .1 .0)) }
+  -- the number that it returns, and the buffers as it leaves them
+  abbrev pub leaves : Told 4 (fourLent given) (rNum returns) Learnt → Returned
+  leaves o = returned (o .result) (buffers (o .lasts .0) (o .lasts .1 .0) (o .lasts .1 .1 .0) (o .lasts .1 .1 .1 .0))
 
-abbrev pub freshLeaves : Fresh → Outcome
-freshLeaves o = outcome (o .result .answer) (o .result .byte) (o .result .stick) (lent (o .lasts .1 .0) (o .lasts .1 .1 .0) (o .lasts .1 .1 .1 .0) (o .lasts .1 .1 .1 .1 .0))
+-- the answer is the low byte of the number, a reply byte the high one
+abbrev pub answerIn : Returned → ℕ
+answerIn r = r .number % 256
 
-abbrev pub Take : Type 0
-Take = Told 4 take-kinds.ps take-kinds.r take-reads.Learnt
+abbrev pub replyByteIn : Returned → ℕ
+replyByteIn r = r .number / 256
 
-abbrev pub takeFrom : Take → World
-takeFrom o = record { stick = o .args .0; buffers = lent (now (o .args .1 .0)) (now (o .args .1 .1 .0)) (now (o .args .1 .1 .1 .0)) (now (o .args .1 .1 .1 .1 .0)) }
+abbrev pub FreshCall : Type 0
+FreshCall = Told 4 fresh-kinds.ps fresh-kinds.r fresh-reads.Learnt
 
-abbrev pub takeLeaves : Take → Outcome
-takeLeaves o = outcome (o .result .answer) (o .result .byte) (o .result .stick) (lent (o .lasts .1 .0) (o .lasts .1 .1 .0) (o .lasts .1 .1 .1 .0) (o .lasts .1 .1 .1 .1 .0))
+abbrev pub TakeCall : Type 0
+TakeCall = Told 4 take-kinds.ps take-kinds.r take-reads.Learnt
 
-abbrev pub Tick : Type 0
-Tick = Told 4 tick-kinds.ps tick-kinds.r tick-reads.Learnt
+abbrev pub TickCall : Type 0
+TickCall = Told 4 tick-kinds.ps tick-kinds.r tick-reads.Learnt
 
-abbrev pub tickFrom : Tick → World
-tickFrom o = record { stick = o .args .0; buffers = lent (now (o .args .1 .0)) (now (o .args .1 .1 .0)) (now (o .args .1 .1 .1 .0)) (now (o .args .1 .1 .1 .1 .0)) }
+abbrev pub GiveCall : Type 0
+GiveCall = Told 4 give-kinds.ps give-kinds.r give-reads.Learnt
 
-abbrev pub tickLeaves : Tick → Outcome
-tickLeaves o = outcome (o .result .answer) (o .result .byte) (o .result .stick) (lent (o .lasts .1 .0) (o .lasts .1 .1 .0) (o .lasts .1 .1 .1 .0) (o .lasts .1 .1 .1 .1 .0))
+abbrev pub PressCall : Type 0
+PressCall = Told 4 press-kinds.ps press-kinds.r press-reads.Learnt
 
-abbrev pub Give : Type 0
-Give = Told 4 give-kinds.ps give-kinds.r give-reads.Learnt
+-- take, tick and give name a port next
+module _ {given : List (PK 4)} {returns : Width} {Learnt : Out 4 (fourLent (pNum w8 ∷ given)) (rNum returns)} where
+  abbrev pub portNamed : Told 4 (fourLent (pNum w8 ∷ given)) (rNum returns) Learnt → ℕ
+  portNamed o = o .args .1 .1 .1 .1 .0
 
-abbrev pub giveFrom : Give → World
-giveFrom o = record { stick = o .args .0; buffers = lent (now (o .args .1 .0)) (now (o .args .1 .1 .0)) (now (o .args .1 .1 .1 .0)) (now (o .args .1 .1 .1 .1 .0)) }
+abbrev pub byteOffered : TakeCall → ℕ
+byteOffered o = o .args .1 .1 .1 .1 .1 .0
 
-abbrev pub giveLeaves : Give → Outcome
-giveLeaves o = outcome (o .result .answer) (o .result .byte) (o .result .stick) (lent (o .lasts .1 .0) (o .lasts .1 .1 .0) (o .lasts .1 .1 .1 .0) (o .lasts .1 .1 .1 .1 .0))
+abbrev pub codePressed : PressCall → ℕ
+codePressed o = o .args .1 .1 .1 .1 .0
 
-abbrev pub Press : Type 0
-Press = Told 4 press-kinds.ps press-kinds.r press-reads.Learnt
+-- key translation: "a code, lock .. and inverse", and its answer
+abbrev pub TranslateCall : Type 0
+TranslateCall = Told 0 translate-kinds.ps translate-kinds.r translate-reads.Learnt
 
-abbrev pub pressFrom : Press → World
-pressFrom o = record { stick = o .args .0; buffers = lent (now (o .args .1 .0)) (now (o .args .1 .1 .0)) (now (o .args .1 .1 .1 .0)) (now (o .args .1 .1 .1 .1 .0)) }
+abbrev pub codeAsked : TranslateCall → ℕ
+codeAsked o = o .args .0
 
-abbrev pub pressLeaves : Press → Outcome
-pressLeaves o = outcome (o .result .answer) (o .result .byte) (o .result .stick) (lent (o .lasts .1 .0) (o .lasts .1 .1 .0) (o .lasts .1 .1 .1 .0) (o .lasts .1 .1 .1 .1 .0))
+abbrev pub lockAsked : TranslateCall → ℕ
+lockAsked o = o .args .1 .0
 
--- a call of the run, and the real call that it is
-pub data ByCode : World → Call real → Outcome → Type 0 where
-  took : (o : Take) (p : Port) → o .args .1 .1 .1 .1 .1 .0 ≡ portNumber p → ByCode (takeFrom o) (take p (o .args .1 .1 .1 .1 .1 .1 .0)) (takeLeaves o)
-  ticked : (o : Tick) (p : Port) → o .args .1 .1 .1 .1 .1 .0 ≡ portNumber p → ByCode (tickFrom o) (tick p) (tickLeaves o)
-  gave : (o : Give) (p : Port) → o .args .1 .1 .1 .1 .1 .0 ≡ portNumber p → ByCode (giveFrom o) (give p) (giveLeaves o)
-  pressed : (o : Press) → ByCode (pressFrom o) (press (o .args .1 .1 .1 .1 .1 .0)) (pressLeaves o)
+abbrev pub inverseAsked : TranslateCall → ℕ
+inverseAsked o = o .args .1 .1 .0
+
+abbrev pub translation : TranslateCall → ℕ
+translation o = o .result
 
 -- any call of the five functions, whatever port it names and whatever it is lent
-pub data Any : World → Outcome → Type 0 where
-  any-fresh : (o : Fresh) → Any (freshFrom o) (freshLeaves o)
-  any-take : (o : Take) → Any (takeFrom o) (takeLeaves o)
-  any-tick : (o : Tick) → Any (tickFrom o) (tickLeaves o)
-  any-give : (o : Give) → Any (giveFrom o) (giveLeaves o)
-  any-press : (o : Press) → Any (pressFrom o) (pressLeaves o)
+pub data AnyCall : Buffers → Returned → Type 0 where
+  any-fresh : (o : FreshCall) → AnyCall (lends o) (leaves o)
+  any-take : (o : TakeCall) → AnyCall (lends o) (leaves o)
+  any-tick : (o : TickCall) → AnyCall (lends o) (leaves o)
+  any-give : (o : GiveCall) → AnyCall (lends o) (leaves o)
+  any-press : (o : PressCall) → AnyCall (lends o) (leaves o)
+
+-- a call of the run, and the call of the function that it is
+pub data CallByC : Buffers → Call real → Returned → Type 0 where
+  by-take : (o : TakeCall) (p : Port) → portNamed o ≡ portNumber p → CallByC (lends o) (take p (byteOffered o)) (leaves o)
+  by-tick : (o : TickCall) (p : Port) → portNamed o ≡ portNumber p → CallByC (lends o) (tick p) (leaves o)
+  by-give : (o : GiveCall) (p : Port) → portNamed o ≡ portNumber p → CallByC (lends o) (give p) (leaves o)
+  by-press : (o : PressCall) → CallByC (lends o) (press (codePressed o)) (leaves o)
+
+-- what C is returned: the answer, and of give the reply byte above it
+abbrev pub returnedBy : Call real → Left → Returned
+returnedBy (take p byte) l = answerOf l
+returnedBy (tick p) l = answerOf l
+returnedBy (give p) l = bothOf l
+returnedBy (press code) l = answerOf l
 
 -- what is there of x after a call that was lent b and left e: x itself, where it was not lent, or e, where it was
-pub data Kept {X : Type 0} (x b e : X) : X → Type 0 where
-  not-lent : Kept x b e x
-  lent-on : b ≡ x → Kept x b e e
+pub data Remains {X : Type 0} (x b e : X) : X → Type 0 where
+  not-lent : Remains x b e x
+  lent-on : b ≡ x → Remains x b e e
 
--- a call that is lent v and leaves e, whatever of w is a part of v: then w′ is there. A buffer that is lent in part, or in another's
--- place, counts as not lent: that such a call changes nothing is `Demand1.still`
-pub record Aside (w v e w′ : World) : Type 0 where
-  pub stick : Kept (w .stick) (v .stick) (e .stick) (w′ .stick)
-  pub rooms : Kept (w .buffers .rooms) (v .buffers .rooms) (e .buffers .rooms) (w′ .buffers .rooms)
-  pub area : Kept (w .buffers .area) (v .buffers .area) (e .buffers .area) (w′ .buffers .area)
-  pub screen : Kept (w .buffers .screen) (v .buffers .screen) (e .buffers .screen) (w′ .buffers .screen)
-  pub paper : Kept (w .buffers .paper) (v .buffers .paper) (e .buffers .paper) (w′ .buffers .paper)
+-- a call that is lent v and leaves e, whatever of b is a part of v: then b′ is there. A buffer that is lent in part, or in
+-- another's place, counts as not lent: that such a call changes nothing is `Demands.still`
+pub record Aside (b v e b′ : Buffers) : Type 0 where
+  pub state : Remains (b .state) (v .state) (e .state) (b′ .state)
+  pub area : Remains (b .area) (v .area) (e .area) (b′ .area)
+  pub screen : Remains (b .screen) (v .screen) (e .screen) (b′ .screen)
+  pub paper : Remains (b .paper) (v .paper) (e .paper) (b′ .paper)
 
 -- "any sequence of calls .., no second fresh start, the same state and lent buffers in every call but those answered 2"
-pub data CodeRun : World → List (Call real) → World → Type 0 where
-  here : {w : World} → CodeRun w [] w
-  then : {w w′ : World} {c : Call real} {cs : List (Call real)} {o : Outcome} → ByCode w c o → CodeRun (worldAfter o) cs w′ → CodeRun w (c ∷ cs) w′
+pub data RunByC : Buffers → List (Call real) → Buffers → Type 0 where
+  here : {b : Buffers} → RunByC b [] b
+  then : {b b′ : Buffers} {c : Call real} {cs : List (Call real)} {r : Returned} → CallByC b c r → RunByC (r .buffers) cs b′
+      → RunByC b (c ∷ cs) b′
   -- a call of a port above 1
-  above : {w w′ : World} {cs : List (Call real)} {o : Outcome} → Any w o → o .answer ≡ 1 → CodeRun (worldAfter o) cs w′ → CodeRun w cs w′
+  above : {b b′ : Buffers} {cs : List (Call real)} {r : Returned} → AnyCall b r → r .number ≡ 1 → RunByC (r .buffers) cs b′
+      → RunByC b cs b′
   -- a call answered 2, with any state and any buffers
-  aside : {w v w₁ w′ : World} {cs : List (Call real)} {o : Outcome} → Any v o → o .answer ≡ 2 → Aside w v (worldAfter o) w₁ → CodeRun w₁ cs w′ → CodeRun w cs w′
+  aside : {b v b₁ b′ : Buffers} {cs : List (Call real)} {r : Returned} → AnyCall v r → r .number ≡ 2 → Aside b v (r .buffers) b₁
+      → RunByC b₁ cs b′ → RunByC b cs b′

@@ -1,2 +1,2 @@
-// Demands 1 to 3 of the machine of document 01, and of the five calls of `stick`. There is no code: specs/ says what that machine
-// is and what is seen of the calls, proofs/ that it meets the laws of `serial`, that the calls do what it does, and so the demands.
+// Demands 1 to 3 of the functions that the port firmware calls, on one page. There is no code: specs/ says what is asked of them,
+// proofs/ that they have it.

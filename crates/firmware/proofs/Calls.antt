@@ -2,7 +2,7 @@
 -- Assumes nothing.
 use mathlib.Core.Path.{_≡_, ap}
 use Prim.Native.Nat.{ℕ, _+_, _*_}
-use Rattle.lent.specs.Calls.{Buffers, Left, left}
+use Rattle.calls.specs.Bytes.{Buffers, Left, left}
 use Rattle.firmware.specs.Answers.{Returned, returned, answerOf, bothOf}
 
 pub answer-of : (answer byte : ℕ) (b : Buffers) (l : Left) → left answer byte b ≡ l → returned answer b ≡ answerOf l

@@ -1,7 +1,7 @@
 -- What a call of the port firmware returns and leaves: a number, and the four lent buffers.
 -- Assumes nothing.
 use Prim.Native.Nat.{ℕ, _+_, _*_}
-use Rattle.lent.specs.Calls.{Buffers, Left}
+use Rattle.calls.specs.Bytes.{Buffers, Left}
 
 pub record Returned : Type 0 where
   pub number : ℕ

@@ -3,7 +3,7 @@
 ghost use mathlib.Core.Path.{_≡_};
 ghost use Prim.Native.Nat.{_+_, _*_};
 ghost use Rattle.keys.specs.Translation.{translateOf};
-ghost use Rattle.lent.specs.Calls.{buffers, freshBytes, takeBytes, tickBytes, giveBytes, pressBytes};
+ghost use Rattle.calls.specs.Bytes.{buffers, freshBytes, takeBytes, tickBytes, giveBytes, pressBytes};
 ghost use Rattle.firmware.specs.Answers.{returned, answerOf, bothOf};
 
 // uint16_t fixlomand_translate(uint8_t code, uint8_t lock, uint8_t inverse)
@@ -24,7 +24,7 @@ pub extern "C" fn fixlomand_fresh(
 ) -> u8
     ensures { λ r. ⌜ returned r (buffers (now (state .exit)) (now (area .exit)) (now (screen .exit)) (now (paper .exit))) ≡ answerOf (freshBytes (buffers (now (state .entry)) (now (area .entry)) (now (screen .entry)) (now (paper .entry)))) ⌝ }
 {
-    let called = lent::fresh(state, area, screen, paper);
+    let called = stick::fresh(state, area, screen, paper);
     called.answer
 }
 
@@ -40,7 +40,7 @@ pub extern "C" fn fixlomand_take(
 ) -> u8
     ensures { λ r. ⌜ returned r (buffers (now (state .exit)) (now (area .exit)) (now (screen .exit)) (now (paper .exit))) ≡ answerOf (takeBytes (buffers (now (state .entry)) (now (area .entry)) (now (screen .entry)) (now (paper .entry))) port byte) ⌝ }
 {
-    let called = lent::take(state, area, screen, paper, port, byte);
+    let called = stick::take(state, area, screen, paper, port, byte);
     called.answer
 }
 
@@ -55,7 +55,7 @@ pub extern "C" fn fixlomand_tick(
 ) -> u8
     ensures { λ r. ⌜ returned r (buffers (now (state .exit)) (now (area .exit)) (now (screen .exit)) (now (paper .exit))) ≡ answerOf (tickBytes (buffers (now (state .entry)) (now (area .entry)) (now (screen .entry)) (now (paper .entry))) port) ⌝ }
 {
-    let called = lent::tick(state, area, screen, paper, port);
+    let called = stick::tick(state, area, screen, paper, port);
     called.answer
 }
 
@@ -77,7 +77,7 @@ pub extern "C" fn fixlomand_give(
 ) -> u16
     ensures { λ r. ⌜ returned r (buffers (now (state .exit)) (now (area .exit)) (now (screen .exit)) (now (paper .exit))) ≡ bothOf (giveBytes (buffers (now (state .entry)) (now (area .entry)) (now (screen .entry)) (now (paper .entry))) port) ⌝ }
 {
-    let called = lent::give(state, area, screen, paper, port);
+    let called = stick::give(state, area, screen, paper, port);
     both(called.answer, called.byte)
 }
 
@@ -92,6 +92,6 @@ pub extern "C" fn fixlomand_press(
 ) -> u8
     ensures { λ r. ⌜ returned r (buffers (now (state .exit)) (now (area .exit)) (now (screen .exit)) (now (paper .exit))) ≡ answerOf (pressBytes (buffers (now (state .entry)) (now (area .entry)) (now (screen .entry)) (now (paper .entry))) code) ⌝ }
 {
-    let called = lent::press(state, area, screen, paper, code);
+    let called = stick::press(state, area, screen, paper, code);
     called.answer
 }

@@ -1,4 +1,15 @@
-// What a device handler answers CIO: for a character read, and for a character written or a device opened.
+// What CIO tells a device handler, and what the handler answers: for a character read, and for a character written or a device
+// opened.
+
+// What an act of a handler may know: the port and the IOCB that it is for; of an opening also AUX1, AUX2 and where in the area the
+// name behind the specification begins. Of an act on an open block those three are 0.
+pub struct Asked {
+    pub port: u8,
+    pub iocb: u8,
+    pub aux1: u8,
+    pub aux2: u8,
+    pub name: u32,
+}
 
 // A GET: the character, or a refusal with its status from $80.
 pub enum Got {
@@ -6,7 +17,7 @@ pub enum Got {
     Refused(u8),
 }
 
-// A PUT or an OPEN: success, or a refusal with its status from $80.
+// A PUT, an OPEN or another act: success, or a refusal with its status from $80.
 pub enum Done {
     Success,
     Refused(u8),

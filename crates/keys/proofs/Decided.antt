@@ -7,8 +7,8 @@ use Rattle.handler.specs.declared.Got.{Got}
 use Rattle.keys.specs.Keyboard.{getOf}
 use Rattle.keys.specs.declared.keyboard.Keyboard.{Keyboard}
 use Rattle.keys.specs.declared.keyboard.Struck.{Struck}
-use Rattle.keys.proofs.table.key.Kinds as key-kinds
-use Rattle.keys.proofs.table.key.Reads as key-reads
+use Rattle.keys.proofs.table.entry.Kinds as entry-kinds
+use Rattle.keys.proofs.table.entry.Reads as entry-reads
 use Rattle.keys.proofs.translate.Kinds as translate-kinds
 use Rattle.keys.proofs.translate.Reads as translate-reads
 use Rattle.keys.proofs.keyboard.Keyboard.fresh.Kinds as fresh-kinds
@@ -18,11 +18,11 @@ use Rattle.keys.proofs.keyboard.Keyboard.press.Reads as press-reads
 use Rattle.keys.proofs.keyboard.Keyboard.get.Kinds as get-kinds
 use Rattle.keys.proofs.keyboard.Keyboard.get.Reads as get-reads
 
-pub key-decides : Decides 0 key-kinds.ps key-kinds.r key-reads.Pre key-reads.Learnt
-key-decides κs a z z′ ws ws′ p e e′ = (e ∙ sym e′, refl)
+pub entry-decides : Decides 0 entry-kinds.ps entry-kinds.r entry-reads.Pre entry-reads.Learnt
+entry-decides κs a z z′ ws ws′ p e e′ = (e ∙ sym e′, refl)
 
-pub key-allows : Allows 0 key-kinds.ps key-kinds.r key-reads.Pre key-reads.Learnt
-key-allows κs a p = (_, (_, refl))
+pub entry-allows : Allows 0 entry-kinds.ps entry-kinds.r entry-reads.Pre entry-reads.Learnt
+entry-allows κs a p = (_, (_, refl))
 
 pub translate-decides : Decides 0 translate-kinds.ps translate-kinds.r translate-reads.Pre translate-reads.Learnt
 translate-decides κs a z z′ ws ws′ p e e′ = (e ∙ sym e′, refl)

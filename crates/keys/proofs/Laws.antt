@@ -46,6 +46,27 @@ module _ (code lock own : ℕ) (read : own ≡ keyAt code) where
   unfolding entryOf
   entry-letter r h k l p = p ∙ simp (lt-ltb code 64 h, le-leb 0x61 (keyAt code) (omega arith), le-leb (keyAt code) 0x7A (omega arith))
 
+-- the same of what the table holds, and past it
+module _ (code lock : ℕ) where
+  pub none-there : 192 ≤ code → 0x80 ≡ entryOf code lock
+  none-there h = entry-past code lock 0x80 (key-past code h) (omega arith)
+
+  module _ (h : code < 192) where
+    pub own-past : 64 ≤ code → getD keys code 0 ≡ entryOf code lock
+    own-past k = entry-past code lock (getD keys code 0) (key-in code h) k
+
+    pub own-below : getD keys code 0 < 0x61 → getD keys code 0 ≡ entryOf code lock
+    own-below k = entry-below code lock (getD keys code 0) (key-in code h) k
+
+    pub own-above : 0x7A < getD keys code 0 → getD keys code 0 ≡ entryOf code lock
+    own-above k = entry-above code lock (getD keys code 0) (key-in code h) k
+
+    pub letter-none : code < 64 → 0x61 ≤ getD keys code 0 → getD keys code 0 ≤ 0x7A → 192 ≤ code + 64 * lock → 0x80 ≡ entryOf code lock
+    letter-none k l m o = entry-letter code lock (getD keys code 0) (key-in code h) 0x80 k l m (key-past (code + 64 * lock) o)
+
+    pub letter-there : code < 64 → 0x61 ≤ getD keys code 0 → getD keys code 0 ≤ 0x7A → code + 64 * lock < 192 → getD keys (code + 64 * lock) 0 ≡ entryOf code lock
+    letter-there k l m o = entry-letter code lock (getD keys code 0) (key-in code h) (getD keys (code + 64 * lock) 0) k l m (key-in (code + 64 * lock) o)
+
 -- `answer`: where the test of a whole range says how its entries are answered, each of them is
 abbrev pub is : Bool → Bool → Bool
 is true b = b

@@ -1,6 +1,6 @@
 // Document 01's key table: three blocks of 64 entries. Nothing but `key` looks into it.
 ghost use mathlib.Core.Path.{_≡_};
-ghost use Rattle.keys.specs.Table.{keyAt};
+ghost use Rattle.keys.specs.Translation.{entryOf};
 
 const KEYS: [u8; 192] = [
     0x6C,
@@ -197,12 +197,28 @@ const KEYS: [u8; 192] = [
     0x01,
 ];
 
-// The entry at a place of the table; past the table: none.
-pub fn key(place: usize) -> u8
-    ensures { λ r. ⌜ r ≡ keyAt place ⌝ }
+// A code's entry, and none past the table; a letter's is read from the lock's block. The table is used here alone, and once.
+pub fn entry(code: u8, lock: u8) -> u8
+    ensures { λ r. ⌜ r ≡ entryOf code lock ⌝ }
 {
-    if place < 192 {
-        return KEYS[place];
+    let keys = KEYS;
+    let place = code as usize;
+    if 192 <= place {
+        return 0x80;
     }
-    0x80
+    let own = keys[place];
+    if 64 <= place {
+        return own;
+    }
+    if own < 0x61 {
+        return own;
+    }
+    if 0x7A < own {
+        return own;
+    }
+    let other = place + 64 * (lock as usize);
+    if 192 <= other {
+        return 0x80;
+    }
+    keys[other]
 }

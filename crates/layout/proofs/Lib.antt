@@ -1,10 +1,7 @@
-pub mod Lists
+pub mod Lengths
+pub mod Tables
 pub mod WriteRead
 pub mod ReadWrite
-pub mod Undamaged
-pub mod Reading
-pub mod Judging
-pub mod Fitting
-pub mod Writing
-pub mod Parts
-pub mod Decided
+pub mod Fields
+pub mod Ports
+pub mod States

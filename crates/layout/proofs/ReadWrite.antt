@@ -9,9 +9,10 @@ use native.Mathlib.Nat.{mod-eq-of-lt, mod-add-div}
 use native.Mathlib.Omega.{arith}
 use borrow.Author.Tests.{ne-eqb}
 use lib.Dec.{eqb, ltb}
-use lib.ListN.{length, drop, length-append}
+use lib.ListN.{length, drop}
 use lib.Seq.{drop-at, drop-drop}
 use Rattle.base.specs.Choice.{pick, within}
+use Rattle.base.proofs.Readers.{all-firsts}
 use Rattle.blocks.specs.declared.Device.{Device}
 use Rattle.blocks.specs.declared.Device.the-variants.{E, S, K, P}
 use Rattle.blocks.specs.declared.BlockState.{BlockState}
@@ -30,13 +31,14 @@ use Rattle.editor.specs.declared.ReadColumn.{ReadColumn}
 use Rattle.editor.specs.declared.ReadColumn.the-variants.{Dropped, At}
 use Rattle.console.specs.declared.state.Console.{Console}
 use Rattle.printer.specs.declared.Printer.{Printer}
-use Rattle.state.specs.declared.Stick.{Stick}
-use Rattle.layout.specs.Layout.{low, high, deviceNumber, kindNumber, deviceByte, numberByte, aux1Byte, blocksBytes, tableBytes, phaseBytes, portBytes, consoleBytes, printerBytes, headOf, deviceOf, kindOf, blockOf, tableOf, phaseOf, portOf, readingOf, readingByte, consoleOf, printerOf, stickOf}
+use Rattle.layout.specs.Places.{phaseLength, portLength, devicesPlace, consolePlace, consoleLength, printerPlace, portPlace}
+use Rattle.layout.specs.Stick.{Stick}
+use Rattle.layout.specs.Layout.{lowByte, highByte, deviceNumber, kindNumber, deviceByte, numberByte, aux1Byte, blocksBytes, tableBytes, phaseBytes, portBytes, consoleBytes, printerBytes, headOf, deviceIn, kindIn, blockOf, blocksIn, tableIn, phaseIn, portIn, readingIn, readingByte, consoleIn, printerIn, stickIn}
 use Rattle.layout.specs.InBytes.{PhaseInBytes, ReadingInBytes, InBytes}
-use Rattle.layout.specs.Stands.{blockStands, fourStand, tableStands, unused, runStands, phaseStands, portStands, stands}
-use Rattle.layout.proofs.Lists.{all-firsts}
+use Rattle.layout.specs.Stands.{blockStands, blocksStand, tableStands, unused, runStands, phaseStands, portStands, stands}
+use Rattle.layout.proofs.Lengths.{phase-length, port-length, console-length}
 
-word-same : (n : ℕ) → wordOf (low n) (high n) ≡ n
+word-same : (n : ℕ) → wordOf (lowByte n) (highByte n) ≡ n
 word-same n = mod-add-div n 256
 
 three-same : (n : ℕ) → n < 16777216 → n % 256 + 256 * (n / 256 % 256) + 65536 * (n / 65536 % 256) ≡ n
@@ -45,15 +47,15 @@ three-same n h =
     let l : n / 65536 < 256 = omega arith in
     rw (mod-eq-of-lt l) (omega arith)
 
-device-same : (d : Device) → deviceOf (deviceNumber d) ≡ d
-unfolding deviceOf
+device-same : (d : Device) → deviceIn (deviceNumber d) ≡ d
+unfolding deviceIn
 device-same E = refl
 device-same S = refl
 device-same K = refl
 device-same P = refl
 
-kind-same : (k : Kind) → kindOf (kindNumber k) ≡ k
-unfolding kindOf
+kind-same : (k : Kind) → kindIn (kindNumber k) ≡ k
+unfolding kindIn
 kind-same (Get One) = refl
 kind-same (Get Characters) = refl
 kind-same (Get Record) = refl
@@ -62,7 +64,7 @@ kind-same (Put Characters) = refl
 kind-same (Put Record) = refl
 
 state-same : (s : BlockState) → blockOf (deviceByte s) (numberByte s) (aux1Byte s) ≡ record { state = s }
-unfolding blockOf deviceOf
+unfolding blockOf deviceIn
 state-same Closed = refl
 state-same (Open E number aux1) = refl
 state-same (Open S number aux1) = refl
@@ -81,19 +83,19 @@ module _ (t : Table) (r : List ℕ) where
   abbrev own : ℕ → BlockState
   own i = blockAt t i .state
 
-  table-same : length (t .blocks) ≡ 8 → tableOf (tableBytes t ++ r) ≡ t
-  unfolding blocksBytes
+  pub table-same : length (t .blocks) ≡ 8 → tableIn (tableBytes t ++ r) ≡ t
+  unfolding blocksBytes blocksIn
   table-same e =
       rw (state-same (own 0), state-same (own 1), state-same (own 2), state-same (own 3), state-same (own 4), state-same (own 5), state-same (own 6), state-same (own 7))
       (ap (λ (l : List ControlBlock). record { blocks = l }) (all-firsts closedBlock 8 (t .blocks) e))
 
   table-stands : tableStands (tableBytes t ++ r) ≡ true
-  unfolding tableStands fourStand blocksBytes
+  unfolding blocksStand blocksBytes
   table-stands =
       rw (state-stands (own 0), state-stands (own 1), state-stands (own 2), state-stands (own 3), state-stands (own 4), state-stands (own 5), state-stands (own 6), state-stands (own 7))
 
-phase-same : (p : Phase) (r : List ℕ) → PhaseInBytes p → phaseOf (phaseBytes p ++ r) ≡ p
-unfolding phaseOf phaseBytes
+pub phase-same : (p : Phase) (r : List ℕ) → PhaseInBytes p → phaseIn (phaseBytes p ++ r) ≡ p
+unfolding phaseIn phaseBytes
 phase-same (Gathering g) r h = rw (word-same (g .length), three-same (g .taken) h)
 phase-same (Ready g) r h = rw (word-same (g .length))
 phase-same (Running g) r h = rw (kind-same (g .kind), device-same (g .device), word-same (g .left), word-same (g .place), word-same (g .count))
@@ -120,34 +122,23 @@ phase-stands (Ready g) r = refl
 phase-stands (Running g) r = rw (kind-stands (g .kind), device-stands (g .device))
 phase-stands (Replying g) r = refl
 
-pub phase-length : (p : Phase) → length (phaseBytes p) ≡ 11
-unfolding phaseBytes
-phase-length (Gathering g) = refl
-phase-length (Ready g) = refl
-phase-length (Running g) = refl
-phase-length (Replying g) = refl
-
 module _ (p : Port) (r : List ℕ) where
   joined : portBytes p ++ r ≡ phaseBytes (p .phase) ++ (tableBytes (p .table) ++ r)
   unfolding portBytes
   joined = append-assoc (phaseBytes (p .phase)) (tableBytes (p .table)) r
 
-  past-phase : drop 11 (portBytes p ++ r) ≡ tableBytes (p .table) ++ r
-  past-phase = rw joined (drop-at (phaseBytes (p .phase)) (tableBytes (p .table) ++ r) 11 (phase-length (p .phase)))
+  past-phase : drop phaseLength (portBytes p ++ r) ≡ tableBytes (p .table) ++ r
+  past-phase = rw joined (drop-at (phaseBytes (p .phase)) (tableBytes (p .table) ++ r) phaseLength (phase-length (p .phase)))
 
-  port-same : PhaseInBytes (p .phase) → length (p .table .blocks) ≡ 8 → portOf (portBytes p ++ r) ≡ p
-  unfolding portOf
+  pub port-same : PhaseInBytes (p .phase) → length (p .table .blocks) ≡ 8 → portIn (portBytes p ++ r) ≡ p
+  unfolding portIn
   port-same h e = rw (past-phase, table-same (p .table) r e, joined, phase-same (p .phase) (tableBytes (p .table) ++ r) h)
 
   port-stands : portStands (portBytes p ++ r) ≡ true
   unfolding portStands
   port-stands = rw (past-phase, table-stands (p .table) r, joined, phase-stands (p .phase) (tableBytes (p .table) ++ r))
 
-pub port-length : (p : Port) → length (portBytes p) ≡ 35
-unfolding portBytes blocksBytes
-port-length p = length-append (phaseBytes (p .phase)) (tableBytes (p .table)) ∙ rw (phase-length (p .phase))
-
-reading-same : (c : ReadColumn) → ReadingInBytes c → readingOf (readingByte c) ≡ c
+reading-same : (c : ReadColumn) → ReadingInBytes c → readingIn (readingByte c) ≡ c
 reading-same Dropped h = refl
 reading-same (At column) h =
     let n : column ≡ 255 → ⊥ = λ e. omega arith in
@@ -163,21 +154,13 @@ escape-stands true = refl
 escape-stands false = refl
 
 module _ (c : Console) (r : List ℕ) where
-  console-same : c .row < 256 → ReadingInBytes (c .reading) → consoleOf (consoleBytes c ++ r) ≡ c
-  unfolding consoleOf consoleBytes
+  pub console-same : c .row < 256 → ReadingInBytes (c .reading) → consoleIn (consoleBytes c ++ r) ≡ c
+  unfolding consoleIn consoleBytes
   console-same h k = rw (mod-eq-of-lt h, word-same (c .column), escape-same (c .escape), reading-same (c .reading) k)
 
-printer-same : (p : Printer) (r : List ℕ) → printerOf (printerBytes p ++ r) ≡ p
+pub printer-same : (p : Printer) (r : List ℕ) → printerIn (printerBytes p ++ r) ≡ p
 unfolding printerBytes
 printer-same p r = rw (word-same (p .used))
-
-pub console-length : (c : Console) → length (consoleBytes c) ≡ 10
-unfolding consoleBytes
-console-length c = refl
-
-pub printer-length : (p : Printer) → length (printerBytes p) ≡ 2
-unfolding printerBytes
-printer-length p = refl
 
 module _ (s : Stick) (r : List ℕ) where
   abbrev p0 : List ℕ
@@ -196,24 +179,20 @@ module _ (s : Stick) (r : List ℕ) where
   unfolding headOf
   parts = simp append-assoc
 
-  past-0 : drop 35 (headOf s ++ r) ≡ p1 ++ (c0 ++ (u0 ++ r))
-  past-0 = rw parts (drop-at p0 (p1 ++ (c0 ++ (u0 ++ r))) 35 (port-length (s .port0)))
+  past-0 : drop (portPlace 1) (headOf s ++ r) ≡ p1 ++ (c0 ++ (u0 ++ r))
+  past-0 = rw parts (drop-at p0 (p1 ++ (c0 ++ (u0 ++ r))) portLength (port-length (s .port0)))
 
-  past-1 : drop 70 (headOf s ++ r) ≡ c0 ++ (u0 ++ r)
-  past-1 = sym (drop-drop 35 35 (headOf s ++ r)) ∙ ap (λ (l : List ℕ). drop 35 l) past-0 ∙ drop-at p1 (c0 ++ (u0 ++ r)) 35 (port-length (s .port1))
+  past-1 : drop (devicesPlace + consolePlace) (headOf s ++ r) ≡ c0 ++ (u0 ++ r)
+  past-1 = sym (drop-drop portLength portLength (headOf s ++ r)) ∙ ap (drop portLength) past-0 ∙ drop-at p1 (c0 ++ (u0 ++ r)) portLength (port-length (s .port1))
 
-  past-2 : drop 80 (headOf s ++ r) ≡ u0 ++ r
-  past-2 = sym (drop-drop 10 70 (headOf s ++ r)) ∙ ap (λ (l : List ℕ). drop 10 l) past-1 ∙ drop-at c0 (u0 ++ r) 10 (console-length (s .console))
+  past-2 : drop (devicesPlace + printerPlace) (headOf s ++ r) ≡ u0 ++ r
+  past-2 = sym (drop-drop consoleLength (devicesPlace + consolePlace) (headOf s ++ r)) ∙ ap (drop consoleLength) past-1 ∙ drop-at c0 (u0 ++ r) consoleLength (console-length (s .console))
 
-  pub read-write : InBytes s → stickOf (headOf s ++ r) ≡ s
-  unfolding stickOf
+  pub read-write : InBytes s → stickIn (headOf s ++ r) ≡ s
+  unfolding stickIn
   read-write w =
       rw (past-0, past-1, past-2, parts, port-same (s .port0) (p1 ++ (c0 ++ (u0 ++ r))) (w .phase0) (w .table0), port-same (s .port1) (c0 ++ (u0 ++ r)) (w .phase1) (w .table1), console-same (s .console) (u0 ++ r) (w .row) (w .reading), printer-same (s .printer) r)
 
   pub head-stands : stands (headOf s ++ r) ≡ true
   unfolding stands consoleBytes
   head-stands = rw (past-0, past-1, parts, port-stands (s .port0) (p1 ++ (c0 ++ (u0 ++ r))), port-stands (s .port1) (c0 ++ (u0 ++ r)), escape-stands (s .console .escape))
-
-pub head-length : (s : Stick) → length (headOf s) ≡ 82
-unfolding headOf
-head-length s = simp (length-append, port-length (s .port0), port-length (s .port1), console-length (s .console), printer-length (s .printer))

@@ -3,29 +3,35 @@
 use mathlib.Core.Path.{_≡_, _∙_, refl, sym, ap, subst}
 use mathlib.Core.Bool.{Bool, true, false}
 use mathlib.Core.List.{List, [], _∷_, _++_}
-use Prim.Native.Nat.{ℕ, _+_, _*_, _/_, _%_, _≤_, _<_}
-use native.Mathlib.Nat.{mod-eq-of-lt}
+use Prim.Native.Nat.{ℕ, zero, suc, _+_, _*_, _/_, _%_, _≤_, _<_}
+use native.Mathlib.Nat.{add-zero, zero-add, mod-eq-of-lt}
 use native.Mathlib.Omega.{arith}
 use borrow.Author.Tests.{eq-eqb, ne-eqb, eqb-true, ltb-true, leb-true}
 use lib.Dec.{T, eqb, leb, ltb}
 use lib.ListN.{length, take, drop, length-drop, take-append-drop}
-use lib.Seq.{getD-drop, take-add, drop-drop, take-all}
+use lib.Seq.{getD-drop, take-add, take-all}
 use Rattle.base.specs.Choice.{pick, and, within}
+use Rattle.base.specs.Parts.{part}
 use Rattle.base.proofs.Choices.{and-left, and-right, by-eq}
 use Rattle.base.proofs.Table.{on}
+use Rattle.base.proofs.Parts.{cat, part-add}
+use Rattle.base.proofs.Readers.{firsts, take-firsts}
+use Rattle.blocks.specs.declared.Table.{Table}
+use Rattle.blocks.specs.Blocks.{blockAt}
 use Rattle.wire.specs.Messages.{wordOf}
-use Rattle.layout.specs.Layout.{low, high, deviceNumber, kindNumber, blockBytes, blocksBytes, tableBytes, phaseBytes, portBytes, consoleBytes, printerBytes, headOf, at, deviceOf, kindOf, blockOf, blockIn, tableOf, phaseOf, portOf, readingOf, readingByte, consoleOf, printerOf, stickOf}
+use Rattle.layout.specs.Places.{phaseLength, blockLength, tableLength, portLength, devicesPlace, consolePlace, consoleLength, printerPlace, printerLength, devicesLength, roomsPlace, portPlace}
+use Rattle.layout.specs.Layout.{lowByte, highByte, deviceNumber, kindNumber, blockBytes, blocksBytes, tableBytes, phaseBytes, portBytes, consoleBytes, printerBytes, headOf, byteAt, deviceIn, kindIn, blockOf, blockIn, tableIn, phaseIn, portIn, readingIn, readingByte, consoleIn, printerIn, stickIn}
 use Rattle.layout.specs.InBytes.{Bytes}
-use Rattle.layout.specs.Stands.{blockStands, blockStandsIn, fourStand, tableStands, unused, runStands, phaseStands, portStands, stands}
-use Rattle.layout.proofs.Lists.{firsts, take-firsts, cat}
+use Rattle.layout.specs.Stands.{blockStands, blockStandsIn, blocksStand, tableStands, unused, runStands, phaseStands, portStands, consoleStands, stands}
+use Rattle.layout.proofs.Tables.{block-there}
 
 bytes-drop : (n : ℕ) (xs : List ℕ) → Bytes xs → Bytes (drop n xs)
 bytes-drop n xs w i = rw (getD-drop n xs i 0) (w (n + i))
 
-low-word : (a b : ℕ) → a < 256 → low (wordOf a b) ≡ a
+low-word : (a b : ℕ) → a < 256 → lowByte (wordOf a b) ≡ a
 low-word a b h = omega arith
 
-high-word : (a b : ℕ) → a < 256 → high (wordOf a b) ≡ b
+high-word : (a b : ℕ) → a < 256 → highByte (wordOf a b) ≡ b
 high-word a b h = omega arith
 
 module _ (a b c : ℕ) (h : a < 256) (k : b < 256) (l : c < 256) where
@@ -42,13 +48,13 @@ tested : (t : Bool) → T t → t ≡ true
 tested true u = refl
 tested false u = absurd u
 
-device-back : (n : ℕ) → 1 ≤ n → n < 5 → deviceNumber (deviceOf n) ≡ n
-unfolding deviceOf
-device-back n l h = eqb-true _ _ (tested _ (on (λ (k : ℕ). eqb (deviceNumber (deviceOf k)) k) 1 4 tt n l h))
+device-back : (n : ℕ) → 1 ≤ n → n < 5 → deviceNumber (deviceIn n) ≡ n
+unfolding deviceIn
+device-back n l h = eqb-true _ _ (tested _ (on (λ (k : ℕ). eqb (deviceNumber (deviceIn k)) k) 1 4 tt n l h))
 
-kind-back : (n : ℕ) → n < 6 → kindNumber (kindOf n) ≡ n
-unfolding kindOf
-kind-back n h = eqb-true _ _ (tested _ (on (λ (k : ℕ). eqb (kindNumber (kindOf k)) k) 0 6 tt n (omega arith) h))
+kind-back : (n : ℕ) → n < 6 → kindNumber (kindIn n) ≡ n
+unfolding kindIn
+kind-back n h = eqb-true _ _ (tested _ (on (λ (k : ℕ). eqb (kindNumber (kindIn k)) k) 0 6 tt n (omega arith) h))
 
 module _ (device number aux1 : ℕ) where
   block-back : blockStands device number aux1 ≡ true → blockBytes (blockOf device number aux1) ≡ device ∷ number ∷ aux1 ∷ []
@@ -65,31 +71,35 @@ module _ (device number aux1 : ℕ) where
       rw (ne-eqb device 0 z, device-back device (omega arith) (ltb-true device 5 u)))
 
 module _ (b : List ℕ) where
-  block-in-back : (place : ℕ) → blockStandsIn b place ≡ true → blockBytes (blockIn b place) ≡ at b place ∷ at b (place + 1) ∷ at b (place + 2) ∷ []
-  block-in-back place = block-back (at b place) (at b (place + 1)) (at b (place + 2))
+  block-in-back : (place : ℕ) → blockStandsIn b place ≡ true → place + blockLength ≤ length b → blockBytes (blockIn b place) ≡ part place blockLength b
+  block-in-back place e h =
+      let p : place + 1 ≡ suc place = omega arith in
+      let q : place + 2 ≡ suc (suc place) = omega arith in
+      block-back (byteAt b place) (byteAt b (place + 1)) (byteAt b (place + 2)) e ∙ sym (take-firsts 0 blockLength place b h ∙ rw (p, q))
 
-  -- four blocks, and what follows them
-  four-back : (place : ℕ) (xs ys : List ℕ) → fourStand b place ≡ true → xs ≡ ys
-      → blockBytes (blockIn b place) ++ (blockBytes (blockIn b (place + 3)) ++ (blockBytes (blockIn b (place + 6)) ++ (blockBytes (blockIn b (place + 9)) ++ xs)))
-      ≡ (at b place ∷ at b (place + 1) ∷ at b (place + 2) ∷ []) ++ ((at b (place + 3) ∷ at b (place + 3 + 1) ∷ at b (place + 3 + 2) ∷ []) ++ ((at b (place + 6) ∷ at b (place + 6 + 1) ∷ at b (place + 6 + 2) ∷ []) ++ ((at b (place + 9) ∷ at b (place + 9 + 1) ∷ at b (place + 9 + 2) ∷ []) ++ ys)))
-  unfolding fourStand
-  four-back place xs ys e p =
-      let t0 = blockStandsIn b place in
-      let t1 = blockStandsIn b (place + 3) in
-      let t2 = blockStandsIn b (place + 6) in
-      let t3 = blockStandsIn b (place + 9) in
-      let e1 = and-right t0 (and t1 (and t2 t3)) e in
-      let e2 = and-right t1 (and t2 t3) e1 in
-      cat (block-in-back place (and-left t0 (and t1 (and t2 t3)) e))
-      (cat (block-in-back (place + 3) (and-left t1 (and t2 t3) e1))
-      (cat (block-in-back (place + 6) (and-left t2 t3 e2))
-      (cat (block-in-back (place + 9) (and-right t2 t3 e2)) p)))
+  -- the blocks of a table that stand at a place of the bytes, and the next ones
+  blocks-back : (t : Table) (n from place : ℕ) → ((i : ℕ) → i < n → blockAt t (from + i) ≡ blockIn b (place + blockLength * i))
+      → blocksStand b place n ≡ true → place + blockLength * n ≤ length b → blocksBytes t from n ≡ part place (blockLength * n) b
+  unfolding blocksStand blocksBytes
+  blocks-back t zero from place own e h = refl
+  blocks-back t (suc n) from place own e h =
+      let first = blockStandsIn b place in
+      let rest = blocksStand b (place + blockLength) n in
+      let here : blockAt t from ≡ blockIn b place = ap (blockAt t) (sym (add-zero from)) ∙ own 0 (omega arith) ∙ ap (blockIn b) (add-zero place) in
+      let next : (i : ℕ) → i < n → blockAt t (suc from + i) ≡ blockIn b (place + blockLength + blockLength * i)
+      = λ i k. (
+      let f : suc from + i ≡ from + suc i = omega arith in
+      let g : place + blockLength * suc i ≡ place + blockLength + blockLength * i = omega arith in
+      ap (blockAt t) f ∙ own (suc i) (omega arith) ∙ ap (blockIn b) g
+      ) in
+      let l : blockLength + blockLength * n ≡ blockLength * suc n = omega arith in
+      cat (ap blockBytes here ∙ block-in-back place (and-left first rest e) (omega arith))
+      (blocks-back t n (suc from) (place + blockLength) next (and-right first rest e) (omega arith))
+      ∙ sym (part-add place blockLength (blockLength * n) b) ∙ ap (λ (k : ℕ). part place k b) l
 
-  table-back : tableStands b ≡ true → tableBytes (tableOf b) ≡ firsts 0 24 0 b
-  unfolding tableStands blocksBytes
-  table-back e =
-      four-back 0 _ _ (and-left (fourStand b 0) (fourStand b 12) e)
-      (four-back 12 [] [] (and-right (fourStand b 0) (fourStand b 12) e) refl)
+  table-back : tableStands b ≡ true → tableLength ≤ length b → tableBytes (tableIn b) ≡ take tableLength b
+  table-back e h =
+      blocks-back (tableIn b) 8 0 0 (λ i k. ap (blockAt (tableIn b)) (zero-add i) ∙ block-there b i k ∙ ap (blockIn b) (sym (zero-add (blockLength * i)))) e h
 
 module _ (a b c d : ℕ) where
   zeros : unused a b c d ≡ true → (a ≡ 0) × ((b ≡ 0) × ((c ≡ 0) × (d ≡ 0)))
@@ -108,63 +118,63 @@ module _ (a b c d : ℕ) where
       )
 
 module _ (b : List ℕ) (w : Bytes b) where
-  phase-back : phaseStands b ≡ true → phaseBytes (phaseOf b) ≡ firsts 0 11 0 b
-  unfolding phaseStands phaseOf phaseBytes runStands
+  phase-back : phaseStands b ≡ true → phaseBytes (phaseIn b) ≡ firsts 0 phaseLength 0 b
+  unfolding phaseStands phaseIn phaseBytes runStands
   phase-back e =
-      by-eq (at b 0) 0
+      by-eq (byteAt b 0) 0
       (λ z.
-      let t = eq-eqb (at b 0) 0 z in
-      let u = zeros (at b 7) (at b 8) (at b 9) (at b 10) (rw t at e) in
-      let t0 = low-three (at b 4) (at b 5) (at b 6) (w 4) (w 5) (w 6) in
-      let t1 = middle-three (at b 4) (at b 5) (at b 6) (w 4) (w 5) (w 6) in
-      let t2 = high-three (at b 4) (at b 5) (at b 6) (w 4) (w 5) (w 6) in
-      rw (t, low-word (at b 2) (at b 3) (w 2), high-word (at b 2) (at b 3) (w 2), t0, t1, t2, u .0, u .1 .0, u .1 .1 .0, u .1 .1 .1, z))
-      (λ n0. by-eq (at b 0) 1
+      let t = eq-eqb (byteAt b 0) 0 z in
+      let u = zeros (byteAt b 7) (byteAt b 8) (byteAt b 9) (byteAt b 10) (rw t at e) in
+      let t0 = low-three (byteAt b 4) (byteAt b 5) (byteAt b 6) (w 4) (w 5) (w 6) in
+      let t1 = middle-three (byteAt b 4) (byteAt b 5) (byteAt b 6) (w 4) (w 5) (w 6) in
+      let t2 = high-three (byteAt b 4) (byteAt b 5) (byteAt b 6) (w 4) (w 5) (w 6) in
+      rw (t, low-word (byteAt b 2) (byteAt b 3) (w 2), high-word (byteAt b 2) (byteAt b 3) (w 2), t0, t1, t2, u .0, u .1 .0, u .1 .1 .0, u .1 .1 .1, z))
+      (λ n0. by-eq (byteAt b 0) 1
       (λ z.
-      let s0 = ne-eqb (at b 0) 0 n0 in
-      let s1 = eq-eqb (at b 0) 1 z in
-      let four = unused (at b 7) (at b 8) (at b 9) (at b 10) in
-      let three = unused 0 (at b 4) (at b 5) (at b 6) in
+      let s0 = ne-eqb (byteAt b 0) 0 n0 in
+      let s1 = eq-eqb (byteAt b 0) 1 z in
+      let four = unused (byteAt b 7) (byteAt b 8) (byteAt b 9) (byteAt b 10) in
+      let three = unused 0 (byteAt b 4) (byteAt b 5) (byteAt b 6) in
       let m : and three four ≡ true = rw (s0, s1) at e in
-      let v = zeros 0 (at b 4) (at b 5) (at b 6) (and-left three four m) in
-      let u = zeros (at b 7) (at b 8) (at b 9) (at b 10) (and-right three four m) in
-      rw (s0, s1, low-word (at b 2) (at b 3) (w 2), high-word (at b 2) (at b 3) (w 2), v .1 .0, v .1 .1 .0, v .1 .1 .1, u .0, u .1 .0, u .1 .1 .0, u .1 .1 .1, z))
-      (λ n1. by-eq (at b 0) 2
+      let v = zeros 0 (byteAt b 4) (byteAt b 5) (byteAt b 6) (and-left three four m) in
+      let u = zeros (byteAt b 7) (byteAt b 8) (byteAt b 9) (byteAt b 10) (and-right three four m) in
+      rw (s0, s1, low-word (byteAt b 2) (byteAt b 3) (w 2), high-word (byteAt b 2) (byteAt b 3) (w 2), v .1 .0, v .1 .1 .0, v .1 .1 .1, u .0, u .1 .0, u .1 .1 .0, u .1 .1 .1, z))
+      (λ n1. by-eq (byteAt b 0) 2
       (λ z.
-      let s0 = ne-eqb (at b 0) 0 n0 in
-      let s1 = ne-eqb (at b 0) 1 n1 in
-      let s2 = eq-eqb (at b 0) 2 z in
-      let m : and (ltb (at b 1) 6) (within 1 4 (at b 2)) ≡ true = rw (s0, s1, s2) at e in
-      let k = ltb-true (at b 1) 6 (and-left (ltb (at b 1) 6) (within 1 4 (at b 2)) m) in
-      let d = and-right (ltb (at b 1) 6) (within 1 4 (at b 2)) m in
-      let l = leb-true 1 (at b 2) (and-left (leb 1 (at b 2)) (leb (at b 2) 4) d) in
-      let h = leb-true (at b 2) 4 (and-right (leb 1 (at b 2)) (leb (at b 2) 4) d) in
-      rw (s0, s1, s2, kind-back (at b 1) k, device-back (at b 2) l (omega arith), low-word (at b 4) (at b 5) (w 4), high-word (at b 4) (at b 5) (w 4), low-word (at b 6) (at b 7) (w 6), high-word (at b 6) (at b 7) (w 6), low-word (at b 8) (at b 9) (w 8), high-word (at b 8) (at b 9) (w 8), z))
-      (λ n2. by-eq (at b 0) 3
+      let s0 = ne-eqb (byteAt b 0) 0 n0 in
+      let s1 = ne-eqb (byteAt b 0) 1 n1 in
+      let s2 = eq-eqb (byteAt b 0) 2 z in
+      let m : and (ltb (byteAt b 1) 6) (within 1 4 (byteAt b 2)) ≡ true = rw (s0, s1, s2) at e in
+      let k = ltb-true (byteAt b 1) 6 (and-left (ltb (byteAt b 1) 6) (within 1 4 (byteAt b 2)) m) in
+      let d = and-right (ltb (byteAt b 1) 6) (within 1 4 (byteAt b 2)) m in
+      let l = leb-true 1 (byteAt b 2) (and-left (leb 1 (byteAt b 2)) (leb (byteAt b 2) 4) d) in
+      let h = leb-true (byteAt b 2) 4 (and-right (leb 1 (byteAt b 2)) (leb (byteAt b 2) 4) d) in
+      rw (s0, s1, s2, kind-back (byteAt b 1) k, device-back (byteAt b 2) l (omega arith), low-word (byteAt b 4) (byteAt b 5) (w 4), high-word (byteAt b 4) (byteAt b 5) (w 4), low-word (byteAt b 6) (byteAt b 7) (w 6), high-word (byteAt b 6) (byteAt b 7) (w 6), low-word (byteAt b 8) (byteAt b 9) (w 8), high-word (byteAt b 8) (byteAt b 9) (w 8), z))
+      (λ n2. by-eq (byteAt b 0) 3
       (λ z.
-      let s0 = ne-eqb (at b 0) 0 n0 in
-      let s1 = ne-eqb (at b 0) 1 n1 in
-      let s2 = ne-eqb (at b 0) 2 n2 in
-      let s3 = eq-eqb (at b 0) 3 z in
-      let four = unused (at b 7) (at b 8) (at b 9) (at b 10) in
-      let two = unused 0 0 (at b 5) (at b 6) in
+      let s0 = ne-eqb (byteAt b 0) 0 n0 in
+      let s1 = ne-eqb (byteAt b 0) 1 n1 in
+      let s2 = ne-eqb (byteAt b 0) 2 n2 in
+      let s3 = eq-eqb (byteAt b 0) 3 z in
+      let four = unused (byteAt b 7) (byteAt b 8) (byteAt b 9) (byteAt b 10) in
+      let two = unused 0 0 (byteAt b 5) (byteAt b 6) in
       let m : and two four ≡ true = rw (s0, s1, s2, s3) at e in
-      let v = zeros 0 0 (at b 5) (at b 6) (and-left two four m) in
-      let u = zeros (at b 7) (at b 8) (at b 9) (at b 10) (and-right two four m) in
-      rw (s0, s1, s2, low-word (at b 1) (at b 2) (w 1), high-word (at b 1) (at b 2) (w 1), low-word (at b 3) (at b 4) (w 3), high-word (at b 3) (at b 4) (w 3), v .1 .1 .0, v .1 .1 .1, u .0, u .1 .0, u .1 .1 .0, u .1 .1 .1, z))
+      let v = zeros 0 0 (byteAt b 5) (byteAt b 6) (and-left two four m) in
+      let u = zeros (byteAt b 7) (byteAt b 8) (byteAt b 9) (byteAt b 10) (and-right two four m) in
+      rw (s0, s1, s2, low-word (byteAt b 1) (byteAt b 2) (w 1), high-word (byteAt b 1) (byteAt b 2) (w 1), low-word (byteAt b 3) (byteAt b 4) (w 3), high-word (byteAt b 3) (byteAt b 4) (w 3), v .1 .1 .0, v .1 .1 .1, u .0, u .1 .0, u .1 .1 .0, u .1 .1 .1, z))
       (λ n3.
-      let m : false ≡ true = rw (ne-eqb (at b 0) 0 n0, ne-eqb (at b 0) 1 n1, ne-eqb (at b 0) 2 n2, ne-eqb (at b 0) 3 n3) at e in
+      let m : false ≡ true = rw (ne-eqb (byteAt b 0) 0 n0, ne-eqb (byteAt b 0) 1 n1, ne-eqb (byteAt b 0) 2 n2, ne-eqb (byteAt b 0) 3 n3) at e in
       absurd (subst T (sym m) tt)))))
 
-  port-back : portStands b ≡ true → 35 ≤ length b → portBytes (portOf b) ≡ take 35 b
-  unfolding portStands portBytes portOf
+  port-back : portStands b ≡ true → portLength ≤ length b → portBytes (portIn b) ≡ take portLength b
+  unfolding portStands portBytes portIn
   port-back e h =
-      let l : 24 ≤ length (drop 11 b) = simp length-drop (omega arith) in
-      cat (phase-back (and-left (phaseStands b) (tableStands (drop 11 b)) e)) (table-back (drop 11 b) (and-right (phaseStands b) (tableStands (drop 11 b)) e))
-      ∙ cat (sym (take-firsts 0 11 0 b (omega arith))) (sym (take-firsts 0 24 0 (drop 11 b) l))
-      ∙ sym (take-add 11 24 b)
+      let phase = phaseStands b in
+      let table = tableStands (drop phaseLength b) in
+      cat (phase-back (and-left phase table e) ∙ sym (take-firsts 0 phaseLength 0 b (omega arith))) (table-back (drop phaseLength b) (and-right phase table e) (simp length-drop (omega arith)))
+      ∙ sym (take-add phaseLength tableLength b)
 
-  reading-back : (n : ℕ) → n < 256 → readingByte (readingOf n) ≡ n
+  reading-back : (n : ℕ) → n < 256 → readingByte (readingIn n) ≡ n
   reading-back n h =
       by-eq n 255
       (λ z. rw (eq-eqb n 255 z, z))
@@ -173,43 +183,44 @@ module _ (b : List ℕ) (w : Bytes b) where
   escape-back : (n : ℕ) → n < 2 → pick (eqb n 1) 1 0 ≡ n
   escape-back n h = by-eq n 1 (λ z. rw (eq-eqb n 1 z, z)) (λ z. let o : n ≡ 0 = omega arith in rw (ne-eqb n 1 z, o))
 
-  console-back : ltb (at b 5) 2 ≡ true → 10 ≤ length b → consoleBytes (consoleOf b) ≡ take 10 b
-  unfolding consoleOf consoleBytes
+  console-back : consoleStands b ≡ true → consoleLength ≤ length b → consoleBytes (consoleIn b) ≡ take consoleLength b
+  unfolding consoleIn consoleBytes
   console-back e h =
-      rw (mod-eq-of-lt (w 1), low-word (at b 2) (at b 3) (w 2), high-word (at b 2) (at b 3) (w 2), escape-back (at b 5) (ltb-true (at b 5) 2 e), reading-back (at b 6) (w 6))
-      (sym (take-firsts 0 10 0 b (omega arith)))
+      rw (mod-eq-of-lt (w 1), low-word (byteAt b 2) (byteAt b 3) (w 2), high-word (byteAt b 2) (byteAt b 3) (w 2), escape-back (byteAt b 5) (ltb-true (byteAt b 5) 2 e), reading-back (byteAt b 6) (w 6))
+      (sym (take-firsts 0 consoleLength 0 b (omega arith)))
 
-  printer-back : 2 ≤ length b → printerBytes (printerOf b) ≡ take 2 b
+  printer-back : printerLength ≤ length b → printerBytes (printerIn b) ≡ take printerLength b
   unfolding printerBytes
-  printer-back h = rw (low-word (at b 0) (at b 1) (w 0), high-word (at b 0) (at b 1) (w 0)) (sym (take-firsts 0 2 0 b (omega arith)))
+  printer-back h = rw (low-word (byteAt b 0) (byteAt b 1) (w 0), high-word (byteAt b 0) (byteAt b 1) (w 0)) (sym (take-firsts 0 printerLength 0 b (omega arith)))
 
-last-parts : (b : List ℕ) → take 12 (drop 35 (drop 35 b)) ≡ take 10 (drop 70 b) ++ take 2 (drop 80 b)
-last-parts b = rw (drop-drop 35 35 b, ← drop-drop 10 70 b) (take-add 10 2 (drop 70 b))
-
-module _ (b : List ℕ) (w : Bytes b) (e : stands b ≡ true) (h : 82 ≤ length b) where
+module _ (b : List ℕ) (w : Bytes b) (e : stands b ≡ true) (h : roomsPlace ≤ length b) where
   -- the head of a longer list of bytes
-  pub head-back : headOf (stickOf b) ≡ take 82 b
-  unfolding stands headOf stickOf
+  pub head-back : headOf (stickIn b) ≡ take roomsPlace b
+  unfolding stands headOf stickIn
   head-back =
       let t0 = portStands b in
-      let t1 = portStands (drop 35 b) in
-      let t2 = ltb (at (drop 70 b) 5) 2 in
+      let t1 = portStands (drop (portPlace 1) b) in
+      let t2 = consoleStands (drop (devicesPlace + consolePlace) b) in
       let e1 = and-right t0 (and t1 t2) e in
-      let l1 : 35 ≤ length (drop 35 b) = simp length-drop (omega arith) in
-      let l2 : 10 ≤ length (drop 70 b) = simp length-drop (omega arith) in
-      let l3 : 2 ≤ length (drop 80 b) = simp length-drop (omega arith) in
+      let l1 : portLength ≤ length (drop (portPlace 1) b) = simp length-drop (omega arith) in
+      let l2 : consoleLength ≤ length (drop (devicesPlace + consolePlace) b) = simp length-drop (omega arith) in
+      let l3 : printerLength ≤ length (drop (devicesPlace + printerPlace) b) = simp length-drop (omega arith) in
       cat (port-back b w (and-left t0 (and t1 t2) e) (omega arith))
-      (cat (port-back (drop 35 b) (bytes-drop 35 b w) (and-left t1 t2 e1) l1)
-      (cat (console-back (drop 70 b) (bytes-drop 70 b w) (and-right t1 t2 e1) l2)
-      (printer-back (drop 80 b) (bytes-drop 80 b w) l3)))
-      ∙ sym (take-add 35 47 b ∙ cat {a = take 35 b} refl (take-add 35 12 (drop 35 b) ∙ cat {a = take 35 (drop 35 b)} refl (last-parts b)))
+      (cat (port-back (drop (portPlace 1) b) (bytes-drop (portPlace 1) b w) (and-left t1 t2 e1) l1)
+      (cat (console-back (drop (devicesPlace + consolePlace) b) (bytes-drop (devicesPlace + consolePlace) b w) (and-right t1 t2 e1) l2)
+      (printer-back (drop (devicesPlace + printerPlace) b) (bytes-drop (devicesPlace + printerPlace) b w) l3)))
+      ∙ sym (
+      part-add 0 portLength (portLength + devicesLength) b
+      ∙ ap (λ (r : List ℕ). part 0 portLength b ++ r)
+      (part-add portLength portLength devicesLength b ∙ ap (λ (r : List ℕ). part portLength portLength b ++ r) (part-add devicesPlace consoleLength printerLength b))
+      )
 
   -- two states that stand are two sticks: from the stick the bytes come back
-  pub write-read : length b ≡ 82 → headOf (stickOf b) ≡ b
-  write-read l = head-back ∙ take-all 82 b (omega arith)
+  pub write-read : length b ≡ roomsPlace → headOf (stickIn b) ≡ b
+  write-read l = head-back ∙ take-all roomsPlace b (omega arith)
 
-  pub state-back : headOf (stickOf b) ++ drop 82 b ≡ b
-  state-back = cat head-back refl ∙ take-append-drop 82 b
+  pub state-back : headOf (stickIn b) ++ drop roomsPlace b ≡ b
+  state-back = cat head-back refl ∙ take-append-drop roomsPlace b
 
-pub two-sticks : (a b : List ℕ) → Bytes a → Bytes b → stands a ≡ true → stands b ≡ true → length a ≡ 82 → length b ≡ 82 → stickOf a ≡ stickOf b → a ≡ b
+pub two-sticks : (a b : List ℕ) → Bytes a → Bytes b → stands a ≡ true → stands b ≡ true → length a ≡ roomsPlace → length b ≡ roomsPlace → stickIn a ≡ stickIn b → a ≡ b
 two-sticks a b v w e f k l q = sym (write-read a v e (omega arith) k) ∙ ap headOf q ∙ write-read b w f (omega arith) l

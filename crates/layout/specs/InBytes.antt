@@ -9,12 +9,12 @@ use Rattle.blocks.specs.declared.Phase.{Phase}
 use Rattle.blocks.specs.declared.Phase.the-variants.{Gathering, Ready, Running, Replying}
 use Rattle.editor.specs.declared.ReadColumn.{ReadColumn}
 use Rattle.editor.specs.declared.ReadColumn.the-variants.{Dropped, At}
-use Rattle.state.specs.declared.Stick.{Stick}
-use Rattle.layout.specs.Layout.{at}
+use Rattle.layout.specs.Stick.{Stick}
+use Rattle.layout.specs.Layout.{byteAt}
 
 -- every element is a byte
 abbrev pub Bytes : List ℕ → Type 0
-Bytes xs = (i : ℕ) → at xs i < 256
+Bytes xs = (i : ℕ) → byteAt xs i < 256
 
 -- the bytes taken go into three bytes
 abbrev pub PhaseInBytes : Phase → Type 0

@@ -1,17 +1,10 @@
--- A stick as bytes: where each number of its state stands in the 82 bytes of the head. The rooms follow the head in the lent
--- state. Two-byte numbers are low byte first. A byte that a phase does not use is 0.
---
---      0  port 0: 11 bytes of phase, then eight blocks of 3 bytes
---     35  port 1, the same
---     70  the console, 10 bytes
---     80  the printer's used length, 2 bytes
---
+-- A stick as bytes: where each number of its state stands in the head of the lent state, part by part; the parts' own places are those
+-- of Places. Two-byte numbers are low byte first. A byte that a phase does not use is 0.
 -- Assumes nothing.
-use mathlib.Core.Bool.{Bool, true, false}
 use mathlib.Core.List.{List, [], _∷_, _++_}
-use Prim.Native.Nat.{ℕ, zero, suc, _+_, _*_, _/_, _%_, _≤_}
+use Prim.Native.Nat.{ℕ, zero, suc, _+_, _*_, _/_, _%_}
 use lib.Dec.{eqb}
-use lib.ListN.{length, getD, drop}
+use lib.ListN.{getD, drop}
 use Rattle.base.specs.Choice.{pick}
 use Rattle.blocks.specs.declared.Device.{Device}
 use Rattle.blocks.specs.declared.Device.the-variants.{E, S, K, P}
@@ -31,27 +24,20 @@ use Rattle.blocks.specs.declared.Phase.{Phase}
 use Rattle.blocks.specs.declared.Phase.the-variants.{Gathering, Ready, Running, Replying}
 use Rattle.blocks.specs.declared.Port.{Port}
 use Rattle.blocks.specs.Blocks.{closedBlock, openBlock, blockAt}
-use Rattle.wire.specs.Messages.{wordOf}
+use Rattle.wire.specs.Messages.{wordAt}
 use Rattle.editor.specs.declared.ReadColumn.{ReadColumn}
 use Rattle.editor.specs.declared.ReadColumn.the-variants.{Dropped, At}
 use Rattle.console.specs.declared.state.Console.{Console}
 use Rattle.printer.specs.declared.Printer.{Printer}
-use Rattle.state.specs.declared.Stick.{Stick}
-
--- the bytes of the head
-abbrev pub headLength : ℕ
-headLength = 82
-
--- a list that has a head
-pub record Headed (bytes : List ℕ) : Type 0 where
-  pub head : headLength ≤ length bytes
+use Rattle.layout.specs.Places.{phaseLength, blockLength, devicesPlace, consolePlace, printerPlace, roomsPlace, portPlace}
+use Rattle.layout.specs.Stick.{Stick, Lent, lent}
 
 -- of a number its low byte and its high byte
-abbrev pub low : ℕ → ℕ
-low n = n % 256
+abbrev pub lowByte : ℕ → ℕ
+lowByte n = n % 256
 
-abbrev pub high : ℕ → ℕ
-high n = n / 256
+abbrev pub highByte : ℕ → ℕ
+highByte n = n / 256
 
 -- 1 E, 2 S, 3 K, 4 P
 abbrev pub deviceNumber : Device → ℕ
@@ -102,14 +88,14 @@ tableBytes table = blocksBytes table 0 8
 -- the phase, 0 to 3, and its ten bytes of numbers
 unfoldable pub phaseBytes : Phase → List ℕ
 phaseBytes (Gathering g) =
-    0 ∷ g .tag ∷ low (g .length) ∷ high (g .length) ∷ g .taken % 256 ∷ g .taken / 256 % 256 ∷ g .taken / 65536 % 256
+    0 ∷ g .tag ∷ lowByte (g .length) ∷ highByte (g .length) ∷ g .taken % 256 ∷ g .taken / 256 % 256 ∷ g .taken / 65536 % 256
     ∷ 0 ∷ 0 ∷ 0 ∷ 0 ∷ []
-phaseBytes (Ready h) = 1 ∷ h .tag ∷ low (h .length) ∷ high (h .length) ∷ 0 ∷ 0 ∷ 0 ∷ 0 ∷ 0 ∷ 0 ∷ 0 ∷ []
+phaseBytes (Ready h) = 1 ∷ h .tag ∷ lowByte (h .length) ∷ highByte (h .length) ∷ 0 ∷ 0 ∷ 0 ∷ 0 ∷ 0 ∷ 0 ∷ 0 ∷ []
 phaseBytes (Running r) =
-    2 ∷ kindNumber (r .kind) ∷ deviceNumber (r .device) ∷ r .iocb ∷ low (r .left) ∷ high (r .left)
-    ∷ low (r .place) ∷ high (r .place) ∷ low (r .count) ∷ high (r .count) ∷ r .a ∷ []
+    2 ∷ kindNumber (r .kind) ∷ deviceNumber (r .device) ∷ r .iocb ∷ lowByte (r .left) ∷ highByte (r .left)
+    ∷ lowByte (r .place) ∷ highByte (r .place) ∷ lowByte (r .count) ∷ highByte (r .count) ∷ r .a ∷ []
 phaseBytes (Replying r) =
-    3 ∷ low (r .length) ∷ high (r .length) ∷ low (r .given) ∷ high (r .given) ∷ 0 ∷ 0 ∷ 0 ∷ 0 ∷ 0 ∷ 0 ∷ []
+    3 ∷ lowByte (r .length) ∷ highByte (r .length) ∷ lowByte (r .given) ∷ highByte (r .given) ∷ 0 ∷ 0 ∷ 0 ∷ 0 ∷ 0 ∷ 0 ∷ []
 
 unfoldable pub portBytes : Port → List ℕ
 portBytes port = phaseBytes (port .phase) ++ tableBytes (port .table)
@@ -121,28 +107,25 @@ readingByte (At column) = column % 256
 
 unfoldable pub consoleBytes : Console → List ℕ
 consoleBytes c =
-    c .mode ∷ c .row % 256 ∷ low (c .column) ∷ high (c .column) ∷ c .last ∷ pick (c .escape) 1 0 ∷ readingByte (c .reading)
+    c .mode ∷ c .row % 256 ∷ lowByte (c .column) ∷ highByte (c .column) ∷ c .last ∷ pick (c .escape) 1 0 ∷ readingByte (c .reading)
     ∷ c .keyboard .code ∷ c .keyboard .lock ∷ c .keyboard .inverse ∷ []
 
 unfoldable pub printerBytes : Printer → List ℕ
-printerBytes p = low (p .used) ∷ high (p .used) ∷ []
+printerBytes p = lowByte (p .used) ∷ highByte (p .used) ∷ []
 
 -- the head of a stick
 unfoldable pub headOf : Stick → List ℕ
 headOf s = portBytes (s .port0) ++ (portBytes (s .port1) ++ (consoleBytes (s .console) ++ printerBytes (s .printer)))
 
 -- And back: what the bytes say. Each of these looks at its own bytes only, from the first byte of the list on.
-abbrev pub at : List ℕ → ℕ → ℕ
-at bytes place = getD bytes place 0
+abbrev pub byteAt : List ℕ → ℕ → ℕ
+byteAt bytes place = getD bytes place 0
 
-abbrev pub wordAt : List ℕ → ℕ → ℕ
-wordAt bytes place = wordOf (at bytes place) (at bytes (place + 1))
+unfoldable pub deviceIn : ℕ → Device
+deviceIn n = pick (eqb n 1) E (pick (eqb n 2) S (pick (eqb n 3) K P))
 
-unfoldable pub deviceOf : ℕ → Device
-deviceOf n = pick (eqb n 1) E (pick (eqb n 2) S (pick (eqb n 3) K P))
-
-unfoldable pub kindOf : ℕ → Kind
-kindOf n =
+unfoldable pub kindIn : ℕ → Kind
+kindIn n =
     pick (eqb n 0) (Get One)
     (pick (eqb n 1) (Get Characters)
     (pick (eqb n 2) (Get Record)
@@ -150,65 +133,77 @@ kindOf n =
     (pick (eqb n 4) (Put Characters) (Put Record)))))
 
 unfoldable pub blockOf : (device number aux1 : ℕ) → ControlBlock
-blockOf device number aux1 = pick (eqb device 0) closedBlock (openBlock (deviceOf device) number aux1)
+blockOf device number aux1 = pick (eqb device 0) closedBlock (openBlock (deviceIn device) number aux1)
 
+-- the block whose bytes begin at this place, and the next `count` blocks from there on
 abbrev pub blockIn : List ℕ → ℕ → ControlBlock
-blockIn bytes place = blockOf (at bytes place) (at bytes (place + 1)) (at bytes (place + 2))
+blockIn bytes place = blockOf (byteAt bytes place) (byteAt bytes (place + 1)) (byteAt bytes (place + 2))
 
-abbrev pub tableOf : List ℕ → Table
-tableOf b =
+unfoldable pub blocksIn : List ℕ → (place count : ℕ) → List ControlBlock
+blocksIn bytes place zero = []
+blocksIn bytes place (suc count) = blockIn bytes place ∷ blocksIn bytes (place + blockLength) count
+
+abbrev pub tableIn : List ℕ → Table
+tableIn b = record { blocks = blocksIn b 0 8 }
+
+abbrev pub gatherIn : List ℕ → Gather
+gatherIn b = record { tag = byteAt b 1; length = wordAt b 2; taken = byteAt b 4 + 256 * byteAt b 5 + 65536 * byteAt b 6 }
+
+abbrev pub headerIn : List ℕ → Header
+headerIn b = record { tag = byteAt b 1; length = wordAt b 2 }
+
+abbrev pub runIn : List ℕ → Run
+runIn b =
     record {
-      blocks = blockIn b 0 ∷ blockIn b 3 ∷ blockIn b 6 ∷ blockIn b 9 ∷ blockIn b 12 ∷ blockIn b 15 ∷ blockIn b 18 ∷ blockIn b 21 ∷ [];
-    }
-
-abbrev pub gatherOf : List ℕ → Gather
-gatherOf b = record { tag = at b 1; length = wordAt b 2; taken = at b 4 + 256 * at b 5 + 65536 * at b 6 }
-
-abbrev pub headerOf : List ℕ → Header
-headerOf b = record { tag = at b 1; length = wordAt b 2 }
-
-abbrev pub runOf : List ℕ → Run
-runOf b =
-    record {
-      kind = kindOf (at b 1);
-      device = deviceOf (at b 2);
-      iocb = at b 3;
+      kind = kindIn (byteAt b 1);
+      device = deviceIn (byteAt b 2);
+      iocb = byteAt b 3;
       left = wordAt b 4;
       place = wordAt b 6;
       count = wordAt b 8;
-      a = at b 10;
+      a = byteAt b 10;
     }
 
-abbrev pub replyOf : List ℕ → Reply
-replyOf b = record { length = wordAt b 1; given = wordAt b 3 }
+abbrev pub replyIn : List ℕ → Reply
+replyIn b = record { length = wordAt b 1; given = wordAt b 3 }
 
-unfoldable pub phaseOf : List ℕ → Phase
-phaseOf b =
-    pick (eqb (at b 0) 0) (Gathering (gatherOf b))
-    (pick (eqb (at b 0) 1) (Ready (headerOf b))
-    (pick (eqb (at b 0) 2) (Running (runOf b)) (Replying (replyOf b))))
+unfoldable pub phaseIn : List ℕ → Phase
+phaseIn b =
+    pick (eqb (byteAt b 0) 0) (Gathering (gatherIn b))
+    (pick (eqb (byteAt b 0) 1) (Ready (headerIn b))
+    (pick (eqb (byteAt b 0) 2) (Running (runIn b)) (Replying (replyIn b))))
 
-unfoldable pub portOf : List ℕ → Port
-portOf b = record { table = tableOf (drop 11 b); phase = phaseOf b }
+unfoldable pub portIn : List ℕ → Port
+portIn b = record { table = tableIn (drop phaseLength b); phase = phaseIn b }
 
-abbrev pub readingOf : ℕ → ReadColumn
-readingOf n = pick (eqb n 255) Dropped (At n)
+abbrev pub readingIn : ℕ → ReadColumn
+readingIn n = pick (eqb n 255) Dropped (At n)
 
-unfoldable pub consoleOf : List ℕ → Console
-consoleOf b =
+unfoldable pub consoleIn : List ℕ → Console
+consoleIn b =
     record {
-      mode = at b 0;
-      row = at b 1;
+      mode = byteAt b 0;
+      row = byteAt b 1;
       column = wordAt b 2;
-      last = at b 4;
-      escape = eqb (at b 5) 1;
-      reading = readingOf (at b 6);
-      keyboard = record { code = at b 7; lock = at b 8; inverse = at b 9 };
+      last = byteAt b 4;
+      escape = eqb (byteAt b 5) 1;
+      reading = readingIn (byteAt b 6);
+      keyboard = record { code = byteAt b 7; lock = byteAt b 8; inverse = byteAt b 9 };
     }
 
-abbrev pub printerOf : List ℕ → Printer
-printerOf b = record { used = wordAt b 0 }
+abbrev pub printerIn : List ℕ → Printer
+printerIn b = record { used = wordAt b 0 }
 
 -- the stick that the bytes stand for, if they stand for one
-unfoldable pub stickOf : List ℕ → Stick
-stickOf b = record { port0 = portOf b; port1 = portOf (drop 35 b); console = consoleOf (drop 70 b); printer = printerOf (drop 80 b) }
+unfoldable pub stickIn : List ℕ → Stick
+stickIn b =
+    record {
+      port0 = portIn (drop (portPlace 0) b);
+      port1 = portIn (drop (portPlace 1) b);
+      console = consoleIn (drop (devicesPlace + consolePlace) b);
+      printer = printerIn (drop (devicesPlace + printerPlace) b);
+    }
+
+-- and what is lent with it: the rooms follow the head
+abbrev pub lentIn : (state area screen paper : List ℕ) → Lent
+lentIn state area screen paper = lent (drop roomsPlace state) area screen paper

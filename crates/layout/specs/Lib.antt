@@ -1,4 +1,5 @@
+pub mod Places
+pub mod Stick
 pub mod Layout
 pub mod Stands
 pub mod InBytes
-pub mod Parts

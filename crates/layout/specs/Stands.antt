@@ -3,33 +3,35 @@
 -- Assumes nothing.
 use mathlib.Core.Bool.{Bool, true, false}
 use mathlib.Core.List.{List}
-use Prim.Native.Nat.{ℕ, _+_}
+use Prim.Native.Nat.{ℕ, zero, suc, _+_}
 use lib.Dec.{eqb, ltb}
 use lib.ListN.{drop}
 use Rattle.base.specs.Choice.{pick, and, within}
-use Rattle.layout.specs.Layout.{at}
+use Rattle.layout.specs.Places.{phaseLength, blockLength, devicesPlace, consolePlace, portPlace}
+use Rattle.layout.specs.Layout.{byteAt}
 
 -- a closed block is 0 0 0, an open one has a device, 1 to 4
 unfoldable pub blockStands : (device number aux1 : ℕ) → Bool
 blockStands device number aux1 = pick (eqb device 0) (and (eqb number 0) (eqb aux1 0)) (ltb device 5)
 
 abbrev pub blockStandsIn : List ℕ → ℕ → Bool
-blockStandsIn bytes place = blockStands (at bytes place) (at bytes (place + 1)) (at bytes (place + 2))
+blockStandsIn bytes place = blockStands (byteAt bytes place) (byteAt bytes (place + 1)) (byteAt bytes (place + 2))
 
--- four blocks, from this place on, and a table's eight
-unfoldable pub fourStand : List ℕ → ℕ → Bool
-fourStand b place =
-    and (blockStandsIn b place)
-    (and (blockStandsIn b (place + 3))
-    (and (blockStandsIn b (place + 6))
-    (blockStandsIn b (place + 9))))
+-- the next `count` blocks, from this place on, and a table's eight
+unfoldable pub blocksStand : List ℕ → (place count : ℕ) → Bool
+blocksStand bytes place zero = true
+blocksStand bytes place (suc count) = and (blockStandsIn bytes place) (blocksStand bytes (place + blockLength) count)
 
-unfoldable pub tableStands : List ℕ → Bool
-tableStands b = and (fourStand b 0) (fourStand b 12)
+abbrev pub tableStands : List ℕ → Bool
+tableStands b = blocksStand b 0 8
 
 -- four bytes that are not used
 unfoldable pub unused : (a b c d : ℕ) → Bool
 unused a b c d = and (eqb a 0) (and (eqb b 0) (and (eqb c 0) (eqb d 0)))
+
+-- the last four bytes of a phase
+abbrev pub restUnused : List ℕ → Bool
+restUnused b = unused (byteAt b 7) (byteAt b 8) (byteAt b 9) (byteAt b 10)
 
 -- a running request's kind is 0 to 5, its device 1 to 4
 unfoldable pub runStands : (kind device : ℕ) → Bool
@@ -38,15 +40,21 @@ runStands kind device = and (ltb kind 6) (within 1 4 device)
 -- a gathering port uses six of the ten bytes of numbers, a ready one three, a running one all, a replying one four
 unfoldable pub phaseStands : List ℕ → Bool
 phaseStands b =
-    pick (eqb (at b 0) 0) (unused (at b 7) (at b 8) (at b 9) (at b 10))
-    (pick (eqb (at b 0) 1) (and (unused 0 (at b 4) (at b 5) (at b 6)) (unused (at b 7) (at b 8) (at b 9) (at b 10)))
-    (pick (eqb (at b 0) 2) (runStands (at b 1) (at b 2))
-    (pick (eqb (at b 0) 3) (and (unused 0 0 (at b 5) (at b 6)) (unused (at b 7) (at b 8) (at b 9) (at b 10)))
+    pick (eqb (byteAt b 0) 0) (restUnused b)
+    (pick (eqb (byteAt b 0) 1) (and (unused 0 (byteAt b 4) (byteAt b 5) (byteAt b 6)) (restUnused b))
+    (pick (eqb (byteAt b 0) 2) (runStands (byteAt b 1) (byteAt b 2))
+    (pick (eqb (byteAt b 0) 3) (and (unused 0 0 (byteAt b 5) (byteAt b 6)) (restUnused b))
     false)))
 
 unfoldable pub portStands : List ℕ → Bool
-portStands b = and (phaseStands b) (tableStands (drop 11 b))
+portStands b = and (phaseStands b) (tableStands (drop phaseLength b))
 
 -- escape is 0 or 1
+abbrev pub consoleStands : List ℕ → Bool
+consoleStands b = ltb (byteAt b 5) 2
+
 unfoldable pub stands : List ℕ → Bool
-stands b = and (portStands b) (and (portStands (drop 35 b)) (ltb (at (drop 70 b) 5) 2))
+stands b =
+    and (portStands (drop (portPlace 0) b))
+    (and (portStands (drop (portPlace 1) b))
+    (consoleStands (drop (devicesPlace + consolePlace) b)))

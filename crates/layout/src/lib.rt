@@ -1,6 +1,3 @@
-// A stick as bytes, so that its state can be lent: where each number stands, whether bytes stand for a stick, which one, and
-// writing it.
-pub mod fits;
-pub mod judge;
-pub mod read;
-pub mod write;
+// A stick as bytes, so that its state can be lent: the names of the places where each part stands. What the bytes of a part are, whether
+// bytes stand for a stick, and that the two ways agree is in specs/ and proofs/.
+pub mod places;

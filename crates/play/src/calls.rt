@@ -1,193 +1,101 @@
-// The stick's calls, each with its answer written.
+// The stick's calls, and what is written for each.
 use crate::lengths::Lengths;
 use crate::ops::Call;
 use crate::say;
-use blocks::Phase;
-use blocks::Port;
-use state::Stick;
+use layout::places;
+use stick::Answered;
+ghost use Prim.Native.Nat.{_≤_};
 
-// A state after some ticks, how many there were, and the last answer.
-pub struct Ran {
-    pub stick: Stick,
-    pub ticks: u16,
-    pub answer: u8,
-}
+// A port's first byte, while it runs.
+const RUNNING: u8 = 2;
 
-fn runs(port: Port) -> bool {
-    let phase = port.phase;
-    match phase {
-        Phase::Gathering(gather) => false,
-        Phase::Ready(header) => false,
-        Phase::Running(run) => true,
-        Phase::Replying(reply) => false,
-    }
-}
-
-// A tick with this answer is followed by another: the port runs on.
-fn goes_on(stick: Stick, port: u8, answer: u8) -> bool {
-    let port0 = stick.port0;
-    let port1 = stick.port1;
-    if 0 < answer {
-        return false;
-    }
-    if port == 0 {
-        return runs(port0);
-    }
-    runs(port1)
-}
-
-// Ticks up to so many times, while the port runs on.
-fn run(
-    stick: Stick,
-    rooms: &mut [u8],
-    area: &mut [u8],
-    screen: &mut [u8],
-    paper: &mut [u8],
-    port: u8,
-    most: u16,
-) -> Ran {
-    let mut s = stick;
-    let mut answer: u8 = 0;
-    let mut i: u16 = 0;
-    while i < most {
-        let c = stick::tick(s, rooms, area, screen, paper, port);
-        s = c.stick;
-        answer = c.answer;
-        i += 1;
-        if !goes_on(s, port, answer) {
-            return Ran {
-                stick: s,
-                ticks: i,
-                answer: answer,
-            };
+// Of the ticks that may follow one with this answer, how many do: all while the port runs on, else none.
+fn following(state: &[u8], port: u8, answer: u8, left: u16) -> u16
+    ensures { λ r. ⌜ r ≤ left ⌝ }
+{
+    if answer == 0 {
+        if base::byte_at(state, places::PORT * (port as usize)) == RUNNING {
+            return left;
         }
+        return 0;
     }
-    Ran {
-        stick: s,
-        ticks: i,
-        answer: answer,
-    }
+    0
 }
 
+// Ticks up to so many times, while the port runs on, and writes how often. The answer is the last one.
 fn ticks(
-    stick: Stick,
-    rooms: &mut [u8],
+    state: &mut [u8],
     area: &mut [u8],
     screen: &mut [u8],
     paper: &mut [u8],
     port: u8,
     most: u16,
-) -> Stick {
-    let ran = run(stick, rooms, area, screen, paper, port, most);
-    let some = [(ran.ticks % 256) as u8, (ran.ticks / 256) as u8, ran.answer];
-    say::bytes(&some);
-    ran.stick
-}
-
-fn fresh(
-    stick: Stick,
-    rooms: &mut [u8],
-    area: &mut [u8],
-    screen: &mut [u8],
-    paper: &mut [u8],
-) -> Stick {
-    let c = stick::fresh(stick, rooms, area, screen, paper);
-    say::byte(c.answer);
-    c.stick
-}
-
-fn take(
-    stick: Stick,
-    rooms: &mut [u8],
-    area: &mut [u8],
-    screen: &mut [u8],
-    paper: &mut [u8],
-    port: u8,
-    byte: u8,
-) -> Stick {
-    let c = stick::take(stick, rooms, area, screen, paper, port, byte);
-    say::byte(c.answer);
-    c.stick
-}
-
-fn tick(
-    stick: Stick,
-    rooms: &mut [u8],
-    area: &mut [u8],
-    screen: &mut [u8],
-    paper: &mut [u8],
-    port: u8,
-) -> Stick {
-    let c = stick::tick(stick, rooms, area, screen, paper, port);
-    say::byte(c.answer);
-    c.stick
-}
-
-fn give(
-    stick: Stick,
-    rooms: &mut [u8],
-    area: &mut [u8],
-    screen: &mut [u8],
-    paper: &mut [u8],
-    port: u8,
-) -> Stick {
-    let c = stick::give(stick, rooms, area, screen, paper, port);
-    let some = [c.answer, c.byte];
-    say::bytes(&some);
-    c.stick
-}
-
-fn press(
-    stick: Stick,
-    rooms: &mut [u8],
-    area: &mut [u8],
-    screen: &mut [u8],
-    paper: &mut [u8],
-    code: u8,
-) -> Stick {
-    let c = stick::press(stick, rooms, area, screen, paper, code);
-    say::byte(c.answer);
-    c.stick
+) -> Answered {
+    let mut answer: u8 = 0;
+    let mut ticks: u16 = 0;
+    let mut left = most;
+    while 0 < left {
+        let ticked = stick::tick(state, area, screen, paper, port);
+        answer = ticked.answer;
+        ticks += 1;
+        left = following(state, port, answer, left - 1);
+    }
+    say::word(ticks);
+    Answered {
+        answer: answer,
+        byte: 0,
+    }
 }
 
 fn perform(
     call: Call,
-    stick: Stick,
-    rooms: &mut [u8],
+    state: &mut [u8],
     area: &mut [u8],
     screen: &mut [u8],
     paper: &mut [u8],
-) -> Stick {
+) -> Answered {
     match call {
-        Call::Fresh => fresh(stick, rooms, area, screen, paper),
-        Call::Take(port, byte) => take(stick, rooms, area, screen, paper, port, byte),
-        Call::Tick(port) => tick(stick, rooms, area, screen, paper, port),
-        Call::Give(port) => give(stick, rooms, area, screen, paper, port),
-        Call::Press(code) => press(stick, rooms, area, screen, paper, code),
-        Call::Ticks(port, most) => ticks(stick, rooms, area, screen, paper, port, most),
+        Call::Fresh => stick::fresh(state, area, screen, paper),
+        Call::Take(port, byte) => stick::take(state, area, screen, paper, port, byte),
+        Call::Tick(port) => stick::tick(state, area, screen, paper, port),
+        Call::Give(port) => stick::give(state, area, screen, paper, port),
+        Call::Press(code) => stick::press(state, area, screen, paper, code),
+        Call::Ticks(port, most) => ticks(state, area, screen, paper, port, most),
+    }
+}
+
+// A call's answer, and the reply byte if it asks for one.
+fn write(call: Call, answered: Answered) {
+    say::byte(answered.answer);
+    match call {
+        Call::Fresh => {}
+        Call::Take(port, byte) => {}
+        Call::Tick(port) => {}
+        Call::Give(port) => say::byte(answered.byte),
+        Call::Press(code) => {}
+        Call::Ticks(port, most) => {}
     }
 }
 
 // A call that is lent the first bytes of each buffer, at most its whole.
 pub fn perform_cut(
     call: Call,
-    stick: Stick,
     lengths: Lengths,
-    rooms: &mut [u8],
+    state: &mut [u8],
     area: &mut [u8],
     screen: &mut [u8],
     paper: &mut [u8],
-) -> Stick {
-    let rooms_end = io::count(lengths.rooms as isize, rooms);
+) {
+    let state_end = io::count(lengths.state as isize, state);
     let area_end = io::count(lengths.area as isize, area);
     let screen_end = io::count(lengths.screen as isize, screen);
     let paper_end = io::count(lengths.paper as isize, paper);
-    perform(
+    let answered = perform(
         call,
-        stick,
-        &mut rooms[..rooms_end],
+        &mut state[..state_end],
         &mut area[..area_end],
         &mut screen[..screen_end],
         &mut paper[..paper_end],
-    )
+    );
+    write(call, answered);
 }

@@ -1,107 +1,59 @@
-// A dump: area, screen and paper whole, then what the state holds.
+// A dump: area, screen and paper whole, then what the state holds, from its bytes.
 use crate::say;
-use blocks::BlockState;
-use blocks::ControlBlock;
-use blocks::Phase;
-use blocks::Port;
-use blocks::Table;
-use console::state::Console;
-use editor::ReadColumn;
-use state::Stick;
+use layout::places;
 
-// The column as a byte; 255 for none.
-fn read_column(reading: ReadColumn) -> u8 {
-    match reading {
-        ReadColumn::Dropped => 255,
-        ReadColumn::At(column) => (column % 256) as u8,
+const CONSOLE: usize = places::DEVICES + places::CONSOLE;
+
+const PRINTER: usize = places::DEVICES + places::PRINTER;
+
+// The letter of the device whose number a block holds.
+fn letter(device: u8) -> u8 {
+    match device {
+        1 => b'E',
+        2 => b'S',
+        3 => b'K',
+        _ => b'P',
     }
-}
-
-fn flag(on: bool) -> u8 {
-    if on {
-        return 1;
-    }
-    0
-}
-
-fn write_cursor(console: Console) {
-    say::byte(console.mode);
-    say::byte((console.row % 256) as u8);
-    say::word(console.column);
-}
-
-fn write_console(console: Console) {
-    let reading = console.reading;
-    let keyboard = console.keyboard;
-    write_cursor(console);
-    let some = [
-        console.last,
-        flag(console.escape),
-        read_column(reading),
-        keyboard.code,
-        keyboard.lock,
-        keyboard.inverse,
-    ];
-    say::bytes(&some);
 }
 
 // Open, device letter, number, AUX1; zeros for a closed block.
-fn write_block(block: ControlBlock) {
-    let state = block.state;
-    match state {
-        BlockState::Closed => say::bytes(b"\x00\x00\x00\x00"),
-        BlockState::Open {
-            device,
-            number,
-            aux1,
-        } => {
-            let some = [1, state::fits::letter_of(device), number, aux1];
-            say::bytes(&some);
-        }
+fn write_block(device: u8, number: u8, aux1: u8) {
+    if device == 0 {
+        say::bytes(b"\x00\x00\x00\x00");
+        return;
     }
+    let some = [1, letter(device), number, aux1];
+    say::bytes(&some);
 }
 
-fn write_table(table: Table) {
-    let mut i: u8 = 0;
+// A port's blocks.
+fn write_table(table: &[u8]) {
+    let mut i: usize = 0;
     while i < 8 {
-        write_block(table.block(i));
+        let place = places::BLOCK * i;
+        write_block(
+            base::byte_at(table, place),
+            base::byte_at(table, place + 1),
+            base::byte_at(table, place + 2),
+        );
         i += 1;
     }
 }
 
-fn phase_number(phase: Phase) -> u8 {
-    match phase {
-        Phase::Gathering(gather) => 0,
-        Phase::Ready(header) => 1,
-        Phase::Running(run) => 2,
-        Phase::Replying(reply) => 3,
+fn write_state(state: &[u8]) {
+    if state.len() == places::STATE {
+        say::bytes(&state[PRINTER..places::ROOMS]);
+        say::bytes(&state[CONSOLE..PRINTER]);
+        write_table(&state[places::PHASE..]);
+        write_table(&state[places::PORT + places::PHASE..]);
+        say::byte(state[0]);
+        say::byte(state[places::PORT]);
     }
 }
 
-fn write_ports(port0: Port, port1: Port) {
-    let table0 = port0.table;
-    let table1 = port1.table;
-    let phase0 = port0.phase;
-    let phase1 = port1.phase;
-    write_table(table0);
-    write_table(table1);
-    say::byte(phase_number(phase0));
-    say::byte(phase_number(phase1));
-}
-
-fn write_state(stick: Stick) {
-    let printer = stick.printer;
-    let console = stick.console;
-    let port0 = stick.port0;
-    let port1 = stick.port1;
-    say::word(printer.used);
-    write_console(console);
-    write_ports(port0, port1);
-}
-
-pub fn write(stick: Stick, area: &[u8], screen: &[u8], paper: &[u8]) {
+pub fn write(state: &[u8], area: &[u8], screen: &[u8], paper: &[u8]) {
     say::bytes(area);
     say::bytes(screen);
     say::bytes(paper);
-    write_state(stick);
+    write_state(state);
 }

@@ -1,23 +1,24 @@
 // How much of each buffer is lent: its first so many bytes.
+use layout::places;
 
 pub struct Lengths {
     pub area: u32,
     pub screen: u32,
     pub paper: u32,
-    pub rooms: u32,
+    pub state: u32,
 }
 
 impl Lengths {
     pub fn whole() -> Lengths {
         Lengths {
-            area: 32768,
-            screen: 61440,
-            paper: 4096,
-            rooms: 520,
+            area: 2 * places::AREA as u32,
+            screen: stick::SCREEN as u32,
+            paper: stick::PAPER as u32,
+            state: places::STATE as u32,
         }
     }
 
-    // Another length for buffer 0, area; 1, screen; 2, paper; 3, rooms.
+    // Another length for buffer 0, area; 1, screen; 2, paper; 3, state.
     pub fn lend(self, which: u8, length: u32) -> Lengths {
         let mut next = self;
         match which {
@@ -31,7 +32,7 @@ impl Lengths {
                 next.paper = length;
             }
             3 => {
-                next.rooms = length;
+                next.state = length;
             }
             _ => {}
         }

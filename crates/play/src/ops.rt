@@ -73,3 +73,13 @@ pub fn read() -> Op {
     }
     read_operands(bytes[0])
 }
+
+// Nothing more is played.
+pub fn ends(op: Op) -> bool {
+    match op {
+        Op::End => true,
+        Op::Lend(which, length) => false,
+        Op::Dump => false,
+        Op::Call(call) => false,
+    }
+}

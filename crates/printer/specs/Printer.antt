@@ -6,6 +6,9 @@ use lib.Dec.{ltb}
 use lib.ListN.{set, take}
 use Rattle.base.specs.Choice.{pick}
 use Rattle.handler.specs.Answer.{Answer, answer}
+use Rattle.handler.specs.Acts.{Acts}
+use Rattle.handler.specs.declared.Asked.{Asked}
+use Rattle.handler.specs.declared.Got.the-variants as got
 use Rattle.handler.specs.declared.Done.{Done}
 use Rattle.handler.specs.declared.Done.the-variants.{Success, Refused}
 use Rattle.printer.specs.declared.Printer.{Printer}
@@ -32,3 +35,16 @@ putOf byte g =
     pick (ltb (g .used) 4096)
     (answer Success (printerGroup (g .used + 1) (set (g .paper) (g .used) byte)))
     (answer (Refused 0x90) g)
+
+-- the handler as CIO calls it: "Opening K or P changes no device"; nor does CLOSE. A GET from P never gets here: P offers no R, and
+-- "$83 .. reading without R" comes before the group; the same status stands here. "GET STATUS $0D, SPECIAL above .. $01 or $84."
+abbrev pub printerActs : Asked → Acts PrinterGroup
+printerActs asked = record {
+  opens = λ g. answer Success g;
+  closes = λ g. g;
+  prepares = λ g. answer Success g;
+  reads = λ g. answer (got.Refused 0x83) g;
+  writes = putOf;
+  statuses = λ g. Success;
+  specials = λ g. answer (Refused 0x84) g;
+}

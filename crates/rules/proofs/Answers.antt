@@ -12,22 +12,25 @@ use lib.ListN.{take, drop, take-append-drop}
 use borrow.Author.Tests.{eqb-true, ltb-true, ltb-false, leb-true}
 use Rattle.base.specs.Choice.{pick, choose, and, or}
 use Rattle.base.proofs.Choices.{choose-go, and-left, and-right, by-test}
-use Rattle.blocks.specs.declared.Device.{Device}
-use Rattle.blocks.specs.declared.Device.the-variants.{E, S, K, P}
 use Rattle.blocks.specs.declared.Header.{Header}
 use Rattle.blocks.specs.declared.Phase.{Phase}
 use Rattle.blocks.specs.declared.Phase.the-variants.{Gathering, Ready, Running, Replying}
 use Rattle.blocks.specs.declared.Port.{Port}
-use Rattle.cio.specs.declared.plan.Group.{Group}
-use Rattle.cio.specs.declared.plan.Group.the-variants as groups
-use Rattle.state.specs.declared.Stick.{Stick}
-use Rattle.state.specs.Fits.{deviceGroup, heldOf, clash, stickFits}
-use Rattle.port.specs.declared.PortCall.{PortCall}
-use Rattle.port.specs.Port.{Reach, Ticked, ticked, readyTick, tickPort, Offered, offered, takePort, gives, givePort}
-use Rattle.stick.specs.Stick.{Lent, lent, Outcome, outcome, refused, lengthsFit, refusalOf, LengthsFit, portAt, otherAt, withPort, withPart, areaAt, roomAt, withRoom, reachAt, withReach, lentReach}
-use Rattle.stick.specs.Calls.{freshOf, guarded, takeAt, takeOf, tickAt, tickOf, giveAt, giveOf, consoleHeld, pressAt, pressOf}
-use Rattle.stick.proofs.Guards.{lengths-all, lengths-of}
-use Rattle.rules.specs.Answers.{OtherLength, Damaged, Above, Called, PortIs, Gathers, Replies, NotGathers, NotReplies, Idle, Holds, ConsoleHeld, ConsoleFree, needAt, Waits, Goes, oneOf, FreshAnswers, FirstAnswers, TakeAnswers, TickAnswers, GiveAnswers, PressAnswers}
+use Rattle.blocks.specs.Opening.{areaLength}
+use Rattle.wire.specs.Messages.{roomLength}
+use Rattle.layout.specs.Stick.{Stick, Lent, lent, portAt, otherAt, withPort, partAt, withPart}
+use Rattle.devices.specs.declared.Group.{Group}
+use Rattle.devices.specs.declared.Group.the-variants as groups
+use Rattle.devices.specs.declared.Owner.{Owner}
+use Rattle.devices.specs.declared.Owner.the-variants as owner
+use Rattle.devices.specs.Groups.{clash, ownerOf, groupIn, groupOf, heldOf}
+use Rattle.devices.proofs.Frame.{clash-swap}
+use Rattle.damage.specs.Fits.{stickFits}
+use Rattle.calls.specs.Port.{Reach, Ticked, ticked, readyTick, tickPort, Served, served, takePort, givePort}
+use Rattle.calls.specs.Stick.{Outcome, outcome, refused, lengthsFit, refusalOf, LengthsFit, areaAt, roomAt, withRoom, reachAt, withReach, lentReach}
+use Rattle.calls.specs.Calls.{freshCall, guarded, takeAt, takeCall, tickAt, tickCall, giveAt, giveCall, consoleHeld, pressAt, pressCall}
+use Rattle.rules.specs.Answers.{OtherLength, Damaged, Above, Called, PortIs, Gathers, Replies, NotGathers, NotReplies, Idle, Holds, ConsoleHeld, ConsoleFree, needAt, Waits, TickDone, oneOf, FreshAnswers, FirstAnswers, TakeAnswers, TickAnswers, GiveAnswers, PressAnswers}
+use Rattle.rules.proofs.Guards.{fit-of, lengths-of}
 
 -- none above 8
 abbrev low : List ℕ → Bool
@@ -43,9 +46,6 @@ most (m ∷ ns) n a e =
     by-test (eqb n m)
     (λ t. let h = leb-true m 8 (and-left (leb m 8) (low ns) a) in let q = eqb-true n m t in omega arith)
     (λ t. most ns n (and-right (leb m 8) (low ns) a) (rw t at e))
-
-pub fit-of : (l : Lent) → LengthsFit l → lengthsFit l ≡ true
-fit-of l w = sym (lengths-all l (w .rooms) (w .area) (w .whole .all) (w .paper))
 
 other-of : (l : Lent) → lengthsFit l ≡ false → OtherLength l
 other-of l f w = never (fit-of l w) f
@@ -64,7 +64,7 @@ module _ (s : Stick) (l : Lent) (call : Unit {0} → Outcome) (C : Outcome → T
       → C (guarded (refusalOf s l port) s l call)
   unfolding refusalOf
   by-order port two three one rest =
-      by-tests (lengthsFit l) (stickFits s) (ltb port 2)
+      by-tests (lengthsFit l) (stickFits s l) (ltb port 2)
       (λ a. two (other-of l a))
       (λ a b. three (record { lengths = lengths-of l a; damaged = b }))
       (λ a b c. one (record { sound = record { lengths = lengths-of l a; fits = b }; above = ltb-false port 2 c }))
@@ -155,17 +155,20 @@ named : (s : Stick) (l : Lent) (n : ℕ) (o : Outcome) → o ≡ refused n s l �
 named s l n o q = q ∙ ap (λ (x : Outcome). refused (x .answer) s l) (sym q)
 
 -- what a call puts back as it was is as it was
-part-back : (n : ℕ) (xs : List ℕ) (b : Bool) → pick b (pick b (take n xs) (drop n xs) ++ drop n xs) (take n xs ++ pick b (take n xs) (drop n xs)) ≡ xs
-part-back n xs true = take-append-drop n xs
-part-back n xs false = take-append-drop n xs
+pub part-back : (n port : ℕ) (xs : List ℕ) → withPart n port (partAt n port xs) xs ≡ xs
+part-back n port xs = go (eqb port 0)
+  where
+    go : (b : Bool) → pick b (pick b (take n xs) (drop n xs) ++ drop n xs) (take n xs ++ pick b (take n xs) (drop n xs)) ≡ xs
+    go true = take-append-drop n xs
+    go false = take-append-drop n xs
 
 room-back : (port : ℕ) (l : Lent) → withRoom port (roomAt port l) l ≡ l
-room-back port l = ap (λ (xs : List ℕ). lent xs (l .area) (l .screen) (l .paper)) (part-back 260 (l .rooms) (eqb port 0))
+room-back port l = ap (λ (xs : List ℕ). lent xs (l .area) (l .screen) (l .paper)) (part-back roomLength port (l .rooms))
 
 reach-back : (port : ℕ) (s : Stick) (l : Lent) → lentReach port (reachAt port s l) l ≡ l
 reach-back port s l =
-    ap (λ (xs : List ℕ). lent xs (withPart 16384 port (areaAt port l) (l .area)) (l .screen) (l .paper)) (part-back 260 (l .rooms) (eqb port 0))
-    ∙ ap (λ (xs : List ℕ). lent (l .rooms) xs (l .screen) (l .paper)) (part-back 16384 (l .area) (eqb port 0))
+    ap (λ (xs : List ℕ). lent xs (withPart areaLength port (areaAt port l) (l .area)) (l .screen) (l .paper)) (part-back roomLength port (l .rooms))
+    ∙ ap (λ (xs : List ℕ). lent (l .rooms) xs (l .screen) (l .paper)) (part-back areaLength port (l .area))
 
 port-back : (port : ℕ) (s : Stick) → withPort port (portAt port s) s ≡ s
 port-back port s = go (eqb port 0)
@@ -175,7 +178,7 @@ port-back port s = go (eqb port 0)
     go false = refl
 
 -- take
-take-ways : (phase : Phase) (port : Port) (room : List ℕ) (byte : ℕ) → Ways (λ (t : Offered). t .answer) (offered 4 0 port room) (NotGathers phase) (Gathers phase) (takePort phase port room byte)
+take-ways : (phase : Phase) (port : Port) (room : List ℕ) (byte : ℕ) → Ways (λ (t : Served). t .answer) (served 4 0 port room) (NotGathers phase) (Gathers phase) (takePort phase port room byte)
 unfolding takePort
 take-ways (Gathering gather) port room byte = goes _ refl tt (λ w. w tt)
 take-ways (Ready header) port room byte = stays (λ w. w) (λ w. w)
@@ -184,8 +187,8 @@ take-ways (Replying reply) port room byte = stays (λ w. w) (λ w. w)
 
 module _ (s : Stick) (l : Lent) (port byte : ℕ) where
   -- "each is given exactly then"
-  pub take-answers : TakeAnswers s l port (takeOf s l port byte .answer)
-  unfolding takeOf takeAt
+  pub take-answers : TakeAnswers s l port (takeCall s l port byte .answer)
+  unfolding takeCall takeAt
   take-answers =
       let call : Unit {0} → Outcome = (λ u. takeAt port s l byte) in
       let w = take-ways (portAt port s .phase) (portAt port s) (roomAt port l) byte in
@@ -198,56 +201,48 @@ module _ (s : Stick) (l : Lent) (port byte : ℕ) where
       }
 
   -- "Numbers 1 to 8 change nothing"; "A byte beside a refusal is 0."
-  pub take-still : (takeOf s l port byte .answer ≡ 0 → ⊥) → takeOf s l port byte ≡ refused (takeOf s l port byte .answer) s l
-  unfolding takeOf takeAt
+  pub take-still : (takeCall s l port byte .answer ≡ 0 → ⊥) → takeCall s l port byte ≡ refused (takeCall s l port byte .answer) s l
+  unfolding takeCall takeAt
   take-still =
       let w = take-ways (portAt port s .phase) (portAt port s) (roomAt port l) byte in
       still s l port (λ u. takeAt port s l byte) (ways-own _ _ w (omega arith))
       (λ z. named s l 4 (takeAt port s l byte)
-      (ap (λ (x : Offered). outcome (x .answer) (x .byte) (withPort port (x .port) s) (withRoom port (x .room) l)) (ways-back _ _ w z)
+      (ap (λ (x : Served). outcome (x .answer) (x .byte) (withPort port (x .port) s) (withRoom port (x .room) l)) (ways-back _ _ w z)
       ∙ rw (port-back port s, room-back port l)))
 
 -- a group is held: by a running request on a device of it
 clash-none : (g : Group) → clash g groups.Nobody ≡ false
-clash-none groups.Nobody = refl
-clash-none groups.Console = refl
-clash-none groups.Printer = refl
+clash-none g = clash-swap g groups.Nobody
 
-clash-same : (d : Device) (g : Group) → clash g (deviceGroup d) ≡ true → deviceGroup d ≡ g
-clash-same E groups.Nobody e = absurd (never e refl)
-clash-same E groups.Console e = refl
-clash-same E groups.Printer e = absurd (never e refl)
-clash-same S groups.Nobody e = absurd (never e refl)
-clash-same S groups.Console e = refl
-clash-same S groups.Printer e = absurd (never e refl)
-clash-same K groups.Nobody e = absurd (never e refl)
-clash-same K groups.Console e = refl
-clash-same K groups.Printer e = absurd (never e refl)
-clash-same P groups.Nobody e = absurd (never e refl)
-clash-same P groups.Console e = absurd (never e refl)
-clash-same P groups.Printer e = refl
+clash-same : (g h : Group) → clash g h ≡ true → h ≡ g
+clash-same groups.Nobody h e = absurd (never e refl)
+clash-same groups.Console groups.Nobody e = absurd (never e refl)
+clash-same groups.Console groups.Console e = refl
+clash-same groups.Console groups.Printer e = absurd (never e refl)
+clash-same groups.Printer groups.Nobody e = absurd (never e refl)
+clash-same groups.Printer groups.Console e = absurd (never e refl)
+clash-same groups.Printer groups.Printer e = refl
 
-clash-self : (d : Device) → clash (deviceGroup d) (deviceGroup d) ≡ true
-clash-self E = refl
-clash-self S = refl
-clash-self K = refl
-clash-self P = refl
+-- a device's group is one
+clash-self : (o : Owner) → clash (groupIn o) (groupIn o) ≡ true
+clash-self (owner.Console h) = refl
+clash-self owner.Printer = refl
 
 pub clash-holds : (g : Group) (phase : Phase) → (clash g (heldOf phase) ≡ true) ↔ Holds phase g
 clash-holds g (Gathering gather) = (λ e. never e (clash-none g), λ w. absurd w)
 clash-holds g (Ready header) = (λ e. never e (clash-none g), λ w. absurd w)
-clash-holds g (Running run) = (clash-same (run .device) g, λ w. subst (λ (x : Group). clash x (deviceGroup (run .device)) ≡ true) w (clash-self (run .device)))
+clash-holds g (Running run) = (clash-same g (groupOf (run .device)), λ w. subst (λ (x : Group). clash x (groupOf (run .device)) ≡ true) w (clash-self (ownerOf (run .device))))
 clash-holds g (Replying reply) = (λ e. never e (clash-none g), λ w. absurd w)
 
 -- tick
 ready-ways : (s : Stick) (l : Lent) (port : ℕ) (header : Header)
-    → Ways (λ (t : Ticked). t .answer) (ticked 8 (reachAt port s l)) (Waits s l port (Ready header)) (Goes s l port (Ready header)) (readyTick header (heldOf (otherAt port s .phase)) (reachAt port s l))
+    → Ways (λ (t : Ticked). t .answer) (ticked 8 (reachAt port s l)) (Waits s l port (Ready header)) (TickDone s l port (Ready header)) (readyTick port header (heldOf (otherAt port s .phase)) (reachAt port s l))
 unfolding readyTick
 ready-ways s l port header = by-choice _ _ (clash (needAt header port s l) (heldOf (otherAt port s .phase))) _ refl (clash-holds (needAt header port s l) (otherAt port s .phase))
 
 module _ (s : Stick) (l : Lent) (port : ℕ) where
   abbrev tickIn : Phase → Ticked
-  tickIn phase = tickPort phase (heldOf (otherAt port s .phase)) (reachAt port s l)
+  tickIn phase = tickPort port phase (heldOf (otherAt port s .phase)) (reachAt port s l)
 
   tick-own : (phase : Phase) → Own (tickIn phase .answer)
   unfolding tickPort
@@ -272,7 +267,7 @@ module _ (s : Stick) (l : Lent) (port : ℕ) where
   tick-waits (Running run) = (λ e. absurd (omega arith), λ w. absurd w)
   tick-waits (Replying reply) = (λ e. absurd (omega arith), λ w. absurd w)
 
-  tick-goes : (phase : Phase) → (tickIn phase .answer ≡ 0) ↔ Goes s l port phase
+  tick-goes : (phase : Phase) → (tickIn phase .answer ≡ 0) ↔ TickDone s l port phase
   unfolding tickPort
   tick-goes (Gathering gather) = (λ e. absurd (omega arith), λ w. absurd w)
   tick-goes (Ready header) = ways-yes _ _ (ready-ways s l port header) (λ z. omega arith)
@@ -294,8 +289,8 @@ module _ (s : Stick) (l : Lent) (port : ℕ) where
   tick-back (Replying reply) z = refl
 
   -- "each is given exactly then"
-  pub tick-answers : TickAnswers s l port (tickOf s l port .answer)
-  unfolding tickOf tickAt
+  pub tick-answers : TickAnswers s l port (tickCall s l port .answer)
+  unfolding tickCall tickAt
   tick-answers =
       let call : Unit {0} → Outcome = (λ u. tickAt port s l) in
       let phase = portAt port s .phase in
@@ -304,13 +299,13 @@ module _ (s : Stick) (l : Lent) (port : ℕ) where
         first = first s l port call own;
         idle = phase-of s l port call own 7 (λ z. omega arith) Idle (tick-idle phase);
         waits = phase-of s l port call own 8 (λ z. omega arith) (Waits s l port) (tick-waits phase);
-        done = phase-of s l port call own 0 (λ z. absurd (z refl)) (Goes s l port) (tick-goes phase);
+        done = phase-of s l port call own 0 (λ z. absurd (z refl)) (TickDone s l port) (tick-goes phase);
         numbers = numbers-of s l port call own (0 ∷ 1 ∷ 2 ∷ 3 ∷ 7 ∷ 8 ∷ []) refl refl refl (tick-number phase);
       }
 
   -- "Numbers 1 to 8 change nothing"; "A byte beside a refusal is 0."
-  pub tick-still : (tickOf s l port .answer ≡ 0 → ⊥) → tickOf s l port ≡ refused (tickOf s l port .answer) s l
-  unfolding tickOf tickAt
+  pub tick-still : (tickCall s l port .answer ≡ 0 → ⊥) → tickCall s l port ≡ refused (tickCall s l port .answer) s l
+  unfolding tickCall tickAt
   tick-still =
       let phase = portAt port s .phase in
       still s l port (λ u. tickAt port s l) (tick-own phase)
@@ -318,7 +313,7 @@ module _ (s : Stick) (l : Lent) (port : ℕ) where
       ∙ rw (port-back port s, reach-back port s l))
 
 -- give
-give-ways : (phase : Phase) (port : Port) (room : List ℕ) → Ways (λ (g : PortCall). g .answer) (gives 5 0 port) (NotReplies phase) (Replies phase) (givePort phase port room)
+give-ways : (phase : Phase) (port : Port) (room : List ℕ) → Ways (λ (g : Served). g .answer) (served 5 0 port room) (NotReplies phase) (Replies phase) (givePort phase port room)
 unfolding givePort
 give-ways (Gathering gather) port room = stays (λ w. w) (λ w. w)
 give-ways (Ready header) port room = stays (λ w. w) (λ w. w)
@@ -327,8 +322,8 @@ give-ways (Replying reply) port room = goes _ refl tt (λ w. w tt)
 
 module _ (s : Stick) (l : Lent) (port : ℕ) where
   -- "each is given exactly then"
-  pub give-answers : GiveAnswers s l port (giveOf s l port .answer)
-  unfolding giveOf giveAt
+  pub give-answers : GiveAnswers s l port (giveCall s l port .answer)
+  unfolding giveCall giveAt
   give-answers =
       let call : Unit {0} → Outcome = (λ u. giveAt port s l) in
       let w = give-ways (portAt port s .phase) (portAt port s) (roomAt port l) in
@@ -341,13 +336,13 @@ module _ (s : Stick) (l : Lent) (port : ℕ) where
       }
 
   -- "Numbers 1 to 8 change nothing"; "A byte beside a refusal is 0."
-  pub give-still : (giveOf s l port .answer ≡ 0 → ⊥) → giveOf s l port ≡ refused (giveOf s l port .answer) s l
-  unfolding giveOf giveAt
+  pub give-still : (giveCall s l port .answer ≡ 0 → ⊥) → giveCall s l port ≡ refused (giveCall s l port .answer) s l
+  unfolding giveCall giveAt
   give-still =
       let w = give-ways (portAt port s .phase) (portAt port s) (roomAt port l) in
       still s l port (λ u. giveAt port s l) (ways-own _ _ w (omega arith))
       (λ z. named s l 5 (giveAt port s l)
-      (ap (λ (x : PortCall). outcome (x .answer) (x .byte) (withPort port (x .port) s) l) (ways-back _ _ w z)
+      (ap (λ (x : Served). outcome (x .answer) (x .byte) (withPort port (x .port) s) l) (ways-back _ _ w z)
       ∙ rw (port-back port s)))
 
 -- press
@@ -383,8 +378,8 @@ module _ (s : Stick) where
 
 module _ (s : Stick) (l : Lent) (code : ℕ) where
   -- "each is given exactly then"
-  pub press-answers : PressAnswers s l (pressOf s l code .answer)
-  unfolding pressOf
+  pub press-answers : PressAnswers s l (pressCall s l code .answer)
+  unfolding pressCall
   press-answers =
       let call : Unit {0} → Outcome = (λ u. pressAt s l code) in
       let w = press-ways s l code in
@@ -406,22 +401,22 @@ module _ (s : Stick) (l : Lent) (code : ℕ) where
       }
 
   -- "Numbers 1 to 8 change nothing"; "A byte beside a refusal is 0."
-  pub press-still : (pressOf s l code .answer ≡ 0 → ⊥) → pressOf s l code ≡ refused (pressOf s l code .answer) s l
-  unfolding pressOf
+  pub press-still : (pressCall s l code .answer ≡ 0 → ⊥) → pressCall s l code ≡ refused (pressCall s l code .answer) s l
+  unfolding pressCall
   press-still =
       let w = press-ways s l code in
       still s l 0 (λ u. pressAt s l code) (ways-own _ _ w (omega arith)) (λ z. named s l 6 (pressAt s l code) (ways-back _ _ w z))
 
 -- fresh start
 module _ (s : Stick) (l : Lent) where
-  fresh-ways : Ways (λ (o : Outcome). o .answer) (refused 2 s l) (OtherLength l) (LengthsFit l) (freshOf s l)
-  unfolding freshOf
+  fresh-ways : Ways (λ (o : Outcome). o .answer) (refused 2 s l) (OtherLength l) (LengthsFit l) (freshCall s l)
+  unfolding freshCall
   fresh-ways =
       choose-go (Ways (λ (o : Outcome). o .answer) (refused 2 s l) (OtherLength l) (LengthsFit l)) (lengthsFit l) _ _
       (λ t. goes _ refl (lengths-of l t) (λ w. w (lengths-of l t))) (λ t. stays (other-of l t) (other-of l t))
 
   -- "fresh start gives 0 or 2 only", each exactly then
-  pub fresh-answers : FreshAnswers l (freshOf s l .answer)
+  pub fresh-answers : FreshAnswers l (freshCall s l .answer)
   fresh-answers = record {
     lengths = ways-no _ _ fresh-ways (λ z. omega arith);
     done = ways-yes _ _ fresh-ways (λ z. omega arith);
@@ -429,21 +424,21 @@ module _ (s : Stick) (l : Lent) where
   }
 
   -- "Numbers 1 to 8 change nothing"; "A byte beside a refusal is 0."
-  pub fresh-still : (freshOf s l .answer ≡ 0 → ⊥) → freshOf s l ≡ refused (freshOf s l .answer) s l
-  fresh-still z = named s l 2 (freshOf s l) (ways-back _ _ fresh-ways z)
+  pub fresh-still : (freshCall s l .answer ≡ 0 → ⊥) → freshCall s l ≡ refused (freshCall s l .answer) s l
+  fresh-still z = named s l 2 (freshCall s l) (ways-back _ _ fresh-ways z)
 
 -- no call gives a number above 8
-pub fresh-most : (s : Stick) (l : Lent) → freshOf s l .answer ≤ 8
-fresh-most s l = most (0 ∷ 2 ∷ []) (freshOf s l .answer) refl (fresh-answers s l .numbers)
+pub fresh-most : (s : Stick) (l : Lent) → freshCall s l .answer ≤ 8
+fresh-most s l = most (0 ∷ 2 ∷ []) (freshCall s l .answer) refl (fresh-answers s l .numbers)
 
-pub take-most : (s : Stick) (l : Lent) (port byte : ℕ) → takeOf s l port byte .answer ≤ 8
-take-most s l port byte = most (0 ∷ 1 ∷ 2 ∷ 3 ∷ 4 ∷ []) (takeOf s l port byte .answer) refl (take-answers s l port byte .numbers)
+pub take-most : (s : Stick) (l : Lent) (port byte : ℕ) → takeCall s l port byte .answer ≤ 8
+take-most s l port byte = most (0 ∷ 1 ∷ 2 ∷ 3 ∷ 4 ∷ []) (takeCall s l port byte .answer) refl (take-answers s l port byte .numbers)
 
-pub tick-most : (s : Stick) (l : Lent) (port : ℕ) → tickOf s l port .answer ≤ 8
-tick-most s l port = most (0 ∷ 1 ∷ 2 ∷ 3 ∷ 7 ∷ 8 ∷ []) (tickOf s l port .answer) refl (tick-answers s l port .numbers)
+pub tick-most : (s : Stick) (l : Lent) (port : ℕ) → tickCall s l port .answer ≤ 8
+tick-most s l port = most (0 ∷ 1 ∷ 2 ∷ 3 ∷ 7 ∷ 8 ∷ []) (tickCall s l port .answer) refl (tick-answers s l port .numbers)
 
-pub give-most : (s : Stick) (l : Lent) (port : ℕ) → giveOf s l port .answer ≤ 8
-give-most s l port = most (0 ∷ 1 ∷ 2 ∷ 3 ∷ 5 ∷ []) (giveOf s l port .answer) refl (give-answers s l port .numbers)
+pub give-most : (s : Stick) (l : Lent) (port : ℕ) → giveCall s l port .answer ≤ 8
+give-most s l port = most (0 ∷ 1 ∷ 2 ∷ 3 ∷ 5 ∷ []) (giveCall s l port .answer) refl (give-answers s l port .numbers)
 
-pub press-most : (s : Stick) (l : Lent) (code : ℕ) → pressOf s l code .answer ≤ 8
-press-most s l code = most (0 ∷ 2 ∷ 3 ∷ 6 ∷ []) (pressOf s l code .answer) refl (press-answers s l code .numbers)
+pub press-most : (s : Stick) (l : Lent) (code : ℕ) → pressCall s l code .answer ≤ 8
+press-most s l code = most (0 ∷ 2 ∷ 3 ∷ 6 ∷ []) (pressCall s l code .answer) refl (press-answers s l code .numbers)

@@ -1,9 +1,10 @@
+pub mod Guards
 pub mod Statuses
 pub mod Refusals
+pub mod RequestKeeps
+pub mod PortKeeps
+pub mod NeverDamaged
 pub mod Answers
 pub mod Ports
 pub mod Waits
 pub mod FreshStart
-pub mod RequestKeeps
-pub mod PortKeeps
-pub mod NeverDamaged

@@ -1,7 +1,7 @@
--- What a port's part of a call keeps: the port, its room and half, and the devices fit as before; its tick holds no group that the
--- other port holds, and while the other port holds the console it leaves the mode.
+-- What a port's part of a call keeps: the port, its room and half, and the groups fit as before; its tick holds no group that the
+-- other port holds, and leaves the group that the other port holds.
 -- Assumes nothing.
-use mathlib.Core.Path.{_≡_, _∙_, refl, sym, subst}
+use mathlib.Core.Path.{_≡_, _∙_, refl, sym, ap, subst}
 use mathlib.Core.Bool.{Bool, true, false}
 use mathlib.Core.List.{List}
 use Prim.Native.Nat.{ℕ, _<_}
@@ -11,47 +11,47 @@ use lib.Dec.{T, eqb, leb, ltb}
 use lib.ListN.{length}
 use Rattle.base.specs.Choice.{and}
 use Rattle.base.proofs.Choices.{choose-go, and-left, and-right}
-use Rattle.console.specs.declared.Handler.{Handler}
-use Rattle.console.specs.declared.Handler.the-variants as handler
 use Rattle.console.specs.declared.state.Console.{Console}
 use Rattle.console.specs.Group.{ConsoleGroup}
-use Rattle.console.specs.Fit.{FitGroup}
 use Rattle.console.proofs.Keeps.{fits-of, picture-mode}
-use Rattle.printer.specs.Printer.{PrinterGroup}
-use Rattle.printer.specs.Fit.{FitPrinter}
-use Rattle.blocks.specs.declared.Device.{Device}
-use Rattle.blocks.specs.declared.Device.the-variants.{E, S, K, P}
 use Rattle.blocks.specs.declared.BlockState.{BlockState}
 use Rattle.blocks.specs.declared.BlockState.the-variants as block
+use Rattle.blocks.specs.declared.Device.{Device}
+use Rattle.blocks.specs.declared.Device.the-variants.{E, S, K, P}
+use Rattle.blocks.specs.declared.Header.{Header}
 use Rattle.blocks.specs.declared.Kind.{Kind}
 use Rattle.blocks.specs.declared.Kind.the-variants.{Get, Put}
-use Rattle.blocks.specs.declared.Header.{Header}
-use Rattle.blocks.specs.declared.Run.{Run}
-use Rattle.blocks.specs.declared.Table.{Table}
 use Rattle.blocks.specs.declared.Phase.{Phase}
 use Rattle.blocks.specs.declared.Phase.the-variants.{Gathering, Ready, Running, Replying}
 use Rattle.blocks.specs.declared.Port.{Port}
-use Rattle.blocks.specs.Blocks.{blockAt}
-use Rattle.blocks.specs.Opening.{letterOf}
+use Rattle.blocks.specs.declared.Run.{Run}
+use Rattle.blocks.specs.declared.Table.{Table}
+use Rattle.blocks.specs.Blocks.{blockAt, withBlock}
+use Rattle.blocks.specs.Opening.{letterOf, areaLength}
 use Rattle.blocks.specs.Made.{tableMade}
-use Rattle.wire.specs.Messages.{messageOf}
+use Rattle.wire.specs.Messages.{messageOf, roomLength}
 use Rattle.wire.specs.Messages as wire
 use Rattle.wire.specs.Replies as wire-replies
 use Rattle.wire.proofs.Keeps.{GathersOrReady, RepliesOrFresh, take-fits, take-room-length, give-fits, fresh-fits}
-use Rattle.cio.specs.declared.plan.Group.{Group}
-use Rattle.cio.specs.declared.plan.Group.the-variants as group
-use Rattle.cio.specs.declared.plan.Plan.{Plan}
-use Rattle.cio.specs.declared.plan.Plan.the-variants as plan
-use Rattle.cio.specs.Plan.{planOf, groupOf}
-use Rattle.cio.specs.Transfer.{spanFits, Out, goes, ends, landed}
-use Rattle.cio.specs.Handlers.{consoleHandler, printerHandler}
-use Rattle.cio.specs.Start.{errandOf, workOf, startOf}
-use Rattle.cio.specs.Move.{goOf, moveOf, wayIn}
+use Rattle.layout.specs.Stick.{withPhase}
+use Rattle.transfer.specs.Transfer.{Out, goes, ends, landed}
+use Rattle.transfer.specs.Spans.{wayIn, spanFits}
+use Rattle.devices.specs.declared.Group.{Group}
+use Rattle.devices.specs.declared.Group.the-variants as group
+use Rattle.devices.specs.Groups.{Groups, Part, getGroup, putGroup, clash, ownerOf, groupOf, heldOf, deviceActs}
+use Rattle.devices.specs.Fit.{FitGroups, FitPart}
+use Rattle.devices.proofs.Frame.{get-apart, clash-swap}
+use Rattle.plan.specs.declared.Plan.{Plan}
+use Rattle.plan.specs.declared.Plan.the-variants as plan
+use Rattle.plan.specs.Plan.{planOf, groupNeeded}
+use Rattle.cio.specs.Start.{errandOf, jobBegun, startOf}
+use Rattle.cio.specs.Move.{advanceOf}
+use Rattle.damage.specs.Fits.{allows, openFor, inUse, spans, runFits, phaseFits, portFits}
+use Rattle.calls.specs.Port.{portWith, Reach, reach, startPlan, moveRun, Ticked, readyTick, tickPort, takePort, givePort}
+use Rattle.alone.specs.Fit.{UsedBy}
+use Rattle.alone.proofs.Fit.{fit-part, fit-put}
 use Rattle.rules.specs.Running.{Allowed, OpenFor, FitRun}
-use Rattle.rules.proofs.RequestKeeps.{FitPlan, deviceIn, plan-fit, UsedBy, Anyhow, console-sound, printer-sound, FitOut, job-keeps, go-keeps, Replies, errand-keeps, landed-length}
-use Rattle.state.specs.Fits.{deviceGroup, heldOf, clash, allows, openFor, inUse, spans, runFits, phaseFits, portFits}
-use Rattle.state.proofs.Tested.{clash-nobody}
-use Rattle.port.specs.Port.{portOf, withPhase, Reach, reach, startPlan, consoleMove, printerMove, moveOn, moveRun, Ticked, readyTick, tickPort, takePort, givePort}
+use Rattle.rules.proofs.RequestKeeps.{FitPlan, plan-fit, FitOut, job-keeps, move-keeps, Replies, errand-keeps, landed-length}
 
 both : (a b : Bool) → a ≡ true → b ≡ true → and a b ≡ true
 both a b p q = rw (p, q)
@@ -113,19 +113,23 @@ module _ (port : Port) (console : Console) where
   unfolding portFits
   of-port m f = both (tableMade (port .table)) (phaseFits (port .phase) (port .table) console) m f
 
--- "E runs in mode 0, S in another": a handler's device in use
-use-of : (h : Handler) (g : ConsoleGroup) → FitGroup g → inUse (deviceIn h) (g .console .mode) ≡ true → UsedBy h g
-use-of handler.E g f e = eqb-true (g .console .mode) 0 e
-use-of handler.S g f e = picture-mode (g .console .mode) (fits-of (g .console) (f .fit) .mode) (λ z. omega (arith, z, ltb-true 0 (g .console .mode) e))
-use-of handler.K g f e = tt
+-- "E runs in mode 0, S in another": a device in use, by the console's mode
+use-of : (d : Device) (s : Groups) → FitGroups s → inUse d (s .console .console .mode) ≡ true → UsedBy (ownerOf d) (getGroup (groupOf d) s)
+use-of E s f e = eqb-true (s .console .console .mode) 0 e
+use-of S s f e =
+    let c = s .console .console in
+    picture-mode (c .mode) (fits-of c (f .console .fit) .mode) (λ z. omega (arith, z, ltb-true 0 (c .mode) e))
+use-of K s f e = tt
+use-of P s f e = tt
 
-of-use : (h : Handler) (g : ConsoleGroup) → UsedBy h g → inUse (deviceIn h) (g .console .mode) ≡ true
-of-use handler.E g u = eq-eqb (g .console .mode) 0 u
-of-use handler.S g u = lt-ltb 0 (g .console .mode) (omega (arith, leb-true 3 (g .console .mode) (and-left (leb 3 (g .console .mode)) (leb (g .console .mode) 8) u)))
-of-use handler.K g u = refl
+of-use : (d : Device) (s : Groups) (x : Part (groupOf d)) → UsedBy (ownerOf d) x → inUse d (putGroup (groupOf d) s x .console .console .mode) ≡ true
+of-use E s x u = eq-eqb (x .console .mode) 0 u
+of-use S s x u = let m = x .console .mode in lt-ltb 0 m (omega (arith, leb-true 3 m (and-left (leb 3 m) (leb m 8) u)))
+of-use K s x u = refl
+of-use P s x u = refl
 
 -- a port that is not ticked: its running request fits as before where the console that it holds is left in its mode
-use-same : (device : Device) (mode after : ℕ) → (deviceGroup device ≡ group.Console → after ≡ mode) → inUse device mode ≡ true → inUse device after ≡ true
+use-same : (device : Device) (mode after : ℕ) → (groupOf device ≡ group.Console → after ≡ mode) → inUse device mode ≡ true → inUse device after ≡ true
 use-same E mode after s e = rw (s refl) e
 use-same S mode after s e = rw (s refl) e
 use-same K mode after s e = refl
@@ -145,31 +149,16 @@ port-same port console after s e =
     let f = port-of port console e in
     of-port port after (f .0) (phase-same (port .phase) (port .table) console after s (f .1))
 
--- groups
-pub clash-swap : (one other : Group) → clash one other ≡ clash other one
-clash-swap group.Nobody group.Nobody = refl
-clash-swap group.Nobody group.Console = refl
-clash-swap group.Nobody group.Printer = refl
-clash-swap group.Console group.Nobody = refl
-clash-swap group.Console group.Console = refl
-clash-swap group.Console group.Printer = refl
-clash-swap group.Printer group.Nobody = refl
-clash-swap group.Printer group.Console = refl
-clash-swap group.Printer group.Printer = refl
-
-pub console-free : (held : Group) → clash group.Console held ≡ false → held ≡ group.Console → ⊥
-console-free held e h = subst T (rw h at e) tt
-
 -- what becomes of a request, in its port
-module _ {D : Type 0} (device : Device) (Used : D → Type 0) (table : Table) (x : D) where
-  landed-fits : (out : Out) (room : List ℕ) (console : Console) → FitOut device Used out table x → (Used x → inUse device (console .mode) ≡ true) → phaseFits (landed out room .phase) table console ≡ true
+module _ (device : Device) (table : Table) (x : Part (groupOf device)) where
+  landed-fits : (out : Out) (room : List ℕ) (console : Console) → FitOut device out table x → (UsedBy (ownerOf device) x → inUse device (console .mode) ≡ true) → phaseFits (landed out room .phase) table console ≡ true
   unfolding phaseFits
   landed-fits (goes run) room console f u = of-run run table console (f .fit) (rw (f .named) (u (f .used)))
   landed-fits (ends reply) room console f u = f
 
-  landed-apart : (out : Out) (room : List ℕ) (held : Group) → FitOut device Used out table x → clash (deviceGroup device) held ≡ false → clash (heldOf (landed out room .phase)) held ≡ false
+  landed-apart : (out : Out) (room : List ℕ) (held : Group) → FitOut device out table x → clash (groupOf device) held ≡ false → clash (heldOf (landed out room .phase)) held ≡ false
   landed-apart (goes run) room held f c = rw (f .named) c
-  landed-apart (ends reply) room held f c = sym (clash-nobody group.Nobody held refl)
+  landed-apart (ends reply) room held f c = refl
 
 replies-fits : (phase : Phase) (table : Table) (console : Console) → Replies phase → phaseFits phase table console ≡ true
 unfolding phaseFits
@@ -182,128 +171,103 @@ replies-apart : (phase : Phase) (held : Group) → Replies phase → clash (held
 replies-apart (Gathering gather) held f = absurd f
 replies-apart (Ready header) held f = absurd f
 replies-apart (Running run) held f = absurd f
-replies-apart (Replying reply) held f = sym (clash-nobody group.Nobody held refl)
+replies-apart (Replying reply) held f = refl
 
 -- all that a port's tick reaches fits
 pub record FitReach (r : Reach) : Type 0 where
-  pub port : portFits (r .port) (r .console .console) ≡ true
-  pub room : length (r .room) ≡ 260
-  pub area : length (r .area) ≡ 16384
-  pub console : FitGroup (r .console)
-  pub printer : FitPrinter (r .printer)
+  pub port : portFits (r .port) (r .groups .console .console) ≡ true
+  pub room : length (r .room) ≡ roomLength
+  pub area : length (r .area) ≡ areaLength
+  pub groups : FitGroups (r .groups)
 
--- what a tick leaves fits, holds no group that the other port holds, and leaves the mode of a console that the other port holds
+-- what a tick leaves fits, holds no group that the other port holds, and leaves the group that the other port holds
 pub record Kept (held : Group) (r after : Reach) : Type 0 where
   pub fit : FitReach after
   pub apart : clash (heldOf (after .port .phase)) held ≡ false
-  pub mode : held ≡ group.Console → after .console .console .mode ≡ r .console .console .mode
+  pub leaves : getGroup held (after .groups) ≡ getGroup held (r .groups)
 
-console-group : (h : Handler) → deviceGroup (deviceIn h) ≡ group.Console
-console-group handler.E = refl
-console-group handler.S = refl
-console-group handler.K = refl
+-- and so the mode of a console that the other port holds
+pub kept-mode : (held : Group) (r after : Reach) → Kept held r after → held ≡ group.Console → after .groups .console .console .mode ≡ r .groups .console .console .mode
+kept-mode held r after k e = ap (λ (g : ConsoleGroup). g .console .mode) (subst (λ (h : Group). getGroup h (after .groups) ≡ getGroup h (r .groups)) e (k .leaves))
 
-module _ (held : Group) (r : Reach) (f : FitReach r) where
+-- n is the port's number
+module _ (n : ℕ) (held : Group) (r : Reach) (f : FitReach r) where
   made : tableMade (r .port .table) ≡ true
-  made = port-of (r .port) (r .console .console) (f .port) .0
+  made = port-of (r .port) (r .groups .console .console) (f .port) .0
 
   nothing-kept : clash (heldOf (r .port .phase)) held ≡ false → Kept held r r
-  nothing-kept c = record { fit = f; apart = c; mode = λ e. refl }
+  nothing-kept c = record { fit = f; apart = c; leaves = refl }
 
-  -- a start or a move on the console, and on the printer
-  module _ (table : Table) (out : Out) (area : List ℕ) (m : tableMade table ≡ true) (n : length area ≡ 16384) where
-    console-landed : (h : Handler) (y : ConsoleGroup) → FitGroup y → FitOut (deviceIn h) (UsedBy h) out table y → clash group.Console held ≡ false
-        → Kept held r (reach (portOf table (landed out (r .room) .phase)) (landed out (r .room) .room) area y (r .printer))
-    console-landed h y g o c = record {
-      fit = record {
-        port = of-port (portOf table (landed out (r .room) .phase)) (y .console) m (landed-fits (deviceIn h) (UsedBy h) table y out (r .room) (y .console) o (of-use h y));
-        room = landed-length out (r .room) ∙ f .room;
-        area = n;
-        console = g;
-        printer = f .printer;
-      };
-      apart = landed-apart (deviceIn h) (UsedBy h) table y out (r .room) held o (rw (console-group h) c);
-      mode = λ e. absurd (console-free held c e);
-    }
-
-    printer-landed : (y : PrinterGroup) → FitPrinter y → FitOut P Anyhow out table y → clash group.Printer held ≡ false
-        → Kept held r (reach (portOf table (landed out (r .room) .phase)) (landed out (r .room) .room) area (r .console) y)
-    printer-landed y g o c = record {
-      fit = record {
-        port = of-port (portOf table (landed out (r .room) .phase)) (r .console .console) m (landed-fits P Anyhow table y out (r .room) (r .console .console) o (λ u. refl));
-        room = landed-length out (r .room) ∙ f .room;
-        area = n;
-        console = f .console;
-        printer = g;
-      };
-      apart = landed-apart P Anyhow table y out (r .room) held o c;
-      mode = λ e. refl;
-    }
+  -- a start or a move on a device
+  landed-kept : (device : Device) (table : Table) (out : Out) (area : List ℕ) (y : Part (groupOf device)) → tableMade table ≡ true → length area ≡ areaLength
+      → FitPart (groupOf device) y → FitOut device out table y → clash (groupOf device) held ≡ false
+      → Kept held r (reach (portWith table (landed out (r .room) .phase)) (landed out (r .room) .room) area (putGroup (groupOf device) (r .groups) y))
+  landed-kept device table out area y m k g o c =
+      let own = groupOf device in
+      let s = putGroup own (r .groups) y in
+      record {
+        fit = record {
+          port = of-port (portWith table (landed out (r .room) .phase)) (s .console .console) m
+              (landed-fits device table y out (r .room) (s .console .console) o (of-use device (r .groups) y));
+          room = landed-length out (r .room) ∙ f .room;
+          area = k;
+          groups = fit-put own (r .groups) y (f .groups) g;
+        };
+        apart = landed-apart device table y out (r .room) held o c;
+        leaves = get-apart held own y (r .groups) (clash-swap held own ∙ c);
+      }
 
   -- "A ready port's first tick with the group free starts the request"
-  start-kept : (p : Plan) → FitPlan p (r .port .table) → clash (groupOf p) held ≡ false → Kept held r (startPlan p r)
+  start-kept : (p : Plan) → FitPlan p (r .port .table) → clash (groupNeeded p) held ≡ false → Kept held r (startPlan n p r)
   unfolding startPlan startOf
   start-kept (plan.Free e) q c =
       let k = errand-keeps e (r .room) (r .area) in
       let phase = errandOf e (r .room) (r .area) .port .phase in
+      let console = r .groups .console .console in
       record {
         fit = record {
-          port = of-port (withPhase phase (r .port)) (r .console .console) made (replies-fits phase (r .port .table) (r .console .console) (k .replies));
+          port = of-port (withPhase phase (r .port)) console made (replies-fits phase (r .port .table) console (k .replies));
           room = k .kept ∙ f .room;
           area = k .area ∙ f .area;
-          console = f .console;
-          printer = f .printer;
+          groups = f .groups;
         };
         apart = replies-apart phase held (k .replies);
-        mode = λ e. refl;
+        leaves = refl;
       }
-  start-kept (plan.Console h job) q c =
-      let k = job-keeps (consoleHandler h) (deviceIn h) FitGroup (UsedBy h) (console-sound h) job (r .port .table) q made (r .console) (f .console) in
-      let b = workOf (consoleHandler h) (job .work) (job .device) (job .call) (r .port .table) (r .console) in
-      console-landed (b .table) (b .out) (r .area) (k .made) (f .area) h (b .device) (k .fits) (k .out) c
-  start-kept (plan.Printer job) q c =
-      let k = job-keeps printerHandler P FitPrinter Anyhow printer-sound job (r .port .table) q made (r .printer) (f .printer) in
-      let b = workOf printerHandler (job .work) (job .device) (job .call) (r .port .table) (r .printer) in
-      printer-landed (b .table) (b .out) (r .area) (k .made) (f .area) (b .device) (k .fits) (k .out) c
+  start-kept (plan.On job) q c =
+      let g = groupOf (job .device) in
+      let table = r .port .table in
+      let iocb = job .call .iocb in
+      let k = job-keeps job n table q made (getGroup g (r .groups)) (fit-part g (r .groups) (f .groups)) in
+      let b = jobBegun (deviceActs (job .device)) n job (blockAt table iocb) (getGroup g (r .groups)) in
+      landed-kept (job .device) (withBlock table iocb (b .block)) (b .out) (r .area) (b .device) (k .made) (f .area) (k .fits) (k .out) c
 
-  module _ (run : Run) (g : FitRun run (r .port .table)) (u : inUse (run .device) (r .console .console .mode) ≡ true) (c : clash (deviceGroup (run .device)) held ≡ false) where
-    console-kept : (h : Handler) → run .device ≡ deviceIn h → Kept held r (consoleMove h run r)
-    unfolding consoleMove moveOf
-    console-kept h n =
-        let used = use-of h (r .console) (f .console) (rw n at u) in
-        let k = go-keeps (consoleHandler h) (deviceIn h) FitGroup (UsedBy h) (console-sound h) (r .port .table) run g n (r .area) (r .console) (f .console) used (run .kind) refl in
-        let w = goOf (consoleHandler h) (run .kind) run (r .area) (r .console) in
-        console-landed (r .port .table) (w .out) (w .area) made (k .kept ∙ f .area) h (w .device) (k .fits) (k .out) (rw (n, console-group h) at c)
+  -- "Each later tick moves one character": of a running request that fits and whose group the other port does not hold
+  move-kept : (run : Run) → FitRun run (r .port .table) → inUse (run .device) (r .groups .console .console .mode) ≡ true → clash (groupOf (run .device)) held ≡ false → Kept held r (moveRun n run r)
+  unfolding moveRun
+  move-kept run g u c =
+      let d = run .device in
+      let x = getGroup (groupOf d) (r .groups) in
+      let k = move-keeps d n (r .port .table) run g refl (r .area) x (fit-part (groupOf d) (r .groups) (f .groups)) (use-of d (r .groups) (f .groups) u) in
+      let w = advanceOf (deviceActs d) n run (r .area) x in
+      landed-kept d (r .port .table) (w .out) (w .area) (w .device) made (k .kept ∙ f .area) (k .fits) (k .out) c
 
-    printer-kept : run .device ≡ P → Kept held r (printerMove run r)
-    unfolding printerMove moveOf
-    printer-kept n =
-        let k = go-keeps printerHandler P FitPrinter Anyhow printer-sound (r .port .table) run g n (r .area) (r .printer) (f .printer) tt (run .kind) refl in
-        let w = goOf printerHandler (run .kind) run (r .area) (r .printer) in
-        printer-landed (r .port .table) (w .out) (w .area) made (k .kept ∙ f .area) (w .device) (k .fits) (k .out) (rw n at c)
-
-    move-kept : (device : Device) → run .device ≡ device → Kept held r (moveOn device run r)
-    move-kept E n = console-kept handler.E n
-    move-kept S n = console-kept handler.S n
-    move-kept K n = console-kept handler.K n
-    move-kept P n = printer-kept n
-
-  ready-kept : (header : Header) → clash (heldOf (r .port .phase)) held ≡ false → Kept held r (readyTick header held r .reach)
+  ready-kept : (header : Header) → clash (heldOf (r .port .phase)) held ≡ false → Kept held r (readyTick n header held r .reach)
   unfolding readyTick
   ready-kept header c =
       let m = messageOf header (r .room) in
-      choose-go (λ (t : Ticked). Kept held r (t .reach)) (clash (groupOf (planOf m (r .port .table) (r .area))) held) _ _
+      choose-go (λ (t : Ticked). Kept held r (t .reach)) (clash (groupNeeded (planOf m (r .port .table) (r .area))) held) _ _
       (λ t. nothing-kept c)
       (λ t. start-kept (planOf m (r .port .table) (r .area)) (plan-fit m (r .port .table) (r .area)) t)
 
-  -- "Each later tick moves one character": of a running request that fits and whose group the other port does not hold
-  running-kept : (run : Run) → r .port .phase ≡ Running run → clash (heldOf (r .port .phase)) held ≡ false → Kept held r (moveRun run r)
+  running-kept : (run : Run) → r .port .phase ≡ Running run → clash (heldOf (r .port .phase)) held ≡ false → Kept held r (moveRun n run r)
   unfolding phaseFits
   running-kept run e c =
-      let k = run-of run (r .port .table) (r .console .console) (rw e at (port-of (r .port) (r .console .console) (f .port) .1)) in
-      move-kept run (k .0) (k .1) (rw e at c) (run .device) refl
+      let console = r .groups .console .console in
+      let k = run-of run (r .port .table) console (rw e at (port-of (r .port) console (f .port) .1)) in
+      move-kept run (k .0) (k .1) (rw e at c)
 
-  pub tick-kept : (phase : Phase) → r .port .phase ≡ phase → clash (heldOf (r .port .phase)) held ≡ false → Kept held r (tickPort phase held r .reach)
+  pub tick-kept : (phase : Phase) → r .port .phase ≡ phase → clash (heldOf (r .port .phase)) held ≡ false → Kept held r (tickPort n phase held r .reach)
   unfolding tickPort
   tick-kept (Gathering gather) e c = nothing-kept c
   tick-kept (Ready header) e c = ready-kept header c

@@ -12,44 +12,42 @@ use lib.ListN.{length, take, drop, length-set}
 use lib.Seq.{length-take-le, take-at, drop-at, length-sets}
 use Rattle.base.specs.Choice.{pick}
 use Rattle.base.proofs.Choices.{choose-go}
-use Rattle.console.specs.declared.Handler as console
-use Rattle.console.specs.declared.Handler.the-variants as handler
 use Rattle.handler.specs.declared.Got.{Got}
 use Rattle.handler.specs.declared.Got.the-variants as got
-use Rattle.blocks.specs.declared.Device.{Device}
-use Rattle.blocks.specs.declared.Device.the-variants.{E, S, K, P}
+use Rattle.handler.specs.Acts.{Acts, asksOn}
 use Rattle.blocks.specs.declared.Kind.{Kind}
 use Rattle.blocks.specs.declared.Kind.the-variants.{Get, Put}
-use Rattle.blocks.specs.declared.Way.{Way}
-use Rattle.blocks.specs.declared.Way.the-variants.{One, Characters, Record}
-use Rattle.blocks.specs.declared.Run.{Run}
 use Rattle.blocks.specs.declared.Phase.{Phase}
 use Rattle.blocks.specs.declared.Phase.the-variants.{Gathering, Ready, Running, Replying}
 use Rattle.blocks.specs.declared.Port.{Port}
-use Rattle.wire.specs.Messages.{messageOf}
+use Rattle.blocks.specs.declared.Run.{Run}
+use Rattle.blocks.specs.declared.Way.{Way}
+use Rattle.blocks.specs.declared.Way.the-variants.{One, Characters, Record}
+use Rattle.blocks.specs.Blocks.{blockAt}
+use Rattle.blocks.specs.Opening.{areaLength}
+use Rattle.wire.specs.Messages.{roomLength, messageOf}
 use Rattle.wire.specs.Replies.{callReply, statusReply, fetchReply, bytesAt}
 use Rattle.wire.proofs.Keeps.{take-room-length}
-use Rattle.cio.specs.declared.plan.Group.{Group}
-use Rattle.cio.specs.declared.plan.Errand.{Errand}
-use Rattle.cio.specs.declared.plan.Errand.the-variants as errand
-use Rattle.cio.specs.declared.plan.Plan.{Plan}
-use Rattle.cio.specs.declared.plan.Plan.the-variants as plan
-use Rattle.cio.specs.Plan.{planOf, groupOf}
-use Rattle.cio.specs.Handlers.{Handler, consoleHandler, printerHandler}
-use Rattle.cio.specs.Transfer.{Progress, gotCharacter, gotOf, Out, goes, ends, landed}
-use Rattle.cio.specs.Start.{loadFits, loadedOf, loadStatus, loadOf, errandOf, workOf, startOf}
-use Rattle.cio.specs.Move.{getOf, putOf, goOf, moveOf}
-use Rattle.state.specs.declared.Stick.{Stick}
-use Rattle.state.specs.Fits.{heldOf, clash}
-use Rattle.port.specs.Port.{Reach, startPlan, consoleMove, printerMove, moveOn, Ticked, ticked, readyTick, tickPort, takePort, givePort}
-use Rattle.stick.specs.Stick.{Lent, refused, portAt, otherAt, withPort0, withPort1, withPort, partAt, withPart, areaAt, roomAt, reachAt, withReach}
-use Rattle.stick.specs.Calls.{takeAt, takeOf, tickAt, tickOf, giveAt, giveOf, consoleHeld, pressAt, pressOf}
+use Rattle.layout.specs.Stick.{Stick, Lent, portAt, otherAt, withPort0, withPort1, withPort, partAt, withPart}
+use Rattle.transfer.specs.Transfer.{Progress, gotCharacter, gotOf, Out, goes, ends, landed}
+use Rattle.devices.specs.declared.Group.{Group}
+use Rattle.devices.specs.Groups.{getGroup, clash, groupOf, heldOf, deviceActs}
+use Rattle.plan.specs.declared.Errand.{Errand}
+use Rattle.plan.specs.declared.Errand.the-variants as errand
+use Rattle.plan.specs.declared.Plan.{Plan}
+use Rattle.plan.specs.declared.Plan.the-variants as plan
+use Rattle.plan.specs.Plan.{planOf, groupNeeded}
+use Rattle.cio.specs.Start.{loadFits, loadedOf, loadStatus, loadOf, errandOf, jobBegun, startOf}
+use Rattle.cio.specs.Move.{getOf, putOf, goOf, advanceOf}
+use Rattle.calls.specs.Port.{Reach, startPlan, moveRun, Ticked, ticked, readyTick, tickPort, takePort, givePort}
+use Rattle.calls.specs.Stick.{refused, areaAt, roomAt, withGroups, reachAt, withReach}
+use Rattle.calls.specs.Calls.{takeAt, takeCall, tickAt, tickCall, giveAt, giveCall, consoleHeld, pressAt, pressCall}
 use Rattle.rules.specs.Answers.{Called}
+use Rattle.rules.specs.Ports.{otherNumber, OtherStays, OnlyOwn, OnlyPhase, OnlyKey}
 use Rattle.rules.proofs.Answers.{by-order}
-use Rattle.rules.specs.Ports.{other, OtherStays, OnlyOwn, OnlyPhase, OnlyKey}
 
 -- a part put back in its place leaves the other part
-other-part : (n port : ℕ) (part xs : List ℕ) → n ≤ length xs → length part ≡ length (partAt n port xs) → partAt n (other port) (withPart n port part xs) ≡ partAt n (other port) xs
+other-part : (n port : ℕ) (part xs : List ℕ) → n ≤ length xs → length part ≡ length (partAt n port xs) → partAt n (otherNumber port) (withPart n port part xs) ≡ partAt n (otherNumber port) xs
 other-part n port part xs h = go (eqb port 0)
   where
     go : (b : Bool) → length part ≡ length (pick b (take n xs) (drop n xs))
@@ -116,7 +114,7 @@ module _ (s : Stick) (l : Lent) (port byte : ℕ) where
       record {
         others = record {
           state = other-port port (t .port) s;
-          room = other-part 260 port (t .room) (l .rooms) (omega (arith, w .rooms)) (take-length (portAt port s .phase) (portAt port s) (roomAt port l) byte);
+          room = other-part roomLength port (t .room) (l .rooms) (omega (arith, w .rooms)) (take-length (portAt port s .phase) (portAt port s) (roomAt port l) byte);
           half = refl;
         };
         blocks = ap (λ (p : Port). p .table) (own-port port (t .port) s) ∙ take-table (portAt port s .phase) (portAt port s) (roomAt port l) byte;
@@ -128,8 +126,8 @@ module _ (s : Stick) (l : Lent) (port byte : ℕ) where
       }
 
   -- "Mixing two ports' bytes on the way in or out": a taken byte goes into its own port's room only
-  pub take-only : OnlyOwn port s l (takeOf s l port byte)
-  unfolding takeOf
+  pub take-only : OnlyOwn port s l (takeCall s l port byte)
+  unfolding takeCall
   take-only = by-order s l (λ u. takeAt port s l byte) (OnlyOwn port s l) port (λ w. still-own port s l 2) (λ d. still-own port s l 3) (λ a. still-own port s l 1) taken
 
 -- tick: it keeps the lengths of what it reaches of the room and the area
@@ -161,11 +159,12 @@ errand-area (errand.Load address size) room half = loaded-length address size ro
 errand-area (errand.Fetch address count) room half = refl
 errand-area (errand.Bad status) room half = refl
 
-start-kept : (p : Plan) (r : Reach) → Kept r (startPlan p r)
+start-kept : (n : ℕ) (p : Plan) (r : Reach) → Kept r (startPlan n p r)
 unfolding startPlan startOf
-start-kept (plan.Free e) r = record { room = errand-room e (r .room) (r .area); area = errand-area e (r .room) (r .area) }
-start-kept (plan.Console h job) r = record { room = landed-length (workOf (consoleHandler h) (job .work) (job .device) (job .call) (r .port .table) (r .console) .out) (r .room); area = refl }
-start-kept (plan.Printer job) r = record { room = landed-length (workOf printerHandler (job .work) (job .device) (job .call) (r .port .table) (r .printer) .out) (r .room); area = refl }
+start-kept n (plan.Free e) r = record { room = errand-room e (r .room) (r .area); area = errand-area e (r .room) (r .area) }
+start-kept n (plan.On job) r =
+    let b = jobBegun (deviceActs (job .device)) n job (blockAt (r .port .table) (job .call .iocb)) (getGroup (groupOf (job .device)) (r .groups)) in
+    record { room = landed-length (b .out) (r .room); area = refl }
 
 character-area : (way : Way) (run : Run) (byte : ℕ) (area : List ℕ) → length (gotCharacter way run byte area .area) ≡ length area
 unfolding gotCharacter
@@ -179,57 +178,49 @@ unfolding gotOf
 got-area way run (got.Character byte) area = character-area way run byte area
 got-area way run (got.Refused status) area = refl
 
-go-area : {D : Type 0} (H : Handler D) (kind : Kind) (run : Run) (area : List ℕ) (x : D) → length (goOf H kind run area x .area) ≡ length area
+go-area : {D : Type 0} (H : Acts D) (kind : Kind) (run : Run) (area : List ℕ) (x : D) → length (goOf H kind run area x .area) ≡ length area
 unfolding goOf getOf putOf
 go-area H (Get way) run area x = got-area way run (H .reads x .says) area
 go-area H (Put way) run area x = refl
 
-module _ (run : Run) (r : Reach) where
-  console-kept : (h : console.Handler) → Kept r (consoleMove h run r)
-  unfolding consoleMove moveOf
-  console-kept h = record { room = landed-length (goOf (consoleHandler h) (run .kind) run (r .area) (r .console) .out) (r .room); area = go-area (consoleHandler h) (run .kind) run (r .area) (r .console) }
-
-  printer-kept : Kept r (printerMove run r)
-  unfolding printerMove moveOf
-  printer-kept = record { room = landed-length (goOf printerHandler (run .kind) run (r .area) (r .printer) .out) (r .room); area = go-area printerHandler (run .kind) run (r .area) (r .printer) }
-
-  move-kept : (d : Device) → Kept r (moveOn d run r)
-  move-kept E = console-kept handler.E
-  move-kept S = console-kept handler.S
-  move-kept K = console-kept handler.K
-  move-kept P = printer-kept
+move-kept : (n : ℕ) (run : Run) (r : Reach) → Kept r (moveRun n run r)
+unfolding moveRun advanceOf
+move-kept n run r =
+    let A = deviceActs (run .device) (asksOn n (run .iocb)) in
+    let x = getGroup (groupOf (run .device)) (r .groups) in
+    record { room = landed-length (goOf A (run .kind) run (r .area) x .out) (r .room); area = go-area A (run .kind) run (r .area) x }
 
 same-kept : (r : Reach) → Kept r r
 same-kept r = record { room = refl; area = refl }
 
-tick-kept : (phase : Phase) (held : Group) (r : Reach) → Kept r (tickPort phase held r .reach)
+tick-kept : (n : ℕ) (phase : Phase) (held : Group) (r : Reach) → Kept r (tickPort n phase held r .reach)
 unfolding tickPort readyTick
-tick-kept (Gathering gather) held r = same-kept r
-tick-kept (Ready header) held r =
+tick-kept n (Gathering gather) held r = same-kept r
+tick-kept n (Ready header) held r =
     let p = planOf (messageOf header (r .room)) (r .port .table) (r .area) in
-    choose-go (λ (t : Ticked). Kept r (t .reach)) (clash (groupOf p) held) (λ u. ticked 8 r) (λ u. ticked 0 (startPlan p r)) (λ t. same-kept r) (λ t. start-kept p r)
-tick-kept (Running run) held r = move-kept run r (run .device)
-tick-kept (Replying reply) held r = same-kept r
+    choose-go (λ (t : Ticked). Kept r (t .reach)) (clash (groupNeeded p) held) (λ u. ticked 8 r) (λ u. ticked 0 (startPlan n p r)) (λ t. same-kept r) (λ t. start-kept n p r)
+tick-kept n (Running run) held r = move-kept n run r
+tick-kept n (Replying reply) held r = same-kept r
 
 other-reach : (port : ℕ) (r : Reach) (s : Stick) → otherAt port (withReach port r s) ≡ otherAt port s
-other-reach port r s = other-port port (r .port) (record { port0 = s .port0; port1 = s .port1; console = r .console .console; printer = record { used = r .printer .used } })
+other-reach port r s = other-port port (r .port) (withGroups (r .groups) s)
 
 module _ (s : Stick) (l : Lent) (port : ℕ) where
   moved : Called s l port → OtherStays port s l (tickAt port s l)
   unfolding tickAt
   moved c =
-      let t = tickPort (portAt port s .phase) (heldOf (otherAt port s .phase)) (reachAt port s l) in
-      let k = tick-kept (portAt port s .phase) (heldOf (otherAt port s .phase)) (reachAt port s l) in
+      let t = tickPort port (portAt port s .phase) (heldOf (otherAt port s .phase)) (reachAt port s l) in
+      let k = tick-kept port (portAt port s .phase) (heldOf (otherAt port s .phase)) (reachAt port s l) in
       let w = c .sound .lengths in
       record {
         state = other-reach port (t .reach) s;
-        room = other-part 260 port (t .reach .room) (l .rooms) (omega (arith, w .rooms)) (k .room);
-        half = other-part 16384 port (t .reach .area) (l .area) (omega (arith, w .area)) (k .area);
+        room = other-part roomLength port (t .reach .room) (l .rooms) (omega (arith, w .rooms)) (k .room);
+        half = other-part areaLength port (t .reach .area) (l .area) (omega (arith, w .area)) (k .area);
       }
 
   -- "Addresses are inside the port's own area." "Errors we have seen: .. Choosing the reply port when the request ends."
-  pub tick-others : OtherStays port s l (tickOf s l port)
-  unfolding tickOf
+  pub tick-others : OtherStays port s l (tickCall s l port)
+  unfolding tickCall
   tick-others = by-order s l (λ u. tickAt port s l) (OtherStays port s l) port (λ w. still port s l 2) (λ d. still port s l 3) (λ a. still port s l 1) moved
 
 -- give
@@ -257,14 +248,14 @@ module _ (s : Stick) (l : Lent) (port : ℕ) where
   still-phase answer = record { state = refl; blocks = refl; console = refl; printer = refl; buffers = refl }
 
   -- "Mixing two ports' bytes on the way in or out": a byte given changes only its own port's phase
-  pub give-only : OnlyPhase port s l (giveOf s l port)
-  unfolding giveOf
+  pub give-only : OnlyPhase port s l (giveCall s l port)
+  unfolding giveCall
   give-only = by-order s l (λ u. giveAt port s l) (OnlyPhase port s l) port (λ w. still-phase 2) (λ d. still-phase 3) (λ a. still-phase 1) (λ c. given)
 
-  pub give-others : OtherStays port s l (giveOf s l port)
+  pub give-others : OtherStays port s l (giveCall s l port)
   give-others =
       let g = give-only in
-      record { state = g .state; room = ap (λ (x : Lent). roomAt (other port) x) (g .buffers); half = ap (λ (x : Lent). areaAt (other port) x) (g .buffers) }
+      record { state = g .state; room = ap (λ (x : Lent). roomAt (otherNumber port) x) (g .buffers); half = ap (λ (x : Lent). areaAt (otherNumber port) x) (g .buffers) }
 
 -- press
 module _ (s : Stick) (l : Lent) (code : ℕ) where
@@ -272,8 +263,8 @@ module _ (s : Stick) (l : Lent) (code : ℕ) where
   still-keys answer = record { port0 = refl; port1 = refl; console = inl refl; printer = refl; buffers = refl }
 
   -- "A press stores the code over an older one"
-  pub press-only : OnlyKey code s l (pressOf s l code)
-  unfolding pressOf pressAt
+  pub press-only : OnlyKey code s l (pressCall s l code)
+  unfolding pressCall pressAt
   press-only =
       by-order s l (λ u. pressAt s l code) (OnlyKey code s l) 0 (λ w. still-keys 2) (λ d. still-keys 3) (λ a. still-keys 1)
       (λ c. choose-go (OnlyKey code s l) (consoleHeld s) _ _ (λ t. still-keys 6) (λ t. record { port0 = refl; port1 = refl; console = inr refl; printer = refl; buffers = refl }))

@@ -13,75 +13,88 @@ use lib.Seq.{sets}
 use borrow.Author.Tests.{eq-eqb, ne-eqb}
 use Rattle.base.specs.Choice.{pick, or, within, bit}
 use Rattle.base.proofs.Choices.{pick-go, choose-go, choose-eq, by-test, by-eq}
-use Rattle.handler.specs.declared.Got.{Got}
-use Rattle.handler.specs.declared.Got.the-variants as got
+use Rattle.handler.specs.declared.Asked.{Asked}
 use Rattle.handler.specs.declared.Done.{Done}
 use Rattle.handler.specs.declared.Done.the-variants as done
-use Rattle.cells.specs.Modes.{shapeOf}
-use Rattle.keys.specs.Keyboard as keys
+use Rattle.handler.specs.declared.Got.{Got}
+use Rattle.handler.specs.declared.Got.the-variants as got
+use Rattle.handler.specs.Answer.{doneStatus, Answer}
+use Rattle.handler.specs.Acts.{Acts, asksOn}
 use Rattle.keys.specs.Translation.{translateOf}
+use Rattle.keys.specs.Keyboard as keys
+use Rattle.cells.specs.Modes.{shapeOf}
 use Rattle.editor.specs.Text as editor
 use Rattle.editor.specs.Get as editor-get
 use Rattle.graphics.specs.Picture as graphics
-use Rattle.printer.specs.Printer.{PrinterGroup}
 use Rattle.printer.specs.Printer as printer
-use Rattle.console.specs.declared.Handler as console-handler
 use Rattle.console.specs.declared.Handler.the-variants as console
-use Rattle.console.specs.Group.{ConsoleGroup}
 use Rattle.console.specs.Handlers.{openOf, openS, prepareOf, prepareS, readOf, readE, readS, readK, writeOf, writeE, writeS}
+use Rattle.blocks.specs.declared.ControlBlock.{ControlBlock}
 use Rattle.blocks.specs.declared.Device.{Device}
-use Rattle.blocks.specs.declared.Table.{Table}
 use Rattle.blocks.specs.declared.Kind.{Kind}
 use Rattle.blocks.specs.declared.Kind.the-variants.{Get, Put}
+use Rattle.blocks.specs.declared.Run.{Run}
+use Rattle.blocks.specs.declared.Table.{Table}
 use Rattle.blocks.specs.declared.Way.{Way}
 use Rattle.blocks.specs.declared.Way.the-variants.{One, Characters, Record}
-use Rattle.blocks.specs.declared.Run.{Run}
 use Rattle.blocks.specs.Opening.{offersOf}
+use Rattle.blocks.specs.Blocks.{blockAt, openBlock, withBlock}
+use Rattle.blocks.proofs.Keeps.{block-back}
 use Rattle.wire.specs.declared.Call.{Call}
 use Rattle.wire.specs.Messages.{wordAt}
 use Rattle.wire.specs.Replies.{callReply}
-use Rattle.cio.specs.declared.plan.After.{After}
-use Rattle.cio.specs.declared.plan.After.the-variants as after
-use Rattle.cio.specs.declared.plan.Work.{Work}
-use Rattle.cio.specs.declared.plan.Work.the-variants as work
-use Rattle.cio.specs.declared.plan.Job.{Job}
-use Rattle.cio.specs.declared.plan.Errand.{Errand}
-use Rattle.cio.specs.declared.plan.Errand.the-variants as errand
-use Rattle.cio.specs.declared.transfer.Next.{Next}
-use Rattle.cio.specs.declared.transfer.Next.the-variants.{On, Off}
-use Rattle.cio.specs.Handlers.{Handler, consoleHandler, printerHandler}
-use Rattle.cio.specs.Transfer.{Out, goes, ends, outOf, landed, Progress, progress, furtherOf, endedOf, onwardOf, eol, recordOf, gotCharacter, gotOf, sentByte, sentRecord, sentNext, sentOf, Spans}
-use Rattle.cio.specs.Plan.{wayOf}
-use Rattle.cio.specs.Start.{loadFits, loadStatus, loadedOf, loadOf, errandOf, Begun, over, settledOf, openingOf, preparedOut, transferOf, workOf, runOf, startOf}
-use Rattle.cio.specs.Move.{went, getOf, putOf, goOf, moveOf}
-use Rattle.cio.proofs.Transfers.{span-characters, span-record}
-use Rattle.rules.proofs.Statuses.{statusIn, never}
+use Rattle.transfer.specs.declared.Next.{Next}
+use Rattle.transfer.specs.declared.Next.the-variants.{On, Off}
+use Rattle.transfer.specs.Transfer.{Out, goes, ends, outOf, landed, Progress, progress, furtherOf, endedOf, onwardOf, eol, recordOf, gotCharacter, gotOf, sentByte, sentRecord, sentNext, sentOf}
+use Rattle.transfer.specs.Spans.{Spans}
+use Rattle.transfer.proofs.Transfers.{span-characters, span-record}
+use Rattle.devices.specs.declared.Owner.{Owner}
+use Rattle.devices.specs.declared.Owner.the-variants as owner
+use Rattle.devices.specs.Groups.{Part, groupIn, ownActs}
+use Rattle.plan.specs.declared.After.{After}
+use Rattle.plan.specs.declared.After.the-variants as after
+use Rattle.plan.specs.declared.Errand.{Errand}
+use Rattle.plan.specs.declared.Errand.the-variants as errand
+use Rattle.plan.specs.declared.Job.{Job}
+use Rattle.plan.specs.declared.Work.{Work}
+use Rattle.plan.specs.declared.Work.the-variants as work
+use Rattle.plan.specs.Plan.{wayOf}
+use Rattle.cio.specs.Start.{loadFits, loadStatus, loadedOf, loadOf, errandOf, Begun, over, openingOf, preparedOut, transferOf, workOf, runOf, startOf, blockAfter, jobBegun, openedBy, openedOf, thenOf}
+use Rattle.cio.specs.Move.{went, getOf, putOf, goOf, moveOf, advanceOf}
+use Rattle.calls.specs.Stick.{paperLength}
+use Rattle.rules.proofs.Statuses.{statusIn, never, openingOn, says-01, says-84}
 
--- a handler whose refused opens, and refusals before a transfer, leave the device
-pub record Still {D : Type 0} (H : Handler D) : Type 0 where
-  pub opens : (aux1 aux2 status : ℕ) (x : D) → H .opens aux1 aux2 x .says ≡ done.Refused status → H .opens aux1 aux2 x .leaves ≡ x
-  pub prepares : (status : ℕ) (x : D) → H .prepares x .says ≡ done.Refused status → H .prepares x .leaves ≡ x
+-- a handler whose refusals before a transfer leave the device; GET STATUS it does not refuse
+pub record Still {D : Type 0} (H : Asked → Acts D) : Type 0 where
+  pub opens : (asked : Asked) (status : ℕ) (x : D) → H asked .opens x .says ≡ done.Refused status → H asked .opens x .leaves ≡ x
+  pub prepares : (asked : Asked) (status : ℕ) (x : D) → H asked .prepares x .says ≡ done.Refused status → H asked .prepares x .leaves ≡ x
+  pub specials : (asked : Asked) (status : ℕ) (x : D) → H asked .specials x .says ≡ done.Refused status → H asked .specials x .leaves ≡ x
+  pub statuses : (asked : Asked) (x : D) → H asked .statuses x ≡ done.Success
 
-open-still : (h : console-handler.Handler) (aux1 aux2 status : ℕ) (g : ConsoleGroup) → consoleHandler h .opens aux1 aux2 g .says ≡ done.Refused status → consoleHandler h .opens aux1 aux2 g .leaves ≡ g
+open-still : (o : Owner) (asked : Asked) (status : ℕ) (x : Part (groupIn o)) → ownActs o asked .opens x .says ≡ done.Refused status → ownActs o asked .opens x .leaves ≡ x
 unfolding openOf openS graphics.openOf
-open-still console.E aux1 aux2 status g e = never e
-open-still console.S aux1 aux2 status g e =
-    by-test (or (bit 16 aux1) (not (within 3 8 aux2)))
+open-still (owner.Console console.E) asked status x e = never e
+open-still (owner.Console console.S) asked status x e =
+    by-test (or (bit 16 (asked .aux1)) (not (within 3 8 (asked .aux2))))
     (λ t. rw t)
     (λ t. never (rw t at e))
-open-still console.K aux1 aux2 status g e = refl
+open-still (owner.Console console.K) asked status x e = refl
+open-still owner.Printer asked status x e = refl
 
-prepare-still : (h : console-handler.Handler) (status : ℕ) (g : ConsoleGroup) → consoleHandler h .prepares g .says ≡ done.Refused status → consoleHandler h .prepares g .leaves ≡ g
+prepare-still : (o : Owner) (asked : Asked) (status : ℕ) (x : Part (groupIn o)) → ownActs o asked .prepares x .says ≡ done.Refused status → ownActs o asked .prepares x .leaves ≡ x
 unfolding prepareOf
-prepare-still console.E status g e = never e
-prepare-still console.S status g e = refl
-prepare-still console.K status g e = refl
+prepare-still (owner.Console console.E) asked status x e = never e
+prepare-still (owner.Console console.S) asked status x e = refl
+prepare-still (owner.Console console.K) asked status x e = refl
+prepare-still owner.Printer asked status x e = refl
 
-pub console-still : (h : console-handler.Handler) → Still (consoleHandler h)
-console-still h = record { opens = open-still h; prepares = prepare-still h }
-
-pub printer-still : Still printerHandler
-printer-still = record { opens = λ aux1 aux2 status x e. refl; prepares = λ status x e. refl }
+pub owner-still : (o : Owner) → Still (ownActs o)
+owner-still o = record {
+  opens = open-still o;
+  prepares = prepare-still o;
+  specials = λ asked status x e. ap (λ (y : Answer Done (Part (groupIn o))). y .leaves) (says-84 o asked x);
+  statuses = says-01 o;
+}
 
 -- "A handler status from $80": each refusal of a handler has one
 abbrev pub doneHigh : Done → Type 0
@@ -92,61 +105,67 @@ abbrev pub gotHigh : Got → Type 0
 gotHigh (got.Character byte) = Unit
 gotHigh (got.Refused status) = 0x80 ≤ status
 
-pub record High {D : Type 0} (H : Handler D) : Type 0 where
-  pub opens : (aux1 aux2 : ℕ) (x : D) → doneHigh (H .opens aux1 aux2 x .says)
+pub record High {D : Type 0} (H : Acts D) : Type 0 where
+  pub opens : (x : D) → doneHigh (H .opens x .says)
   pub prepares : (x : D) → doneHigh (H .prepares x .says)
   pub reads : (x : D) → gotHigh (H .reads x .says)
   pub writes : (byte : ℕ) (x : D) → doneHigh (H .writes byte x .says)
+  pub statuses : (x : D) → doneHigh (H .statuses x)
+  pub specials : (x : D) → doneHigh (H .specials x .says)
 
-open-high : (h : console-handler.Handler) (aux1 aux2 : ℕ) (g : ConsoleGroup) → doneHigh (consoleHandler h .opens aux1 aux2 g .says)
+open-high : (o : Owner) (asked : Asked) (x : Part (groupIn o)) → doneHigh (ownActs o asked .opens x .says)
 unfolding openOf openS graphics.openOf
-open-high console.E aux1 aux2 g = tt
-open-high console.S aux1 aux2 g =
-    by-test (or (bit 16 aux1) (not (within 3 8 aux2)))
+open-high (owner.Console console.E) asked x = tt
+open-high (owner.Console console.S) asked x =
+    by-test (or (bit 16 (asked .aux1)) (not (within 3 8 (asked .aux2))))
     (λ t. rw t (omega arith))
     (λ t. rw t tt)
-open-high console.K aux1 aux2 g = tt
+open-high (owner.Console console.K) asked x = tt
+open-high owner.Printer asked x = tt
 
-prepare-high : (h : console-handler.Handler) (g : ConsoleGroup) → doneHigh (consoleHandler h .prepares g .says)
+prepare-high : (o : Owner) (asked : Asked) (x : Part (groupIn o)) → doneHigh (ownActs o asked .prepares x .says)
 unfolding prepareOf prepareS
-prepare-high console.E g = tt
-prepare-high console.S g = pick-go doneHigh (eqb (g .console .mode) 0) (done.Refused 0x91) done.Success (λ t. omega arith) (λ t. tt)
-prepare-high console.K g = tt
+prepare-high (owner.Console console.E) asked x = tt
+prepare-high (owner.Console console.S) asked x = pick-go doneHigh (eqb (x .console .mode) 0) (done.Refused 0x91) done.Success (λ t. omega arith) (λ t. tt)
+prepare-high (owner.Console console.K) asked x = tt
+prepare-high owner.Printer asked x = tt
 
-read-high : (h : console-handler.Handler) (g : ConsoleGroup) → gotHigh (consoleHandler h .reads g .says)
+read-high : (o : Owner) (asked : Asked) (x : Part (groupIn o)) → gotHigh (ownActs o asked .reads x .says)
 unfolding readOf readE readS readK editor-get.getOf editor-get.getAt graphics.getOf keys.getOf keys.struckBy
-read-high console.E g =
-    by-test (ltb (editor-get.columnOf (g .console .reading)) (editor-get.endOf (g .console .row) (g .screen)))
+read-high (owner.Console console.E) asked x =
+    by-test (ltb (editor-get.columnOf (x .console .reading)) (editor-get.endOf (x .console .row) (x .screen)))
     (λ t. rw t tt)
     (λ t. rw t tt)
-read-high console.S g =
-    by-test (leb (shapeOf (g .console .mode) .rows) (g .console .row))
+read-high (owner.Console console.S) asked x =
+    by-test (leb (shapeOf (x .console .mode) .rows) (x .console .row))
     (λ t. rw t (omega arith))
     (λ t. rw t tt)
-read-high console.K g =
-    let k = g .console .keyboard in
+read-high (owner.Console console.K) asked x =
+    let k = x .console .keyboard in
     by-test (ltb (translateOf (k .code) (k .lock) (k .inverse)) 256)
     (λ t. rw t tt)
     (λ t. rw t (omega arith))
+read-high owner.Printer asked x = omega arith
 
-write-high : (h : console-handler.Handler) (byte : ℕ) (g : ConsoleGroup) → doneHigh (consoleHandler h .writes byte g .says)
-unfolding writeOf writeE writeS editor.putOf graphics.putOf
-write-high console.E byte g = tt
-write-high console.S byte g =
+write-high : (o : Owner) (asked : Asked) (byte : ℕ) (x : Part (groupIn o)) → doneHigh (ownActs o asked .writes byte x .says)
+unfolding writeOf writeE writeS editor.putOf graphics.putOf printer.putOf
+write-high (owner.Console console.E) asked byte x = tt
+write-high (owner.Console console.S) asked byte x =
     by-test (eqb byte 0x7D) (λ t. rw t tt) (λ t.
-    by-test (leb (shapeOf (g .console .mode) .rows) (g .console .row)) (λ u. rw (t, u) (omega arith)) (λ u.
+    by-test (leb (shapeOf (x .console .mode) .rows) (x .console .row)) (λ u. rw (t, u) (omega arith)) (λ u.
     by-test (eqb byte 0x9B) (λ v. rw (t, u, v) tt) (λ v. rw (t, u, v) tt)))
-write-high console.K byte g = omega arith
+write-high (owner.Console console.K) asked byte x = omega arith
+write-high owner.Printer asked byte x = by-test (ltb (x .used) paperLength) (λ t. rw t tt) (λ t. rw t (omega arith))
 
-print-high : (byte : ℕ) (g : PrinterGroup) → doneHigh (printerHandler .writes byte g .says)
-unfolding printer.putOf
-print-high byte g = by-test (ltb (g .used) 4096) (λ t. rw t tt) (λ t. rw t (omega arith))
-
-pub console-high : (h : console-handler.Handler) → High (consoleHandler h)
-console-high h = record { opens = open-high h; prepares = prepare-high h; reads = read-high h; writes = write-high h }
-
-pub printer-high : High printerHandler
-printer-high = record { opens = λ aux1 aux2 x. tt; prepares = λ x. tt; reads = λ x. omega arith; writes = print-high }
+pub owner-high : (o : Owner) (asked : Asked) → High (ownActs o asked)
+owner-high o asked = record {
+  opens = open-high o asked;
+  prepares = prepare-high o asked;
+  reads = read-high o asked;
+  writes = write-high o asked;
+  statuses = λ x. rw (says-01 o asked x) tt;
+  specials = λ x. rw (says-84 o asked x) (omega arith);
+}
 
 -- the count and the A of a reply $90, or of the request that goes on
 abbrev pub countIn : Out → ℕ
@@ -157,15 +176,11 @@ abbrev pub aIn : Out → ℕ
 aIn (goes run) = run .a
 aIn (ends reply) = getD reply 6 0
 
+high-01 : 0x80 ≤ 0x01 → ⊥
+high-01 h = omega arith
+
 -- A start with the group held; it is lent no area
-
-module _ {D : Type 0} (H : Handler D) (device : Device) (call : Call) (table : Table) (x : D) where
-  settled-table : (d : Done) (then : After) (number : ℕ) → 0x80 ≤ settledOf d then device number call table .status → settledOf d then device number call table .table ≡ table
-  settled-table done.Success after.Stay number h = absurd (omega arith)
-  settled-table done.Success after.Status number h = refl
-  settled-table done.Success after.Special number h = refl
-  settled-table (done.Refused status) then number h = refl
-
+module _ {D : Type 0} (H : Asked → Acts D) (port : ℕ) (device : Device) (call : Call) (b : ControlBlock) (x : D) where
   prepared-count : (d : Done) (kind : Kind) → countIn (preparedOut d kind device call) ≡ 0
   prepared-count done.Success kind = refl
   prepared-count (done.Refused status) kind = refl
@@ -175,31 +190,34 @@ module _ {D : Type 0} (H : Handler D) (device : Device) (call : Call) (table : T
   prepared-a (done.Refused status) kind = refl
 
   -- what holds of both sides of an opening, by AUX1, holds of it
-  opening-go : (Q : Begun D → Type 0) (then : After) (number : ℕ)
+  opening-go : (Q : Begun D → Type 0) (then : After) (number name : ℕ)
       → (offersOf device (call .aux1) ≡ true
-      → let y = H .opens (call .aux1) (call .aux2) x in
-      let s = settledOf (y .says) then device number call table in
-      Q (over call (s .table) (y .leaves) (s .status)))
-      → Q (over call table x 0x84)
-      → Q (workOf H (work.Open then number) device call table x)
+      → let y = openedOf (H (openingOn port call name)) then x in
+      Q (over call (blockAfter (y .says) then (openBlock device number (call .aux1)) b) (y .leaves) (doneStatus (y .says))))
+      → Q (over call b x 0x84)
+      → Q (workOf H port (work.Open then number name) device call b x)
   unfolding workOf openingOf
-  opening-go Q then number q r =
-      let y = H .opens (call .aux1) (call .aux2) x in
-      let s = settledOf (y .says) then device number call table in
+  opening-go Q then number name q r =
+      let y = openedOf (H (openingOn port call name)) then x in
       choose-go Q (offersOf device (call .aux1))
-      (λ u. over call (s .table) (y .leaves) (s .status))
-      (λ u. over call table x 0x84)
+      (λ u. over call (blockAfter (y .says) then (openBlock device number (call .aux1)) b) (y .leaves) (doneStatus (y .says)))
+      (λ u. over call b x 0x84)
       q
       (λ t. r)
 
   -- "A refusal at the start changes no block"
-  pub refused-blocks : (w : Work) → 0x80 ≤ statusIn (workOf H w device call table x .out) → workOf H w device call table x .table ≡ table
+  after-block : (d : Done) (then : After) (settled : ControlBlock) → 0x80 ≤ doneStatus d → blockAfter d then settled b ≡ b
+  after-block done.Success then settled h = absurd (omega arith)
+  after-block (done.Refused status) then settled h = refl
+
+  pub refused-blocks : (w : Work) → 0x80 ≤ statusIn (workOf H port w device call b x .out) → workOf H port w device call b x .block ≡ b
   unfolding workOf transferOf
   refused-blocks work.Close h = absurd (omega arith)
-  refused-blocks (work.Answer status) h = refl
-  refused-blocks (work.Open then number) h =
-      opening-go (λ (b : Begun D). 0x80 ≤ statusIn (b .out) → b .table ≡ table) then number
-      (λ o. settled-table (H .opens (call .aux1) (call .aux2) x .says) then number)
+  refused-blocks work.Status h = refl
+  refused-blocks work.Special h = refl
+  refused-blocks (work.Open then number name) h =
+      opening-go (λ (y : Begun D). 0x80 ≤ statusIn (y .out) → y .block ≡ b) then number name
+      (λ o. after-block (openedOf (H (openingOn port call name)) then x .says) then (openBlock device number (call .aux1)))
       (λ k. refl)
       h
   refused-blocks (work.Transfer kind) h = refl
@@ -207,66 +225,83 @@ module _ {D : Type 0} (H : Handler D) (device : Device) (call : Call) (table : T
   -- SPECIAL on a closed block, whose open succeeded
   pub record SpecialOpened (w : Work) : Type 0 where
     pub number : ℕ
-    pub special : w ≡ work.Open after.Special number
+    pub name : ℕ
+    pub special : w ≡ work.Open after.Special number name
     pub offered : offersOf device (call .aux1) ≡ true
-    pub opened : H .opens (call .aux1) (call .aux2) x .says ≡ done.Success
+    pub opened : H (openingOn port call name) .opens x .says ≡ done.Success
 
-  settled-device : Still H → offersOf device (call .aux1) ≡ true → (d : Done) (then : After) (number : ℕ) → H .opens (call .aux1) (call .aux2) x .says ≡ d
-      → 0x80 ≤ settledOf d then device number call table .status
-      → (H .opens (call .aux1) (call .aux2) x .leaves ≡ x) ⊎ SpecialOpened (work.Open then number)
-  settled-device still o done.Success after.Stay number e h = absurd (omega arith)
-  settled-device still o done.Success after.Status number e h = absurd (omega arith)
-  settled-device still o done.Success after.Special number e h = inr (record { number = number; special = refl; offered = o; opened = e })
-  settled-device still o (done.Refused status) then number e h = inl (still .opens (call .aux1) (call .aux2) status x e)
+  module _ (still : Still H) where
+    opened-device : (then : After) (number name : ℕ) → offersOf device (call .aux1) ≡ true → let A = H (openingOn port call name) in
+        (d : Done) → A .opens x .says ≡ d → 0x80 ≤ doneStatus (openedBy A then d (A .opens x .leaves) .says)
+        → (openedBy A then d (A .opens x .leaves) .leaves ≡ x) ⊎ SpecialOpened (work.Open then number name)
+    unfolding thenOf
+    opened-device after.Stay number name o done.Success e h = absurd (omega arith)
+    opened-device after.Status number name o done.Success e h = absurd (high-01 (rw (still .statuses) at h))
+    opened-device after.Special number name o done.Success e h = inr (record { number = number; name = name; special = refl; offered = o; opened = e })
+    opened-device then number name o (done.Refused status) e h = inl (still .opens (openingOn port call name) status x e)
 
-  prepared-device : Still H → (d : Done) (kind : Kind) → H .prepares x .says ≡ d → 0x80 ≤ statusIn (preparedOut d kind device call) → H .prepares x .leaves ≡ x
-  prepared-device still done.Success kind e h = absurd (omega arith)
-  prepared-device still (done.Refused status) kind e h = still .prepares status x e
+    prepared-device : (d : Done) (kind : Kind) → H (asksOn port (call .iocb)) .prepares x .says ≡ d → 0x80 ≤ statusIn (preparedOut d kind device call) → H (asksOn port (call .iocb)) .prepares x .leaves ≡ x
+    prepared-device done.Success kind e h = absurd (omega arith)
+    prepared-device (done.Refused status) kind e h = still .prepares (asksOn port (call .iocb)) status x e
 
-  -- "A refusal at the start changes no .. device .. (a SPECIAL on a closed block keeps its open's effects)"
-  pub refused-device : Still H → (w : Work) → 0x80 ≤ statusIn (workOf H w device call table x .out) → (workOf H w device call table x .device ≡ x) ⊎ SpecialOpened w
-  unfolding workOf transferOf
-  refused-device still work.Close h = inl refl
-  refused-device still (work.Answer status) h = inl refl
-  refused-device still (work.Open then number) h =
-      opening-go (λ (b : Begun D). 0x80 ≤ statusIn (b .out) → (b .device ≡ x) ⊎ SpecialOpened (work.Open then number)) then number
-      (λ o. settled-device still o (H .opens (call .aux1) (call .aux2) x .says) then number refl)
-      (λ k. inl refl)
-      h
-  refused-device still (work.Transfer kind) h = inl (prepared-device still (H .prepares x .says) kind refl h)
+    special-device : (d : Done) → H (asksOn port (call .iocb)) .specials x .says ≡ d → 0x80 ≤ doneStatus d → H (asksOn port (call .iocb)) .specials x .leaves ≡ x
+    special-device done.Success e h = absurd (omega arith)
+    special-device (done.Refused status) e h = still .specials (asksOn port (call .iocb)) status x e
 
-  -- "(a SPECIAL on a closed block keeps its open's effects)": the block is closed again, the device is as the open left it
-  pub special-keeps : (number : ℕ) → offersOf device (call .aux1) ≡ true → H .opens (call .aux1) (call .aux2) x .says ≡ done.Success
-      → workOf H (work.Open after.Special number) device call table x ≡ over call table (H .opens (call .aux1) (call .aux2) x .leaves) 0x84
-  unfolding workOf openingOf
-  special-keeps number o e = rw (o, e)
+    -- "A refusal at the start changes no .. device .. (a SPECIAL on a closed block keeps its open's effects)"
+    pub refused-device : (w : Work) → 0x80 ≤ statusIn (workOf H port w device call b x .out) → (workOf H port w device call b x .device ≡ x) ⊎ SpecialOpened w
+    unfolding workOf transferOf openedOf
+    refused-device work.Close h = absurd (omega arith)
+    refused-device work.Status h = inl refl
+    refused-device work.Special h = inl (special-device (H (asksOn port (call .iocb)) .specials x .says) refl h)
+    refused-device (work.Open then number name) h =
+        opening-go (λ (y : Begun D). 0x80 ≤ statusIn (y .out) → (y .device ≡ x) ⊎ SpecialOpened (work.Open then number name)) then number name
+        (λ o. opened-device then number name o (H (openingOn port call name) .opens x .says) refl)
+        (λ k. inl refl)
+        h
+    refused-device (work.Transfer kind) h = inl (prepared-device (H (asksOn port (call .iocb)) .prepares x .says) kind refl h)
 
   -- "Count is 0 for anything but transfers", whose start counts nothing
-  pub start-count : (w : Work) → countIn (workOf H w device call table x .out) ≡ 0
+  pub start-count : (w : Work) → countIn (workOf H port w device call b x .out) ≡ 0
   unfolding workOf transferOf
   start-count work.Close = refl
-  start-count (work.Answer status) = refl
-  start-count (work.Open then number) =
-      opening-go (λ (b : Begun D). countIn (b .out) ≡ 0) then number (λ o. refl) refl
-  start-count (work.Transfer kind) = prepared-count (H .prepares x .says) kind
+  start-count work.Status = refl
+  start-count work.Special = refl
+  start-count (work.Open then number name) = opening-go (λ (y : Begun D). countIn (y .out) ≡ 0) then number name (λ o. refl) refl
+  start-count (work.Transfer kind) = prepared-count (H (asksOn port (call .iocb)) .prepares x .says) kind
 
   -- "The reply's A is the request's"
-  pub start-a : (w : Work) → aIn (workOf H w device call table x .out) ≡ call .a
+  pub start-a : (w : Work) → aIn (workOf H port w device call b x .out) ≡ call .a
   unfolding workOf transferOf
   start-a work.Close = refl
-  start-a (work.Answer status) = refl
-  start-a (work.Open then number) =
-      opening-go (λ (b : Begun D). aIn (b .out) ≡ call .a) then number (λ o. refl) refl
-  start-a (work.Transfer kind) = prepared-a (H .prepares x .says) kind
+  start-a work.Status = refl
+  start-a work.Special = refl
+  start-a (work.Open then number name) = opening-go (λ (y : Begun D). aIn (y .out) ≡ call .a) then number name (λ o. refl) refl
+  start-a (work.Transfer kind) = prepared-a (H (asksOn port (call .iocb)) .prepares x .says) kind
 
--- what lands in the port is that reply
-pub start-lands : {D : Type 0} (H : Handler D) (job : Job) (table : Table) (x : D) (room : List ℕ) → startOf H job table x room .port ≡ landed (workOf H (job .work) (job .device) (job .call) table x .out) room
-unfolding startOf
-start-lands H job table x room = refl
+-- "(a SPECIAL on a closed block keeps its open's effects)": the block is closed again, the device is as the open left it
+pub special-keeps : (o : Owner) (port : ℕ) (device : Device) (call : Call) (b : ControlBlock) (x : Part (groupIn o)) (number name : ℕ) → offersOf device (call .aux1) ≡ true
+    → ownActs o (openingOn port call name) .opens x .says ≡ done.Success
+    → workOf (ownActs o) port (work.Open after.Special number name) device call b x ≡ over call b (ownActs o (openingOn port call name) .opens x .leaves) 0x84
+unfolding workOf openingOf openedOf thenOf
+special-keeps (owner.Console h) port device call b x number name t e = rw (t, e)
+special-keeps owner.Printer port device call b x number name t e = rw t
 
-pub move-lands : {D : Type 0} (H : Handler D) (run : Run) (area : List ℕ) (x : D) (room : List ℕ) → moveOf H run area x room .port ≡ landed (goOf H (run .kind) run area x .out) room
-unfolding moveOf
-move-lands H run area x room = refl
+module _ {D : Type 0} (H : Asked → Acts D) (port : ℕ) where
+  -- "A refusal at the start changes no block": nor the table
+  pub refused-table : (job : Job) (table : Table) (x : D) (room : List ℕ) → 0x80 ≤ statusIn (jobBegun H port job (blockAt table (job .call .iocb)) x .out) → startOf H port job table x room .table ≡ table
+  unfolding startOf
+  refused-table job table x room h =
+      let iocb = job .call .iocb in
+      ap (withBlock table iocb) (refused-blocks H port (job .device) (job .call) (blockAt table iocb) x (job .work) h) ∙ block-back table iocb
+
+  -- what lands in the port is that reply
+  pub start-lands : (job : Job) (table : Table) (x : D) (room : List ℕ) → startOf H port job table x room .port ≡ landed (jobBegun H port job (blockAt table (job .call .iocb)) x .out) room
+  unfolding startOf
+  start-lands job table x room = refl
+
+  pub move-lands : (run : Run) (area : List ℕ) (x : D) (room : List ℕ) → moveOf H port run area x room .port ≡ landed (advanceOf H port run area x .out) room
+  move-lands run area x room = refl
 
 -- What needs no group
 
@@ -277,9 +312,6 @@ fourth (p ∷ []) tag low high status h = absurd (not-suc-le-zero (le-of-suc-le-
 fourth (p ∷ q ∷ []) tag low high status h = absurd (not-suc-le-zero (le-of-suc-le-suc (le-of-suc-le-suc h)))
 fourth (p ∷ q ∷ r ∷ []) tag low high status h = absurd (not-suc-le-zero (le-of-suc-le-suc (le-of-suc-le-suc (le-of-suc-le-suc h))))
 fourth (p ∷ q ∷ r ∷ s ∷ room) tag low high status h = refl
-
-high-01 : 0x80 ≤ 0x01 → ⊥
-high-01 h = omega arith
 
 module _ (room half : List ℕ) where
   -- "A refusal at the start changes no .. area"; "LOAD .. past the area: $B0, area unchanged"
@@ -300,7 +332,7 @@ at-once-reply status a room half = refl
 
 -- A character
 
-module _ {D : Type 0} (H : Handler D) (way : Way) (run : Run) (area : List ℕ) (x : D) where
+module _ {D : Type 0} (H : Acts D) (way : Way) (run : Run) (area : List ℕ) (x : D) where
   -- "A handler status from $80 ends the request; its character is neither stored nor counted."
   pub get-refused : (status : ℕ) → H .reads x .says ≡ got.Refused status
       → getOf H way run area x ≡ went area (H .reads x .leaves) (ends (callReply status (run .count) (run .a)))
@@ -350,7 +382,7 @@ sent-a Record run byte done.Success =
     (λ t. record-a (furtherOf run) byte)
 sent-a way run byte (done.Refused status) = refl
 
-module _ {D : Type 0} (H : Handler D) (run : Run) (area : List ℕ) (x : D) where
+module _ {D : Type 0} (H : Acts D) (run : Run) (area : List ℕ) (x : D) where
   -- a successful read of length 0: the reply's A is the character
   pub record ReadOne (kind : Kind) : Type 0 where
     pub one : kind ≡ Get One

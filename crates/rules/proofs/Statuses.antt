@@ -12,52 +12,56 @@ use lib.ListN.{getD}
 use borrow.Author.Tests.{lt-ltb, le-ltb, le-leb, lt-leb, eq-eqb, ne-eqb, not-true}
 use Rattle.base.specs.Choice.{or, within, bit}
 use Rattle.base.proofs.Choices.{pick-go, pick-lt, pick-le, by-test, by-lt, by-eq}
-use Rattle.handler.specs.declared.Got.{Got}
-use Rattle.handler.specs.declared.Got.the-variants as got
+use Rattle.handler.specs.declared.Asked.{Asked}
 use Rattle.handler.specs.declared.Done.{Done}
 use Rattle.handler.specs.declared.Done.the-variants as done
-use Rattle.keys.specs.Keyboard as keys
+use Rattle.handler.specs.declared.Got.{Got}
+use Rattle.handler.specs.declared.Got.the-variants as got
+use Rattle.handler.specs.Answer.{doneStatus, Answer, answer}
+use Rattle.handler.specs.Acts.{Acts, asksOpen, asksOn}
 use Rattle.keys.specs.Translation.{translateOf}
+use Rattle.keys.specs.Keyboard as keys
 use Rattle.cells.specs.Modes.{shapeOf}
 use Rattle.graphics.specs.Picture as graphics
-use Rattle.console.specs.declared.Handler as console-handler
+use Rattle.printer.specs.Printer.{PrinterGroup, printerActs}
+use Rattle.printer.specs.Printer as printer
 use Rattle.console.specs.declared.Handler.the-variants as console
 use Rattle.console.specs.Group.{ConsoleGroup}
-use Rattle.console.specs.Handlers.{openOf, openS, prepareOf, prepareS, readOf, readS, readK, writeOf, writeS}
-use Rattle.printer.specs.Printer.{PrinterGroup}
-use Rattle.printer.specs.Printer as printer
-use Rattle.blocks.specs.declared.Device.{Device}
-use Rattle.blocks.specs.declared.Device.the-variants.{E, S, K, P}
+use Rattle.console.specs.Handlers.{openOf, openS, prepareOf, prepareS, readOf, readS, readK, writeOf, writeS, consoleActs}
 use Rattle.blocks.specs.declared.BlockState.{BlockState}
 use Rattle.blocks.specs.declared.BlockState.the-variants as block
-use Rattle.blocks.specs.declared.Table.{Table}
+use Rattle.blocks.specs.declared.ControlBlock.{ControlBlock}
+use Rattle.blocks.specs.declared.Device.{Device}
 use Rattle.blocks.specs.declared.Kind.{Kind}
-use Rattle.blocks.specs.declared.Way.{Way}
-use Rattle.blocks.specs.declared.Way.the-variants.{One, Characters, Record}
-use Rattle.blocks.specs.declared.Run.{Run}
 use Rattle.blocks.specs.declared.Letter.{Letter}
 use Rattle.blocks.specs.declared.Letter.the-variants.{Unknown, Known}
+use Rattle.blocks.specs.declared.Run.{Run}
 use Rattle.blocks.specs.declared.Specification.{Specification}
 use Rattle.blocks.specs.declared.Specification.the-variants.{Refused, Names}
+use Rattle.blocks.specs.declared.Table.{Table}
+use Rattle.blocks.specs.declared.Way.{Way}
+use Rattle.blocks.specs.declared.Way.the-variants.{One, Characters, Record}
 use Rattle.blocks.specs.Blocks.{blockAt}
 use Rattle.blocks.specs.Opening.{areaLength, deviceOf, needed, colonOf, numberOf, namedOf, specificationOf, reads, writes, offersOf}
 use Rattle.wire.specs.declared.Call.{Call}
-use Rattle.cio.specs.declared.plan.Command.{Command}
-use Rattle.cio.specs.declared.plan.Command.the-variants as command
-use Rattle.cio.specs.declared.plan.After.{After}
-use Rattle.cio.specs.declared.plan.After.the-variants as after
-use Rattle.cio.specs.declared.plan.Work.{Work}
-use Rattle.cio.specs.declared.plan.Work.the-variants as work
-use Rattle.cio.specs.declared.plan.Errand.{Errand}
-use Rattle.cio.specs.declared.plan.Errand.the-variants as errand
-use Rattle.cio.specs.declared.plan.Plan.{Plan}
-use Rattle.cio.specs.declared.plan.Plan.the-variants as plan
-use Rattle.cio.specs.declared.transfer.Next.{Next}
-use Rattle.cio.specs.declared.transfer.Next.the-variants.{On}
-use Rattle.cio.specs.Plan.{commandOf, wayOf, kindOf, atOnce, plannedOf, openPlan, areaPlan, transferPlan, blockPlan, callPlan}
-use Rattle.cio.specs.Handlers.{Handler, consoleHandler, printerHandler}
-use Rattle.cio.specs.Transfer.{Out, goes, ends, outOf, furtherOf, endedOf, onwardOf, eol, recordOf, gotCharacter}
-use Rattle.cio.specs.Start.{Begun, over, settledOf, openingOf, transferOf, workOf}
+use Rattle.transfer.specs.declared.Next.{Next}
+use Rattle.transfer.specs.declared.Next.the-variants.{On}
+use Rattle.transfer.specs.Transfer.{outOf, furtherOf, endedOf, onwardOf, eol, recordOf, gotCharacter, Out, goes, ends}
+use Rattle.devices.specs.declared.Owner.{Owner}
+use Rattle.devices.specs.declared.Owner.the-variants as owner
+use Rattle.devices.specs.Groups.{Part, groupIn, ownActs}
+use Rattle.plan.specs.declared.After.{After}
+use Rattle.plan.specs.declared.After.the-variants as after
+use Rattle.plan.specs.declared.Command.{Command}
+use Rattle.plan.specs.declared.Command.the-variants as command
+use Rattle.plan.specs.declared.Errand.{Errand}
+use Rattle.plan.specs.declared.Errand.the-variants as errand
+use Rattle.plan.specs.declared.Plan.{Plan}
+use Rattle.plan.specs.declared.Plan.the-variants as plan
+use Rattle.plan.specs.declared.Work.the-variants as work
+use Rattle.plan.specs.Plan.{commandOf, wayOf, kindOf, atOnce, plannedOf, openPlan, areaPlan, transferPlan, blockPlan, callPlan, nameOf}
+use Rattle.cio.specs.Start.{thenOf, openedOf, Begun, over, openingOf, transferOf, workOf}
+use Rattle.calls.specs.Stick.{paperLength}
 
 -- The commands' numbers
 
@@ -195,6 +199,10 @@ row-any true b A B f r = tt
 row-any false b A B f r = f r
 
 module _ (call : Call) (table : Table) (half : List ℕ) where
+  -- what the CALL comes to by the checks before the group
+  abbrev pub planned : Plan
+  planned = callPlan call (blockAt table (call .iocb)) half
+
   -- the IOCB is one of the eight, and this is the command and this the IOCB's block
   pub record Has (c : Command) (b : BlockState) : Type 0 where
     pub iocb : call .iocb ≤ 7
@@ -228,7 +236,7 @@ module _ (call : Call) (table : Table) (half : List ℕ) where
     pub transfer : TransferOnOpen reading
     pub allowed : allows reading (transfer .aux1) ≡ true
     pub length : call .length ≡ 0 → ⊥
-    pub past : 16384 < call .address + call .length
+    pub past : areaLength < call .address + call .length
 
   -- OPEN, GET STATUS or SPECIAL on a closed block, with this specification at the address
   pub record Opening (s : Specification) : Type 0 where
@@ -259,21 +267,14 @@ module _ (call : Call) (table : Table) (half : List ℕ) where
   -- the row of the status that a plan gives at once, if it gives one
   abbrev Holds : Plan → Type 0
   Holds (plan.Free e) = errandHolds e
-  Holds (plan.Console handler job) = Unit
-  Holds (plan.Printer job) = Unit
+  Holds (plan.On job) = Unit
 
-  planned-holds : (device : Device) (w : Work) → Holds (plannedOf device w call)
-  planned-holds E w = tt
-  planned-holds S w = tt
-  planned-holds K w = tt
-  planned-holds P w = tt
-
-  open-holds : (then : After) (s : Specification) → Has (commandThen then) block.Closed → specificationOf half (call .address) ≡ s → Told s → Holds (openPlan then s call)
-  open-holds then (Names device number) has e told = planned-holds device (work.Open then number)
+  open-holds : (then : After) (s : Specification) → Has (commandThen then) block.Closed → specificationOf half (call .address) ≡ s → Told s → Holds (openPlan then s half call)
+  open-holds then (Names device number) has e told = tt
   open-holds then (Refused status) has e (inl q) = subst When (sym q) (inr (record { then = then; has = has; specification = e ∙ ap Refused q }))
   open-holds then (Refused status) has e (inr q) = subst When (sym q) (record { then = then; has = has; specification = e ∙ ap Refused q })
 
-  opening-holds : (then : After) → Has (commandThen then) block.Closed → Holds (openPlan then (specificationOf half (call .address)) call)
+  opening-holds : (then : After) → Has (commandThen then) block.Closed → Holds (openPlan then (specificationOf half (call .address)) half call)
   opening-holds then has = open-holds then (specificationOf half (call .address)) has refl (specification-told half (call .address))
 
   area-holds : (reading : Bool) (t : TransferOnOpen reading) → allows reading (t .aux1) ≡ true → Holds (areaPlan reading (t .records) (t .device) call)
@@ -281,10 +282,10 @@ module _ (call : Call) (table : Table) (half : List ℕ) where
   area-holds reading t a =
       let p = plannedOf (t .device) (work.Transfer (kindOf reading (wayOf (t .records) (call .length)))) call in
       by-eq (call .length) 0
-      (λ z. rw (eq-eqb (call .length) 0 z) (planned-holds (t .device) (work.Transfer (kindOf reading (wayOf (t .records) (call .length))))))
+      (λ z. rw (eq-eqb (call .length) 0 z) tt)
       (λ n. rw (ne-eqb (call .length) 0 n) (
       pick-le Holds (call .address + call .length) areaLength p (atOnce 0xB0 call)
-      (λ h. planned-holds (t .device) (work.Transfer (kindOf reading (wayOf (t .records) (call .length)))))
+      (λ h. tt)
       (λ h. inl (record { reading = reading; transfer = t; allowed = a; length = n; past = h }))))
 
   transfer-holds : (reading : Bool) (t : TransferOnOpen reading) → Holds (transferPlan reading (t .records) (t .device) (t .aux1) call)
@@ -298,16 +299,16 @@ module _ (call : Call) (table : Table) (half : List ℕ) where
   block-holds command.Open block.Closed has = opening-holds after.Stay has
   block-holds command.Open (block.Open device number aux1) has = record { device = device; number = number; aux1 = aux1; has = has }
   block-holds command.Close block.Closed has = has
-  block-holds command.Close (block.Open device number aux1) has = planned-holds device work.Close
+  block-holds command.Close (block.Open device number aux1) has = tt
   block-holds command.Status block.Closed has = opening-holds after.Status has
-  block-holds command.Status (block.Open device number aux1) has = planned-holds device (work.Answer 0x01)
+  block-holds command.Status (block.Open device number aux1) has = tt
   block-holds command.Special block.Closed has = opening-holds after.Special has
-  block-holds command.Special (block.Open device number aux1) has = planned-holds device (work.Answer 0x84)
+  block-holds command.Special (block.Open device number aux1) has = tt
   block-holds (command.Transfer reading records) block.Closed has = record { reading = reading; records = records; has = has }
   block-holds (command.Transfer reading records) (block.Open device number aux1) has =
       transfer-holds reading (record { records = records; device = device; number = number; aux1 = aux1; has = has })
 
-  call-holds : Holds (callPlan call table half)
+  call-holds : Holds (planned)
   unfolding callPlan
   call-holds =
       let c = commandOf (call .command) in
@@ -317,26 +318,26 @@ module _ (call : Call) (table : Table) (half : List ℕ) where
       (λ h. block-holds c b (record { iocb = h; command = refl; state = refl }))
 
   -- a status is given at once only if its row holds
-  when : (status : ℕ) → callPlan call table half ≡ atOnce status call → When status
+  when : (status : ℕ) → planned ≡ atOnce status call → When status
   when status e = subst Holds e call-holds
 
   -- past the $86 check a CALL comes to what its command and its block do
-  reached : {c : Command} {b : BlockState} → Has c b → callPlan call table half ≡ blockPlan c b call half
+  reached : {c : Command} {b : BlockState} → Has c b → planned ≡ blockPlan c b call half
   unfolding callPlan
   reached has = rw (le-ltb 7 (call .iocb) (has .iocb), has .command, has .state)
 
-  block-opens : (then : After) → blockPlan (commandThen then) block.Closed call half ≡ openPlan then (specificationOf half (call .address)) call
+  block-opens : (then : After) → blockPlan (commandThen then) block.Closed call half ≡ openPlan then (specificationOf half (call .address)) half call
   unfolding blockPlan
   block-opens after.Stay = refl
   block-opens after.Status = refl
   block-opens after.Special = refl
 
   -- an opening comes to what its specification says
-  opens : (s : Specification) (o : Opening s) → callPlan call table half ≡ openPlan (o .then) s call
-  opens s o = reached (o .has) ∙ block-opens (o .then) ∙ ap (λ (t : Specification). openPlan (o .then) t call) (o .specification)
+  opens : (s : Specification) (o : Opening s) → planned ≡ openPlan (o .then) s half call
+  opens s o = reached (o .has) ∙ block-opens (o .then) ∙ ap (λ (t : Specification). openPlan (o .then) t half call) (o .specification)
 
   -- a transfer comes to what its block's AUX1 allows
-  transfers : (reading : Bool) (t : TransferOnOpen reading) → callPlan call table half ≡ transferPlan reading (t .records) (t .device) (t .aux1) call
+  transfers : (reading : Bool) (t : TransferOnOpen reading) → planned ≡ transferPlan reading (t .records) (t .device) (t .aux1) call
   unfolding blockPlan
   transfers reading t = reached (t .has)
 
@@ -347,7 +348,7 @@ module _ (call : Call) (table : Table) (half : List ℕ) where
 
   -- This status at once: nothing changes, no group is needed. Each row below says too that the checks before it are passed.
   abbrev pub AtOnce : ℕ → Type 0
-  AtOnce status = callPlan call table half ≡ atOnce status call
+  AtOnce status = planned ≡ atOnce status call
 
   -- "$86 | IOCB above 7", whatever else is wrong
   pub status-86 : AtOnce 0x86 ↔ (7 < call .iocb)
@@ -385,7 +386,7 @@ module _ (call : Call) (table : Table) (half : List ℕ) where
       let t = b .transfer in
       transfers (b .reading) t
       ∙ allowed-area (b .reading) (t .records) (t .device) (t .aux1) (b .allowed)
-      ∙ rw (ne-eqb (call .length) 0 (b .length), lt-leb (call .address + call .length) 16384 (b .past))
+      ∙ rw (ne-eqb (call .length) 0 (b .length), lt-leb (call .address + call .length) areaLength (b .past))
 
   -- "$B0 | buffer or specification past the area"
   pub status-b0 : AtOnce 0xB0 ↔ (BufferPast ⊎ Opening (Refused 0xB0))
@@ -415,30 +416,29 @@ module _ (call : Call) (table : Table) (half : List ℕ) where
 
   -- "A CALL past the $82 check needs its device's group": what is left is work on the device
 
-  pub opening-work : (device : Device) (number : ℕ) (o : Opening (Names device number)) → callPlan call table half ≡ plannedOf device (work.Open (o .then) number) call
+  pub opening-work : (device : Device) (number : ℕ) (o : Opening (Names device number)) → planned ≡ plannedOf device (work.Open (o .then) number (nameOf half (call .address))) call
   opening-work device number o = opens (Names device number) o
 
-  pub transfer-work : (reading : Bool) (t : TransferOnOpen reading) → allows reading (t .aux1) ≡ true → (call .length ≡ 0) ⊎ (call .address + call .length ≤ 16384)
-      → callPlan call table half ≡ plannedOf (t .device) (work.Transfer (kindOf reading (wayOf (t .records) (call .length)))) call
+  pub transfer-work : (reading : Bool) (t : TransferOnOpen reading) → allows reading (t .aux1) ≡ true → (call .length ≡ 0) ⊎ (call .address + call .length ≤ areaLength)
+      → planned ≡ plannedOf (t .device) (work.Transfer (kindOf reading (wayOf (t .records) (call .length)))) call
   unfolding areaPlan
   transfer-work reading t a (inl z) =
       transfers reading t ∙ allowed-area reading (t .records) (t .device) (t .aux1) a ∙ rw (eq-eqb (call .length) 0 z)
   transfer-work reading t a (inr h) =
       transfers reading t
       ∙ allowed-area reading (t .records) (t .device) (t .aux1) a
-      ∙ rw (le-leb (call .address + call .length) 16384 h, or-true (eqb (call .length) 0))
+      ∙ rw (le-leb (call .address + call .length) areaLength h, or-true (eqb (call .length) 0))
 
   module _ (device : Device) (number aux1 : ℕ) where
-    pub close-work : Has command.Close (block.Open device number aux1) → callPlan call table half ≡ plannedOf device work.Close call
+    pub close-work : Has command.Close (block.Open device number aux1) → planned ≡ plannedOf device work.Close call
     unfolding blockPlan
     close-work has = reached has
 
-    -- "On an open one: $01 or $84."
-    pub status-work : Has command.Status (block.Open device number aux1) → callPlan call table half ≡ plannedOf device (work.Answer 0x01) call
+    pub status-work : Has command.Status (block.Open device number aux1) → planned ≡ plannedOf device work.Status call
     unfolding blockPlan
     status-work has = reached has
 
-    pub special-work : Has command.Special (block.Open device number aux1) → callPlan call table half ≡ plannedOf device (work.Answer 0x84) call
+    pub special-work : Has command.Special (block.Open device number aux1) → planned ≡ plannedOf device work.Special call
     unfolding blockPlan
     special-work has = reached has
 
@@ -449,49 +449,98 @@ abbrev pub statusIn : Out → ℕ
 statusIn (goes run) = 0
 statusIn (ends reply) = getD reply 3 0
 
-module _ {D : Type 0} (H : Handler D) (device : Device) (call : Call) (table : Table) (x : D) where
+-- what a handler may know of an opening
+abbrev pub openingOn : (port : ℕ) → Call → (name : ℕ) → Asked
+openingOn port call name = asksOpen port (call .iocb) (call .aux1) (call .aux2) name
+
+-- H the device's handler, port the number of the port that asks, b the block
+module _ {D : Type 0} (H : Asked → Acts D) (port : ℕ) (device : Device) (call : Call) (b : ControlBlock) (x : D) where
+  abbrev pub asked : Asked
+  asked = asksOn port (call .iocb)
+
   -- CLOSE: "$01"
-  pub close-01 : statusIn (workOf H work.Close device call table x .out) ≡ 0x01
+  pub close-01 : statusIn (workOf H port work.Close device call b x .out) ≡ 0x01
   unfolding workOf
   close-01 = refl
 
-  -- GET STATUS, SPECIAL: "On an open one: $01 or $84."
-  pub answer-status : (status : ℕ) → statusIn (workOf H (work.Answer status) device call table x .out) ≡ status
+  -- GET STATUS, SPECIAL on an open block: what the handler says
+  pub status-said : statusIn (workOf H port work.Status device call b x .out) ≡ doneStatus (H asked .statuses x)
   unfolding workOf
-  answer-status status = refl
+  status-said = refl
+
+  pub special-said : statusIn (workOf H port work.Special device call b x .out) ≡ doneStatus (H asked .specials x .says)
+  unfolding workOf
+  special-said = refl
 
   -- "mode, handler": a transfer whose handler refuses at the start
-  pub prepare-refused : (kind : Kind) (status : ℕ) → H .prepares x .says ≡ done.Refused status → statusIn (workOf H (work.Transfer kind) device call table x .out) ≡ status
+  pub prepare-refused : (kind : Kind) (status : ℕ) → H asked .prepares x .says ≡ done.Refused status → statusIn (workOf H port (work.Transfer kind) device call b x .out) ≡ status
   unfolding workOf transferOf
   prepare-refused kind status e = rw e
 
-  module _ (then : After) (number : ℕ) where
+  module _ (then : After) (number name : ℕ) where
     abbrev pub opened : Begun D
-    opened = workOf H (work.Open then number) device call table x
+    opened = workOf H port (work.Open then number name) device call b x
+
+    abbrev pub asks : Asked
+    asks = openingOn port call name
 
     -- "$84 | .. AUX1 not offered", before the handler is asked
-    pub not-offered : offersOf device (call .aux1) ≡ false → opened ≡ over call table x 0x84
+    pub not-offered : offersOf device (call .aux1) ≡ false → opened ≡ over call b x 0x84
     unfolding workOf openingOf
     not-offered e = rw e
 
     module _ (offered : offersOf device (call .aux1) ≡ true) where
-      pub open-said : statusIn (opened .out) ≡ settledOf (H .opens (call .aux1) (call .aux2) x .says) then device number call table .status
+      pub open-said : statusIn (opened .out) ≡ doneStatus (openedOf (H asks) then x .says)
       unfolding workOf openingOf
       open-said = rw offered
 
       -- "a failed open's status stands"
-      pub open-refused : (status : ℕ) → H .opens (call .aux1) (call .aux2) x .says ≡ done.Refused status → statusIn (opened .out) ≡ status
+      pub open-refused : (status : ℕ) → H asks .opens x .says ≡ done.Refused status → statusIn (opened .out) ≡ status
+      unfolding openedOf
       open-refused status e = open-said ∙ rw e
 
-      -- "opened as OPEN does, then $01 or $84"
-      pub open-01 : H .opens (call .aux1) (call .aux2) x .says ≡ done.Success → then ≡ after.Stay → statusIn (opened .out) ≡ 0x01
-      open-01 e f = open-said ∙ rw (e, f)
+      module _ (e : H asks .opens x .says ≡ done.Success) where
+        pub open-01 : then ≡ after.Stay → statusIn (opened .out) ≡ 0x01
+        unfolding openedOf thenOf
+        open-01 f = open-said ∙ rw (e, f)
 
-      pub open-status : H .opens (call .aux1) (call .aux2) x .says ≡ done.Success → then ≡ after.Status → statusIn (opened .out) ≡ 0x01
-      open-status e f = open-said ∙ rw (e, f)
+        -- "opened as OPEN does, then $01 or $84": what the handler says of the opened device
+        pub open-status : then ≡ after.Status → statusIn (opened .out) ≡ doneStatus (H asks .statuses (H asks .opens x .leaves))
+        unfolding openedOf thenOf
+        open-status f = open-said ∙ rw (e, f)
 
-      pub open-special : H .opens (call .aux1) (call .aux2) x .says ≡ done.Success → then ≡ after.Special → statusIn (opened .out) ≡ 0x84
-      open-special e f = open-said ∙ rw (e, f)
+        pub open-special : then ≡ after.Special → statusIn (opened .out) ≡ doneStatus (H asks .specials (H asks .opens x .leaves) .says)
+        unfolding openedOf thenOf
+        open-special f = open-said ∙ rw (e, f)
+
+-- "GET STATUS $0D, SPECIAL above .. $01 or $84": so says every handler, and SPECIAL changes no device
+pub says-01 : (o : Owner) (asked : Asked) (x : Part (groupIn o)) → ownActs o asked .statuses x ≡ done.Success
+says-01 (owner.Console h) asked x = refl
+says-01 owner.Printer asked x = refl
+
+pub says-84 : (o : Owner) (asked : Asked) (x : Part (groupIn o)) → ownActs o asked .specials x ≡ answer (done.Refused 0x84) x
+says-84 (owner.Console h) asked x = refl
+says-84 owner.Printer asked x = refl
+
+module _ (o : Owner) (port : ℕ) (device : Device) (call : Call) (b : ControlBlock) (x : Part (groupIn o)) where
+  -- "On an open one: $01 or $84."
+  pub status-on-open : statusIn (workOf (ownActs o) port work.Status device call b x .out) ≡ 0x01
+  unfolding workOf
+  status-on-open = ap doneStatus (says-01 o (asksOn port (call .iocb)) x)
+
+  pub special-on-open : statusIn (workOf (ownActs o) port work.Special device call b x .out) ≡ 0x84
+  unfolding workOf
+  special-on-open = ap (λ (y : Answer Done (Part (groupIn o))). doneStatus (y .says)) (says-84 o (asksOn port (call .iocb)) x)
+
+  -- "On a closed block: opened as OPEN does, then $01 or $84"
+  module _ (number name : ℕ) (offered : offersOf device (call .aux1) ≡ true) (e : ownActs o (openingOn port call name) .opens x .says ≡ done.Success) where
+    pub status-on-closed : statusIn (workOf (ownActs o) port (work.Open after.Status number name) device call b x .out) ≡ 0x01
+    status-on-closed = open-status (ownActs o) port device call b x after.Status number name offered e refl ∙ ap doneStatus (says-01 o (openingOn port call name) _)
+
+    pub special-on-closed : statusIn (workOf (ownActs o) port (work.Open after.Special number name) device call b x .out) ≡ 0x84
+    special-on-closed =
+        open-special (ownActs o) port device call b x after.Special number name offered e refl
+        ∙ ap (λ (y : Answer Done (Part (groupIn o))). doneStatus (y .says)) (says-84 o (openingOn port call name) _)
 
 -- an OPEN's statuses with the group held, of each handler
 
@@ -507,42 +556,54 @@ or-join a b (inr e) = rw e (or-true a)
 abbrev pub BadMode : (aux1 aux2 : ℕ) → Type 0
 BadMode aux1 aux2 = (bit 16 aux1 ≡ true) ⊎ (within 3 8 aux2 ≡ false)
 
-s-refuses : (aux1 aux2 : ℕ) (g : ConsoleGroup) → BadMode aux1 aux2 → consoleHandler console.S .opens aux1 aux2 g .says ≡ done.Refused 0x91
+-- S's opening
+abbrev pub IsScreen : Owner → Type 0
+IsScreen o = o ≡ owner.Console console.S
+
+s-refuses : (asked : Asked) (g : ConsoleGroup) → BadMode (asked .aux1) (asked .aux2) → consoleActs console.S asked .opens g .says ≡ done.Refused 0x91
 unfolding openOf openS graphics.openOf
-s-refuses aux1 aux2 g b = rw (or-join (bit 16 aux1) (within 3 8 aux2) b)
+s-refuses asked g b = rw (or-join (bit 16 (asked .aux1)) (within 3 8 (asked .aux2)) b)
 
-s-accepts : (aux1 aux2 : ℕ) (g : ConsoleGroup) → or (bit 16 aux1) (not (within 3 8 aux2)) ≡ false → consoleHandler console.S .opens aux1 aux2 g .says ≡ done.Success
+s-accepts : (asked : Asked) (g : ConsoleGroup) → or (bit 16 (asked .aux1)) (not (within 3 8 (asked .aux2))) ≡ false → consoleActs console.S asked .opens g .says ≡ done.Success
 unfolding openOf openS graphics.openOf
-s-accepts aux1 aux2 g e = rw e
+s-accepts asked g e = rw e
 
-says-91 : (h : console-handler.Handler) (aux1 aux2 : ℕ) (g : ConsoleGroup) → (h ≡ console.S) × BadMode aux1 aux2 → consoleHandler h .opens aux1 aux2 g .says ≡ done.Refused 0x91
-says-91 h aux1 aux2 g b = subst (λ (k : console-handler.Handler). consoleHandler k .opens aux1 aux2 g .says ≡ done.Refused 0x91) (sym (b .0)) (s-refuses aux1 aux2 g (b .1))
+says-91 : (o : Owner) (asked : Asked) (x : Part (groupIn o)) → IsScreen o → BadMode (asked .aux1) (asked .aux2) → ownActs o asked .opens x .says ≡ done.Refused 0x91
+says-91 o asked x s b =
+    subst (λ (k : Owner). (y : Part (groupIn k)) → ownActs k asked .opens y .says ≡ done.Refused 0x91) (sym s) (λ g. s-refuses asked g b) x
 
--- each opening of the console is S's $91, or a success
-opens-or : (h : console-handler.Handler) (aux1 aux2 : ℕ) (g : ConsoleGroup) → ((h ≡ console.S) × BadMode aux1 aux2) ⊎ (consoleHandler h .opens aux1 aux2 g .says ≡ done.Success)
+-- each opening is S's $91, or a success
+opens-or : (o : Owner) (asked : Asked) (x : Part (groupIn o)) → (IsScreen o × BadMode (asked .aux1) (asked .aux2)) ⊎ (ownActs o asked .opens x .says ≡ done.Success)
 unfolding openOf
-opens-or console.E aux1 aux2 g = inr refl
-opens-or console.S aux1 aux2 g =
-    by-test (or (bit 16 aux1) (not (within 3 8 aux2)))
-    (λ t. inl (refl, or-split (bit 16 aux1) (within 3 8 aux2) t))
-    (λ t. inr (s-accepts aux1 aux2 g t))
-opens-or console.K aux1 aux2 g = inr refl
+opens-or (owner.Console console.E) asked x = inr refl
+opens-or (owner.Console console.S) asked x =
+    by-test (or (bit 16 (asked .aux1)) (not (within 3 8 (asked .aux2))))
+    (λ t. inl (refl, or-split (bit 16 (asked .aux1)) (within 3 8 (asked .aux2)) t))
+    (λ t. inr (s-accepts asked x t))
+opens-or (owner.Console console.K) asked x = inr refl
+opens-or owner.Printer asked x = inr refl
 
-module _ (h : console-handler.Handler) (device : Device) (call : Call) (table : Table) (g : ConsoleGroup) where
-  module _ (number : ℕ) where
+-- S in mode 0
+abbrev pub NoPicture : (o : Owner) → Part (groupIn o) → Type 0
+NoPicture (owner.Console console.E) x = ⊥
+NoPicture (owner.Console console.S) x = x .console .mode ≡ 0
+NoPicture (owner.Console console.K) x = ⊥
+NoPicture owner.Printer x = ⊥
+
+module _ (o : Owner) (port : ℕ) (device : Device) (call : Call) (b : ControlBlock) (x : Part (groupIn o)) where
+  module _ (number name : ℕ) where
     abbrev pub openSays : ℕ
-    openSays = statusIn (workOf (consoleHandler h) (work.Open after.Stay number) device call table g .out)
+    openSays = statusIn (workOf (ownActs o) port (work.Open after.Stay number name) device call b x .out)
 
-    says-84 : offersOf device (call .aux1) ≡ false → openSays ≡ 0x84
-    says-84 e = ap (λ (b : Begun ConsoleGroup). statusIn (b .out)) (not-offered (consoleHandler h) device call table g after.Stay number e)
+    not-says : offersOf device (call .aux1) ≡ false → openSays ≡ 0x84
+    not-says e = ap (λ (y : Begun (Part (groupIn o))). statusIn (y .out)) (not-offered (ownActs o) port device call b x after.Stay number name e)
 
-    offered-says : offersOf device (call .aux1) ≡ true
-        → (((h ≡ console.S) × BadMode (call .aux1) (call .aux2)) × (openSays ≡ 0x91)) ⊎ (openSays ≡ 0x01)
-    offered-says o =
+    offered-says : offersOf device (call .aux1) ≡ true → ((IsScreen o × BadMode (call .aux1) (call .aux2)) × (openSays ≡ 0x91)) ⊎ (openSays ≡ 0x01)
+    offered-says t =
         ⊎-elim
-        (λ b. inl (b, open-refused (consoleHandler h) device call table g after.Stay number o 0x91 (says-91 h (call .aux1) (call .aux2) g b)))
-        (λ e. inr (open-01 (consoleHandler h) device call table g after.Stay number o e refl))
-        (opens-or h (call .aux1) (call .aux2) g)
+        (λ p. inl (p, open-refused (ownActs o) port device call b x after.Stay number name t 0x91 (says-91 o (openingOn port call name) x (p .0) (p .1))))
+        (λ e. inr (open-01 (ownActs o) port device call b x after.Stay number name t e refl))
+        (opens-or o (openingOn port call name) x)
 
     -- "$84 | .. AUX1 not offered"
     pub open-84 : (openSays ≡ 0x84) ↔ (offersOf device (call .aux1) ≡ false)
@@ -550,41 +611,40 @@ module _ (h : console-handler.Handler) (device : Device) (call : Call) (table : 
       λ e. by-test (offersOf device (call .aux1))
           (λ t. ⊎-elim (λ p. absurd (other 0x91 0x84 tt (sym (p .1) ∙ e))) (λ p. absurd (other 0x01 0x84 tt (sym p ∙ e))) (offered-says t))
           (λ t. t),
-      says-84,
+      not-says,
     )
 
     -- "$91 | screen mode": S's alone, and after AUX1
-    pub open-91 : (openSays ≡ 0x91) ↔ ((offersOf device (call .aux1) ≡ true) × ((h ≡ console.S) × BadMode (call .aux1) (call .aux2)))
+    pub open-91 : (openSays ≡ 0x91) ↔ ((offersOf device (call .aux1) ≡ true) × (IsScreen o × BadMode (call .aux1) (call .aux2)))
     open-91 = (
       λ e. by-test (offersOf device (call .aux1))
           (λ t. ⊎-elim (λ p. (t, p .0)) (λ p. absurd (other 0x01 0x91 tt (sym p ∙ e))) (offered-says t))
-          (λ t. absurd (other 0x84 0x91 tt (sym (says-84 t) ∙ e))),
-      λ p. open-refused (consoleHandler h) device call table g after.Stay number (p .0) 0x91 (says-91 h (call .aux1) (call .aux2) g (p .1)),
+          (λ t. absurd (other 0x84 0x91 tt (sym (not-says t) ∙ e))),
+      λ p. open-refused (ownActs o) port device call b x after.Stay number name (p .0) 0x91 (says-91 o (openingOn port call name) x (p .1 .0) (p .1 .1)),
     )
 
-  begins-91 : (k : console-handler.Handler) (kind : Kind) → statusIn (workOf (consoleHandler k) (work.Transfer kind) device call table g .out) ≡ 0x91 → (k ≡ console.S) × (g .console .mode ≡ 0)
-  unfolding workOf transferOf prepareOf prepareS
-  begins-91 console.E kind e = absurd (other 0 0x91 tt e)
-  begins-91 console.S kind e =
-      by-eq (g .console .mode) 0 (λ z. (refl, z)) (λ n. absurd (other 0 0x91 tt (rw (ne-eqb (g .console .mode) 0 n) at e)))
-  begins-91 console.K kind e = absurd (other 0 0x91 tt e)
+begins-91 : (o : Owner) (port : ℕ) (device : Device) (call : Call) (b : ControlBlock) (x : Part (groupIn o)) (kind : Kind)
+    → statusIn (workOf (ownActs o) port (work.Transfer kind) device call b x .out) ≡ 0x91 → NoPicture o x
+unfolding workOf transferOf prepareOf prepareS
+begins-91 (owner.Console console.E) port device call b x kind e = absurd (other 0 0x91 tt e)
+begins-91 (owner.Console console.S) port device call b x kind e =
+    by-eq (x .console .mode) 0 (λ z. z) (λ n. absurd (other 0 0x91 tt (rw (ne-eqb (x .console .mode) 0 n) at e)))
+begins-91 (owner.Console console.K) port device call b x kind e = absurd (other 0 0x91 tt e)
+begins-91 owner.Printer port device call b x kind e = absurd (other 0 0x91 tt e)
 
-  prepare-91 : (k : console-handler.Handler) → (k ≡ console.S) × (g .console .mode ≡ 0) → consoleHandler k .prepares g .says ≡ done.Refused 0x91
-  unfolding prepareOf prepareS
-  prepare-91 k p = rw (p .0, p .1)
+prepare-91 : (o : Owner) (asked : Asked) (x : Part (groupIn o)) → NoPicture o x → ownActs o asked .prepares x .says ≡ done.Refused 0x91
+unfolding prepareOf prepareS
+prepare-91 (owner.Console console.E) asked x p = absurd p
+prepare-91 (owner.Console console.S) asked x p = rw p
+prepare-91 (owner.Console console.K) asked x p = absurd p
+prepare-91 owner.Printer asked x p = absurd p
 
-  -- "A transfer in mode 0 is $91 at the start.": S's
-  pub transfer-91 : (kind : Kind) → (statusIn (workOf (consoleHandler h) (work.Transfer kind) device call table g .out) ≡ 0x91) ↔ ((h ≡ console.S) × (g .console .mode ≡ 0))
-  transfer-91 kind = (begins-91 h kind, λ p. prepare-refused (consoleHandler h) device call table g kind 0x91 (prepare-91 h p))
-
--- P refuses no opening but by AUX1
-pub printer-84 : (device : Device) (number : ℕ) (call : Call) (table : Table) (g : PrinterGroup)
-    → (statusIn (workOf printerHandler (work.Open after.Stay number) device call table g .out) ≡ 0x84) ↔ (offersOf device (call .aux1) ≡ false)
-printer-84 device number call table g = (
-  λ e. by-test (offersOf device (call .aux1))
-      (λ t. absurd (other 0x01 0x84 tt (sym (open-01 printerHandler device call table g after.Stay number t refl refl) ∙ e)))
-      (λ t. t),
-  λ e. ap (λ (b : Begun PrinterGroup). statusIn (b .out)) (not-offered printerHandler device call table g after.Stay number e),
+-- "A transfer in mode 0 is $91 at the start.": S's
+pub transfer-91 : (o : Owner) (port : ℕ) (device : Device) (call : Call) (b : ControlBlock) (x : Part (groupIn o)) (kind : Kind)
+    → (statusIn (workOf (ownActs o) port (work.Transfer kind) device call b x .out) ≡ 0x91) ↔ NoPicture o x
+transfer-91 o port device call b x kind = (
+  begins-91 o port device call b x kind,
+  λ p. prepare-refused (ownActs o) port device call b x kind 0x91 (prepare-91 o (asksOn port (call .iocb)) x p),
 )
 
 -- With a character: what the handlers refuse it with, and the cut record
@@ -604,26 +664,26 @@ got-never : {A : Type 0} {byte status : ℕ} → got.Character byte ≡ got.Refu
 got-never e = absurd (subst isNothing (sym e) tt)
 
 -- "$88 .. | end of file from K": no key, or no character
-pub read-88 : (g : ConsoleGroup) → let k = g .console .keyboard in (consoleHandler console.K .reads g .says ≡ got.Refused 0x88) ↔ (256 ≤ translateOf (k .code) (k .lock) (k .inverse))
+pub read-88 : (asked : Asked) (g : ConsoleGroup) → let k = g .console .keyboard in (consoleActs console.K asked .reads g .says ≡ got.Refused 0x88) ↔ (256 ≤ translateOf (k .code) (k .lock) (k .inverse))
 unfolding readOf readK keys.getOf keys.struckBy
-read-88 g =
+read-88 asked g =
     let k = g .console .keyboard in
     let n = translateOf (k .code) (k .lock) (k .inverse) in
     (λ e. by-lt n 256 (λ h. got-never (rw (lt-ltb n 256 h) at e)) (λ h. h), λ h. rw (le-ltb n 256 h))
 
 -- "$8D | S cursor past the last row"
-pub read-8d : (g : ConsoleGroup) → (consoleHandler console.S .reads g .says ≡ got.Refused 0x8D) ↔ (shapeOf (g .console .mode) .rows ≤ g .console .row)
+pub read-8d : (asked : Asked) (g : ConsoleGroup) → (consoleActs console.S asked .reads g .says ≡ got.Refused 0x8D) ↔ (shapeOf (g .console .mode) .rows ≤ g .console .row)
 unfolding readOf readS graphics.getOf
-read-8d g =
+read-8d asked g =
     let r = shapeOf (g .console .mode) .rows in
     (λ e. by-lt (g .console .row) r (λ h. got-never (rw (lt-leb r (g .console .row) h) at e)) (λ h. h), λ h. rw (le-leb r (g .console .row) h))
 
 -- "At row = rows all but $7D give $8D."
-pub write-8d : (byte : ℕ) (g : ConsoleGroup) → (consoleHandler console.S .writes byte g .says ≡ done.Refused 0x8D) ↔ ((byte ≡ 0x7D → ⊥) × (shapeOf (g .console .mode) .rows ≤ g .console .row))
+pub write-8d : (asked : Asked) (byte : ℕ) (g : ConsoleGroup) → (consoleActs console.S asked .writes byte g .says ≡ done.Refused 0x8D) ↔ ((byte ≡ 0x7D → ⊥) × (shapeOf (g .console .mode) .rows ≤ g .console .row))
 unfolding writeOf writeS graphics.putOf
-write-8d byte g =
+write-8d asked byte g =
     let r = shapeOf (g .console .mode) .rows in
-    let written = consoleHandler console.S .writes byte g .says in
+    let written = consoleActs console.S asked .writes byte g .says in
     let eol-said : (byte ≡ 0x7D → ⊥) → g .console .row < r → written ≡ done.Success
     = λ n h. by-eq byte 0x9B
     (λ e. rw (ne-eqb byte 0x7D n, lt-leb r (g .console .row) h, eq-eqb byte 0x9B e))
@@ -635,10 +695,10 @@ write-8d byte g =
     )
 
 -- "$90 | paper full": "at 4,096 used"
-pub write-90 : (byte : ℕ) (g : PrinterGroup) → (printerHandler .writes byte g .says ≡ done.Refused 0x90) ↔ (4096 ≤ g .used)
+pub write-90 : (asked : Asked) (byte : ℕ) (g : PrinterGroup) → (printerActs asked .writes byte g .says ≡ done.Refused 0x90) ↔ (paperLength ≤ g .used)
 unfolding printer.putOf
-write-90 byte g =
-    (λ e. by-lt (g .used) 4096 (λ h. never (rw (lt-ltb (g .used) 4096 h) at e)) (λ h. h), λ h. rw (le-ltb (g .used) 4096 h))
+write-90 asked byte g =
+    (λ e. by-lt (g .used) paperLength (λ h. never (rw (lt-ltb (g .used) paperLength h) at e)) (λ h. h), λ h. rw (le-ltb (g .used) paperLength h))
 
 -- what a character leaves to go on, and what ends it with $01, are not $89
 onward-says : (run : Run) → (statusIn (outOf (onwardOf run)) ≡ 0x89) → ⊥

@@ -3,7 +3,6 @@
 -- Assumes nothing.
 use mathlib.Core.Path.{_≡_, refl, sym, subst}
 use mathlib.Core.Logic.{_↔_}
-use mathlib.Core.Bool.{false}
 use mathlib.Core.List.{List}
 use Prim.Native.Nat.{ℕ, _≤_}
 use native.Mathlib.Omega.{arith}
@@ -11,30 +10,29 @@ use borrow.Author.Tests.{le-ltb}
 use Rattle.base.proofs.Choices.{choose-go}
 use Rattle.blocks.specs.declared.BlockState.the-variants as block
 use Rattle.blocks.specs.declared.Header.{Header}
-use Rattle.blocks.specs.declared.Run.{Run}
-use Rattle.blocks.specs.declared.Table.{Table}
 use Rattle.blocks.specs.declared.Phase.{Phase}
 use Rattle.blocks.specs.declared.Phase.the-variants.{Gathering, Ready, Running, Replying}
+use Rattle.blocks.specs.declared.Run.{Run}
+use Rattle.blocks.specs.declared.Table.{Table}
 use Rattle.blocks.specs.Blocks.{blockAt}
 use Rattle.wire.specs.declared.Call.{Call}
 use Rattle.wire.specs.declared.Message.the-variants as message
 use Rattle.wire.specs.Messages.{messageOf}
-use Rattle.cio.specs.declared.plan.Group.{Group}
-use Rattle.cio.specs.declared.plan.Group.the-variants as groups
-use Rattle.cio.specs.declared.plan.Errand.{Errand}
-use Rattle.cio.specs.declared.plan.Errand.the-variants as errand
-use Rattle.cio.specs.declared.plan.Plan.{Plan}
-use Rattle.cio.specs.declared.plan.Plan.the-variants as plan
-use Rattle.cio.specs.Handlers.{consoleHandler, printerHandler}
-use Rattle.cio.specs.Plan.{commandOf, blockPlan, callPlan, planOf, groupOf, needOf}
-use Rattle.cio.specs.Transfer.{Out, goes, ends, landed}
-use Rattle.cio.specs.Start.{loadOf, errandOf, workOf, startOf}
-use Rattle.state.specs.declared.Stick.{Stick}
-use Rattle.state.specs.Fits.{deviceGroup, heldOf, clash}
-use Rattle.port.specs.Port.{Reach, startPlan, Ticked, ticked, readyTick, tickPort}
-use Rattle.stick.specs.Stick.{Lent, Outcome, portAt, otherAt, reachAt}
-use Rattle.stick.specs.Calls.{tickAt, tickOf}
-use Rattle.rules.specs.Answers.{Called, PortIs, IsReady, Holds, needAt, Waits, Goes}
+use Rattle.layout.specs.Stick.{Stick, Lent, portAt, otherAt}
+use Rattle.transfer.specs.Transfer.{Out, goes, ends, landed}
+use Rattle.devices.specs.declared.Group.{Group}
+use Rattle.devices.specs.declared.Group.the-variants as groups
+use Rattle.devices.specs.Groups.{getGroup, clash, groupOf, heldOf, deviceActs}
+use Rattle.plan.specs.declared.Errand.{Errand}
+use Rattle.plan.specs.declared.Errand.the-variants as errand
+use Rattle.plan.specs.declared.Plan.{Plan}
+use Rattle.plan.specs.declared.Plan.the-variants as plan
+use Rattle.plan.specs.Plan.{commandOf, blockPlan, callPlan, planIn, planOf, groupNeeded, needOf}
+use Rattle.cio.specs.Start.{loadOf, errandOf, jobBegun, startOf}
+use Rattle.calls.specs.Port.{Reach, startPlan, Ticked, ticked, readyTick, tickPort}
+use Rattle.calls.specs.Stick.{Outcome, reachAt}
+use Rattle.calls.specs.Calls.{tickAt, tickCall}
+use Rattle.rules.specs.Answers.{Called, PortIs, IsReady, Holds, needAt, Waits, TickDone}
 use Rattle.rules.proofs.Answers.{never, clash-holds, by-order, tick-answers}
 use Rattle.rules.proofs.Ports.{own-port}
 
@@ -45,7 +43,7 @@ pub record WaitsFor (s : Stick) (l : Lent) (port : ℕ) : Type 0 where
   pub run : Run
   pub ready : portAt port s .phase ≡ Ready header
   pub running : otherAt port s .phase ≡ Running run
-  pub held : deviceGroup (run .device) ≡ needAt header port s l
+  pub held : groupOf (run .device) ≡ needAt header port s l
 
 module _ (s : Stick) (l : Lent) (port : ℕ) (c : Called s l port) where
   for-run : (header : Header) → portAt port s .phase ≡ Ready header → (phase : Phase) → otherAt port s .phase ≡ phase → Holds phase (needAt header port s l) → WaitsFor s l port
@@ -67,7 +65,7 @@ module _ (s : Stick) (l : Lent) (port : ℕ) where
     phase = subst (Waits s l port) (sym (w .ready)) (subst (λ (x : Phase). Holds x (needAt (w .header) port s l)) (sym (w .running)) (w .held));
   }
 
-  pub waits-for : (tickOf s l port .answer ≡ 8) ↔ WaitsFor s l port
+  pub waits-for : (tickCall s l port .answer ≡ 8) ↔ WaitsFor s l port
   waits-for =
       let q = tick-answers s l port .waits in
       (λ e. let w = q .0 e in for-ready s l port (w .called) (portAt port s .phase) refl (w .phase), λ w. q .1 (held-for w))
@@ -80,13 +78,8 @@ Started (Running run) = Unit {0}
 Started (Replying reply) = Unit {0}
 
 -- no request holds no group
-nobody : (g : Group) → clash groups.Nobody g ≡ false
-nobody groups.Nobody = refl
-nobody groups.Console = refl
-nobody groups.Printer = refl
-
 holds-none : (phase : Phase) → Holds phase groups.Nobody → ⊥
-holds-none phase w = never (clash-holds groups.Nobody phase .1 w) (nobody (heldOf phase))
+holds-none phase w = never (clash-holds groups.Nobody phase .1 w) refl
 
 -- "A ready port's first tick with the group free starts the request and does all but transfers."
 landed-started : (out : Out) (room : List ℕ) → Started (landed out room .phase)
@@ -100,62 +93,62 @@ errand-started (errand.Load address size) room half = tt
 errand-started (errand.Fetch address count) room half = tt
 errand-started (errand.Bad status) room half = tt
 
-plan-started : (p : Plan) (r : Reach) → Started (startPlan p r .port .phase)
+plan-started : (n : ℕ) (p : Plan) (r : Reach) → Started (startPlan n p r .port .phase)
 unfolding startPlan startOf
-plan-started (plan.Free e) r = errand-started e (r .room) (r .area)
-plan-started (plan.Console h job) r = landed-started (workOf (consoleHandler h) (job .work) (job .device) (job .call) (r .port .table) (r .console) .out) (r .room)
-plan-started (plan.Printer job) r = landed-started (workOf printerHandler (job .work) (job .device) (job .call) (r .port .table) (r .printer) .out) (r .room)
+plan-started n (plan.Free e) r = errand-started e (r .room) (r .area)
+plan-started n (plan.On job) r =
+    landed-started (jobBegun (deviceActs (job .device)) n job (blockAt (r .port .table) (job .call .iocb)) (getGroup (groupOf (job .device)) (r .groups)) .out) (r .room)
 
-port-started : (phase : Phase) (held : Group) (r : Reach) → IsReady phase → tickPort phase held r .answer ≡ 0 → Started (tickPort phase held r .reach .port .phase)
+port-started : (n : ℕ) (phase : Phase) (held : Group) (r : Reach) → IsReady phase → tickPort n phase held r .answer ≡ 0 → Started (tickPort n phase held r .reach .port .phase)
 unfolding tickPort readyTick
-port-started (Gathering gather) held r i = absurd i
-port-started (Ready header) held r i =
+port-started n (Gathering gather) held r i = absurd i
+port-started n (Ready header) held r i =
     let p = planOf (messageOf header (r .room)) (r .port .table) (r .area) in
-    choose-go (λ (t : Ticked). t .answer ≡ 0 → Started (t .reach .port .phase)) (clash (groupOf p) held) (λ u. ticked 8 r) (λ u. ticked 0 (startPlan p r))
-    (λ t e. absurd (omega arith)) (λ t e. plan-started p r)
-port-started (Running run) held r i = absurd i
-port-started (Replying reply) held r i = absurd i
+    choose-go (λ (t : Ticked). t .answer ≡ 0 → Started (t .reach .port .phase)) (clash (groupNeeded p) held) (λ u. ticked 8 r) (λ u. ticked 0 (startPlan n p r))
+    (λ t e. absurd (omega arith)) (λ t e. plan-started n p r)
+port-started n (Running run) held r i = absurd i
+port-started n (Replying reply) held r i = absurd i
 
 module _ (s : Stick) (l : Lent) (port : ℕ) where
   -- a ready port whose tick is done is not ready any more: its request runs, or its reply is made
-  pub ready-starts : IsReady (portAt port s .phase) → tickOf s l port .answer ≡ 0 → Started (portAt port (tickOf s l port .stick) .phase)
-  unfolding tickOf tickAt
+  pub ready-starts : IsReady (portAt port s .phase) → tickCall s l port .answer ≡ 0 → Started (portAt port (tickCall s l port .stick) .phase)
+  unfolding tickCall tickAt
   ready-starts i =
       by-order s l (λ u. tickAt port s l) (λ (o : Outcome). o .answer ≡ 0 → Started (portAt port (o .stick) .phase)) port
       (λ w e. absurd (omega arith)) (λ d e. absurd (omega arith)) (λ a e. absurd (omega arith))
-      (λ c e. rw (own-port port) (port-started (portAt port s .phase) (heldOf (otherAt port s .phase)) (reachAt port s l) i e))
+      (λ c e. rw (own-port port) (port-started port (portAt port s .phase) (heldOf (otherAt port s .phase)) (reachAt port s l) i e))
 
   module _ (header : Header) (ready : portAt port s .phase ≡ Ready header) where
     -- it waits only while the other port's running request holds the group that it needs
-    pub free-starts : Called s l port → (Holds (otherAt port s .phase) (needAt header port s l) → ⊥) → tickOf s l port .answer ≡ 0
-    free-starts c f = tick-answers s l port .done .1 (record { called = c; phase = subst (Goes s l port) (sym ready) f })
+    pub free-starts : Called s l port → (Holds (otherAt port s .phase) (needAt header port s l) → ⊥) → tickCall s l port .answer ≡ 0
+    free-starts c f = tick-answers s l port .done .1 (record { called = c; phase = subst (TickDone s l port) (sym ready) f })
 
     -- ".. need none and never wait"
     module _ (none : needAt header port s l ≡ groups.Nobody) where
       pub none-free : Holds (otherAt port s .phase) (needAt header port s l) → ⊥
       none-free w = holds-none (otherAt port s .phase) (subst (Holds (otherAt port s .phase)) none w)
 
-      pub none-never-waits : tickOf s l port .answer ≡ 8 → ⊥
+      pub none-never-waits : tickCall s l port .answer ≡ 8 → ⊥
       none-never-waits e = none-free (subst (Waits s l port) ready (tick-answers s l port .waits .0 e .phase))
 
-      pub none-starts : Called s l port → tickOf s l port .answer ≡ 0
+      pub none-starts : Called s l port → tickCall s l port .answer ≡ 0
       none-starts c = free-starts c none-free
 
 -- "LOAD, FETCH and refused messages need none"
 module _ (table : Table) (half : List ℕ) where
   pub load-needs-none : (address size : ℕ) → needOf (message.Load address size) table half ≡ groups.Nobody
-  unfolding planOf
+  unfolding planOf planIn
   load-needs-none address size = refl
 
   pub fetch-needs-none : (address count : ℕ) → needOf (message.Fetch address count) table half ≡ groups.Nobody
-  unfolding planOf
+  unfolding planOf planIn
   fetch-needs-none address count = refl
 
   pub bad-needs-none : (status : ℕ) → needOf (message.Bad status) table half ≡ groups.Nobody
-  unfolding planOf
+  unfolding planOf planIn
   bad-needs-none status = refl
 
   -- "CLOSE of a closed block"
   pub close-needs-none : (call : Call) → call .iocb ≤ 7 → call .command ≡ 0x0C → blockAt table (call .iocb) .state ≡ block.Closed → needOf (message.Call call) table half ≡ groups.Nobody
-  unfolding planOf callPlan commandOf blockPlan
+  unfolding planOf planIn callPlan commandOf blockPlan
   close-needs-none call h c e = rw (le-ltb 7 (call .iocb) h, c, e)

@@ -11,12 +11,13 @@ use Rattle.blocks.specs.declared.Header.{Header}
 use Rattle.blocks.specs.declared.Phase.{Phase}
 use Rattle.blocks.specs.declared.Phase.the-variants.{Gathering, Ready, Running, Replying}
 use Rattle.wire.specs.Messages.{messageOf}
-use Rattle.cio.specs.declared.plan.Group.{Group}
-use Rattle.cio.specs.declared.plan.Group.the-variants as groups
-use Rattle.cio.specs.Plan.{needOf}
-use Rattle.state.specs.declared.Stick.{Stick}
-use Rattle.state.specs.Fits.{deviceGroup, stickFits}
-use Rattle.stick.specs.Stick.{Lent, LengthsFit, Guarded, portAt, otherAt, areaAt, roomAt}
+use Rattle.layout.specs.Stick.{Stick, Lent, portAt, otherAt}
+use Rattle.devices.specs.declared.Group.{Group}
+use Rattle.devices.specs.declared.Group.the-variants as groups
+use Rattle.devices.specs.Groups.{groupOf}
+use Rattle.plan.specs.Plan.{needOf}
+use Rattle.damage.specs.Fits.{stickFits}
+use Rattle.calls.specs.Stick.{LengthsFit, Guarded, areaAt, roomAt}
 
 -- "2 a lent buffer has another length", shorter or longer
 abbrev pub OtherLength : Lent → Type 0
@@ -25,7 +26,7 @@ OtherLength l = LengthsFit l → ⊥
 -- "3 damaged state", where the lengths fit
 pub record Damaged (s : Stick) (l : Lent) : Type 0 where
   pub lengths : LengthsFit l
-  pub damaged : stickFits s ≡ false
+  pub damaged : stickFits s l ≡ false
 
 -- "1 port above 1", where the lengths fit and the state is undamaged
 pub record Above (s : Stick) (l : Lent) (port : ℕ) : Type 0 where
@@ -82,7 +83,7 @@ Idle phase = (IsReady phase → ⊥) × (Runs phase → ⊥)
 abbrev pub Holds : Phase → Group → Type 0
 Holds (Gathering gather) group = ⊥
 Holds (Ready header) group = ⊥
-Holds (Running run) group = deviceGroup (run .device) ≡ group
+Holds (Running run) group = groupOf (run .device) ≡ group
 Holds (Replying reply) group = ⊥
 
 -- "6 key pressed while a request holds the console"
@@ -108,11 +109,11 @@ Waits s l port (Running run) = ⊥
 Waits s l port (Replying reply) = ⊥
 
 -- a tick that is done: the port runs, or is ready and the other port does not hold the group
-abbrev pub Goes : Stick → Lent → (port : ℕ) → Phase → Type 0
-Goes s l port (Gathering gather) = ⊥
-Goes s l port (Ready header) = Holds (otherAt port s .phase) (needAt header port s l) → ⊥
-Goes s l port (Running run) = Unit {0}
-Goes s l port (Replying reply) = ⊥
+abbrev pub TickDone : Stick → Lent → (port : ℕ) → Phase → Type 0
+TickDone s l port (Gathering gather) = ⊥
+TickDone s l port (Ready header) = Holds (otherAt port s .phase) (needAt header port s l) → ⊥
+TickDone s l port (Running run) = Unit {0}
+TickDone s l port (Replying reply) = ⊥
 
 -- one of these numbers
 abbrev pub oneOf : List ℕ → ℕ → Bool
@@ -148,7 +149,7 @@ pub record TickAnswers (s : Stick) (l : Lent) (port answer : ℕ) : Type 0 where
   pub idle : (answer ≡ 7) ↔ PortIs Idle s l port
   -- "8 tick, ready, group held by the other port"
   pub waits : (answer ≡ 8) ↔ PortIs (Waits s l port) s l port
-  pub done : (answer ≡ 0) ↔ PortIs (Goes s l port) s l port
+  pub done : (answer ≡ 0) ↔ PortIs (TickDone s l port) s l port
   pub numbers : oneOf (0 ∷ 1 ∷ 2 ∷ 3 ∷ 7 ∷ 8 ∷ []) answer ≡ true
 
 pub record GiveAnswers (s : Stick) (l : Lent) (port answer : ℕ) : Type 0 where

@@ -1,5 +1,5 @@
 -- What a call leaves alone: the other port; of a take, a give and a press also the port's own blocks and area, and the devices. (What
--- a tick does to its own port and its group's device, and that it leaves the other group's, is demand 2.)
+-- a tick does to its own port and its group's device, and that it leaves the other groups, is demand 2.)
 -- Assumes nothing.
 use mathlib.Core.Path.{_≡_}
 use mathlib.Core.Logic.{_⊎_}
@@ -7,18 +7,18 @@ use Prim.Native.Nat.{ℕ}
 use lib.Dec.{eqb}
 use Rattle.base.specs.Choice.{pick}
 use Rattle.console.specs.Group.{pressedOf}
-use Rattle.state.specs.declared.Stick.{Stick}
-use Rattle.stick.specs.Stick.{Lent, Outcome, portAt, otherAt, areaAt, roomAt}
+use Rattle.layout.specs.Stick.{Stick, Lent, portAt, otherAt}
+use Rattle.calls.specs.Stick.{Outcome, areaAt, roomAt}
 
 -- the other port
-abbrev pub other : ℕ → ℕ
-other port = pick (eqb port 0) 1 0
+abbrev pub otherNumber : ℕ → ℕ
+otherNumber port = pick (eqb port 0) 1 0
 
 -- the other port's blocks and phase, its room and its half of the area are as they were
 pub record OtherStays (port : ℕ) (s : Stick) (l : Lent) (o : Outcome) : Type 0 where
   pub state : otherAt port (o .stick) ≡ otherAt port s
-  pub room : roomAt (other port) (o .lent) ≡ roomAt (other port) l
-  pub half : areaAt (other port) (o .lent) ≡ areaAt (other port) l
+  pub room : roomAt (otherNumber port) (o .lent) ≡ roomAt (otherNumber port) l
+  pub half : areaAt (otherNumber port) (o .lent) ≡ areaAt (otherNumber port) l
 
 -- only the port's own phase and room are others
 pub record OnlyOwn (port : ℕ) (s : Stick) (l : Lent) (o : Outcome) : Type 0 where

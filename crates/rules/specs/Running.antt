@@ -3,17 +3,16 @@
 use mathlib.Core.Path.{_≡_}
 use mathlib.Core.Bool.{true}
 use Prim.Native.Nat.{ℕ, _<_}
-use Rattle.blocks.specs.declared.Device.{Device}
 use Rattle.blocks.specs.declared.BlockState.{BlockState}
 use Rattle.blocks.specs.declared.BlockState.the-variants as block
-use Rattle.blocks.specs.declared.Table.{Table}
+use Rattle.blocks.specs.declared.Device.{Device}
 use Rattle.blocks.specs.declared.Kind.{Kind}
 use Rattle.blocks.specs.declared.Kind.the-variants.{Get, Put}
 use Rattle.blocks.specs.declared.Run.{Run}
+use Rattle.blocks.specs.declared.Table.{Table}
 use Rattle.blocks.specs.Blocks.{blockAt}
 use Rattle.blocks.specs.Opening.{letterOf, reads, writes}
-use Rattle.cio.specs.Transfer.{spanFits}
-use Rattle.cio.specs.Move.{wayIn}
+use Rattle.transfer.specs.Spans.{wayIn, spanFits}
 
 -- reading needs R, writing W
 abbrev pub Allowed : Kind → (aux1 : ℕ) → Type 0

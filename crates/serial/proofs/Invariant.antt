@@ -202,7 +202,7 @@ module _ (M : Machine) (L : Laws M) where
   unfolding serial
   inv-idle t d f = record { same = refl; apart = refl; fit = f; own = port-begin (t .zeroth) d port-0; others = port-begin (t .first) d port-1 }
 
-  inv-begin : (w : View M) → Begun M (coreOf M) w → let s = begin M (coreOf M) w in Holding M L (wholeOf M (coreOf M) s) s
+  pub inv-begin : (w : View M) → Begun M (coreOf M) w → let s = begin M (coreOf M) w in Holding M L (wholeOf M (coreOf M) s) s
   inv-begin w b = subst (λ v. let s = begin M (coreOf M) v in Holding M L (wholeOf M (coreOf M) s) s) (sym (b .0)) (inv-idle (locals M w) (w .devs) (b .1))
 
   pub reached : (w : View M) → Begun M (coreOf M) w → (cs : List (Call M)) → OkCalls M cs

@@ -23,6 +23,7 @@ pub mod ToyLaws
 pub mod ToyRun
 pub mod WrongAnswers
 pub mod WrongWaiting
+pub mod NeverStarting
 pub mod WrongMoves
 pub mod WrongBytes
 pub mod Image

@@ -46,42 +46,42 @@ pub leads : (f : Calls toy) (cs : List (Call toy)) → T (allOk toy (λ b. ltb b
 leads f cs t = record { from = first; begun = (refl, tt); calls = cs; ok = ok-by cs t; there = refl }
 
 -- port 0 prints two stars; meanwhile a key is pressed, port 1 reads it, and its own print waits
-abbrev busy : List (Call toy)
-busy =
+abbrev toyBusy : List (Call toy)
+toyBusy =
     take port-0 2 ∷ take port-0 2 ∷ tick port-0 ∷ take port-0 1 ∷ give port-0 ∷ tick port-1 ∷ press 60 ∷
     take port-1 1 ∷ take port-1 0 ∷ tick port-1 ∷ press 61 ∷ tick port-1 ∷ give port-1 ∷ give port-1 ∷ tick port-0 ∷
     take port-1 2 ∷ take port-1 1 ∷ tick port-1 ∷ tick port-0 ∷ tick port-1 ∷ tick port-1 ∷
     give port-0 ∷ give port-0 ∷ give port-1 ∷ []
 
-abbrev pub busyEnd : State toy (coreOf toy)
-busyEnd = after toy (coreOf toy) busy (begin toy (coreOf toy) first)
+abbrev pub toyEnd : State toy (coreOf toy)
+toyEnd = after toy (coreOf toy) toyBusy (begin toy (coreOf toy) first)
 
-busy-answers : answers toy (coreOf toy) busy first ≡
+toy-answers : answers toy (coreOf toy) toyBusy first ≡
     0 ∷ 0 ∷ 0 ∷ 4 ∷ 5 ∷ 7 ∷ 0 ∷
     0 ∷ 0 ∷ 0 ∷ 6 ∷ 0 ∷ 0 ∷ 0 ∷ 0 ∷
     0 ∷ 0 ∷ 8 ∷ 0 ∷ 0 ∷ 0 ∷
     0 ∷ 0 ∷ 0 ∷ []
-busy-answers = refl
+toy-answers = refl
 
-busy-log : busyEnd .seen .log ≡
+toy-log : toyEnd .seen .log ≡
     started port-0 (record { tag = 2; value = 2 }) ∷ pressed 60 ∷ started port-1 (record { tag = 1; value = 0 }) ∷ started port-1 (record { tag = 2; value = 1 }) ∷ []
 unfolding after
-busy-log = refl
+toy-log = refl
 
-busy-devices : busyEnd .world .devs ≡ record { key = 255; paper = 42 ∷ 42 ∷ 42 ∷ [] }
+toy-devices : toyEnd .world .devs ≡ record { key = 255; paper = 42 ∷ 42 ∷ 42 ∷ [] }
 unfolding after
-busy-devices = refl
+toy-devices = refl
 
-busy-given : busyEnd .seen .port .first .given ≡ 144 ∷ 60 ∷ 144 ∷ []
+toy-given : toyEnd .seen .port .first .given ≡ 144 ∷ 60 ∷ 144 ∷ []
 unfolding after
-busy-given = refl
+toy-given = refl
 
-busy-finished : Finished toy (coreOf toy) busyEnd
+toy-finished : Finished toy (coreOf toy) toyEnd
 unfolding after
-busy-finished = (tt, tt)
+toy-finished = (tt, tt)
 
-busy-serial : wholeOf toy (coreOf toy) busyEnd ≡ serial toy (busyEnd .seen .log) (wholeOf toy (coreOf toy) (begin toy (coreOf toy) first))
-busy-serial = toy-demand3 .as-serial first (refl, tt) busy (ok-by busy tt) busy-finished
+toy-serial : wholeOf toy (coreOf toy) toyEnd ≡ serial toy (toyEnd .seen .log) (wholeOf toy (coreOf toy) (begin toy (coreOf toy) first))
+toy-serial = toy-demand3 .as-serial first (refl, tt) toyBusy (ok-by toyBusy tt) toy-finished
 
 -- the bound is met with nothing to spare: three stars run still after two further ticks
 abbrev long : List (Call toy)

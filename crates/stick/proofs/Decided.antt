@@ -1,17 +1,12 @@
 -- Each promise of this crate decides: two outcomes that it allows are equal, and it allows one.
 -- Assumes nothing.
 use mathlib.Core.Path.{_≡_, refl, sym, _∙_, ap}
-use mathlib.Core.List.{List}
-use Prim.Native.Nat.{ℕ}
 use Rattle.base.specs.Decides.{Decides, Allows}
-use Rattle.stick.specs.Stick.{Outcome}
-use Rattle.stick.specs.declared.Called.{Called}
-use Rattle.stick.proofs.guard.lengths_fit.Kinds as lengths-fit-kinds
-use Rattle.stick.proofs.guard.lengths_fit.Reads as lengths-fit-reads
-use Rattle.stick.proofs.guard.refusal.Kinds as refusal-kinds
-use Rattle.stick.proofs.guard.refusal.Reads as refusal-reads
-use Rattle.stick.proofs.fresh_stick.Kinds as fresh-stick-kinds
-use Rattle.stick.proofs.fresh_stick.Reads as fresh-stick-reads
+use Rattle.calls.specs.Calls.{giveAt}
+use Rattle.calls.specs.Bytes.{Buffers, Left}
+use Rattle.calls.specs.Parts.{freshOn}
+use Rattle.stick.specs.declared.Answered.{Answered}
+use Rattle.stick.proofs.Allowed.{take-leaves, press-leaves}
 use Rattle.stick.proofs.fresh.Kinds as fresh-kinds
 use Rattle.stick.proofs.fresh.Reads as fresh-reads
 use Rattle.stick.proofs.take.Kinds as take-kinds
@@ -22,51 +17,67 @@ use Rattle.stick.proofs.give.Kinds as give-kinds
 use Rattle.stick.proofs.give.Reads as give-reads
 use Rattle.stick.proofs.press.Kinds as press-kinds
 use Rattle.stick.proofs.press.Reads as press-reads
-
-pub lengths-fit-decides : Decides 4 lengths-fit-kinds.ps lengths-fit-kinds.r lengths-fit-reads.Pre lengths-fit-reads.Learnt
-lengths-fit-decides κs a z z′ ws ws′ p e e′ = (e ∙ sym e′, refl)
-
-pub lengths-fit-allows : Allows 4 lengths-fit-kinds.ps lengths-fit-kinds.r lengths-fit-reads.Pre lengths-fit-reads.Learnt
-lengths-fit-allows κs a p = (_, (_, refl))
-
-pub refusal-decides : Decides 4 refusal-kinds.ps refusal-kinds.r refusal-reads.Pre refusal-reads.Learnt
-refusal-decides κs a z z′ ws ws′ p e e′ = (e ∙ sym e′, refl)
-
-pub refusal-allows : Allows 4 refusal-kinds.ps refusal-kinds.r refusal-reads.Pre refusal-reads.Learnt
-refusal-allows κs a p = (_, (_, refl))
-
-pub fresh-stick-decides : Decides 0 fresh-stick-kinds.ps fresh-stick-kinds.r fresh-stick-reads.Pre fresh-stick-reads.Learnt
-fresh-stick-decides κs a z z′ ws ws′ p e e′ = (e ∙ sym e′, refl)
-
-pub fresh-stick-allows : Allows 0 fresh-stick-kinds.ps fresh-stick-kinds.r fresh-stick-reads.Pre fresh-stick-reads.Learnt
-fresh-stick-allows κs a p = (_, (_, refl))
+use Rattle.stick.proofs.served.take_at.Kinds as take-at-kinds
+use Rattle.stick.proofs.served.take_at.Reads as take-at-reads
+use Rattle.stick.proofs.served.give_at.Kinds as give-at-kinds
+use Rattle.stick.proofs.served.give_at.Reads as give-at-reads
+use Rattle.stick.proofs.served.press_at.Kinds as press-at-kinds
+use Rattle.stick.proofs.served.press_at.Reads as press-at-reads
+use Rattle.stick.proofs.started.fresh_all.Kinds as fresh-all-kinds
+use Rattle.stick.proofs.started.fresh_all.Reads as fresh-all-reads
 
 pub fresh-decides : Decides 4 fresh-kinds.ps fresh-kinds.r fresh-reads.Pre fresh-reads.Learnt
-fresh-decides κs a z z′ ws ws′ p e e′ = let q = e ∙ sym e′ in (ap (λ (w : Outcome). record { answer = w .answer; byte = w .byte; stick = w .stick }) q, ap (λ (w : Outcome). (tt, (w .lent .rooms, (w .lent .area, (w .lent .screen, (w .lent .paper, tt)))))) q)
+fresh-decides κs a z z′ ws ws′ p e e′ = let q = e ∙ sym e′ in (ap (λ (w : Left). record { answer = w .answer; byte = w .byte }) q, ap (λ (w : Left). (w .buffers .state, (w .buffers .area, (w .buffers .screen, (w .buffers .paper, tt))))) q)
 
 pub fresh-allows : Allows 4 fresh-kinds.ps fresh-kinds.r fresh-reads.Pre fresh-reads.Learnt
 fresh-allows κs a p = (_, (_, refl))
 
 pub take-decides : Decides 4 take-kinds.ps take-kinds.r take-reads.Pre take-reads.Learnt
-take-decides κs a z z′ ws ws′ p e e′ = let q = e ∙ sym e′ in (ap (λ (w : Outcome). record { answer = w .answer; byte = w .byte; stick = w .stick }) q, ap (λ (w : Outcome). (tt, (w .lent .rooms, (w .lent .area, (w .lent .screen, (w .lent .paper, (tt, (tt, tt)))))))) q)
+take-decides κs a z z′ ws ws′ p e e′ = let q = e ∙ sym e′ in (ap (λ (w : Left). record { answer = w .answer; byte = w .byte }) q, ap (λ (w : Left). (w .buffers .state, (w .buffers .area, (w .buffers .screen, (w .buffers .paper, (tt, (tt, tt))))))) q)
 
 pub take-allows : Allows 4 take-kinds.ps take-kinds.r take-reads.Pre take-reads.Learnt
 take-allows κs a p = (_, (_, refl))
 
 pub tick-decides : Decides 4 tick-kinds.ps tick-kinds.r tick-reads.Pre tick-reads.Learnt
-tick-decides κs a z z′ ws ws′ p e e′ = let q = e ∙ sym e′ in (ap (λ (w : Outcome). record { answer = w .answer; byte = w .byte; stick = w .stick }) q, ap (λ (w : Outcome). (tt, (w .lent .rooms, (w .lent .area, (w .lent .screen, (w .lent .paper, (tt, tt))))))) q)
+tick-decides κs a z z′ ws ws′ p e e′ = let q = e ∙ sym e′ in (ap (λ (w : Left). record { answer = w .answer; byte = w .byte }) q, ap (λ (w : Left). (w .buffers .state, (w .buffers .area, (w .buffers .screen, (w .buffers .paper, (tt, tt)))))) q)
 
 pub tick-allows : Allows 4 tick-kinds.ps tick-kinds.r tick-reads.Pre tick-reads.Learnt
 tick-allows κs a p = (_, (_, refl))
 
 pub give-decides : Decides 4 give-kinds.ps give-kinds.r give-reads.Pre give-reads.Learnt
-give-decides κs a z z′ ws ws′ p e e′ = let q = e ∙ sym e′ in (ap (λ (w : Outcome). record { answer = w .answer; byte = w .byte; stick = w .stick }) q, ap (λ (w : Outcome). (tt, (w .lent .rooms, (w .lent .area, (w .lent .screen, (w .lent .paper, (tt, tt))))))) q)
+give-decides κs a z z′ ws ws′ p e e′ = let q = e ∙ sym e′ in (ap (λ (w : Left). record { answer = w .answer; byte = w .byte }) q, ap (λ (w : Left). (w .buffers .state, (w .buffers .area, (w .buffers .screen, (w .buffers .paper, (tt, tt)))))) q)
 
 pub give-allows : Allows 4 give-kinds.ps give-kinds.r give-reads.Pre give-reads.Learnt
 give-allows κs a p = (_, (_, refl))
 
 pub press-decides : Decides 4 press-kinds.ps press-kinds.r press-reads.Pre press-reads.Learnt
-press-decides κs a z z′ ws ws′ p e e′ = let q = e ∙ sym e′ in (ap (λ (w : Outcome). record { answer = w .answer; byte = w .byte; stick = w .stick }) q, ap (λ (w : Outcome). (tt, (w .lent .rooms, (w .lent .area, (w .lent .screen, (w .lent .paper, (tt, tt))))))) q)
+press-decides κs a z z′ ws ws′ p e e′ = let q = e ∙ sym e′ in (ap (λ (w : Left). record { answer = w .answer; byte = w .byte }) q, ap (λ (w : Left). (w .buffers .state, (w .buffers .area, (w .buffers .screen, (w .buffers .paper, (tt, tt)))))) q)
 
 pub press-allows : Allows 4 press-kinds.ps press-kinds.r press-reads.Pre press-reads.Learnt
 press-allows κs a p = (_, (_, refl))
+
+pub take-at-decides : Decides 4 take-at-kinds.ps take-at-kinds.r take-at-reads.Pre take-at-reads.Learnt
+take-at-decides κs a z z′ ws ws′ p e e′ = let q = e ∙ sym e′ in (ap (λ (w : Left). w .answer) q, ap (λ (w : Left). (tt, (tt, (w .buffers .state, (tt, (tt, (tt, tt))))))) q)
+
+pub take-at-allows : Allows 4 take-at-kinds.ps take-at-kinds.r take-at-reads.Pre take-at-reads.Learnt
+take-at-allows κs a p = (_, (_, take-leaves _ _ _))
+
+pub give-at-decides : Decides 4 give-at-kinds.ps give-at-kinds.r give-at-reads.Pre give-at-reads.Learnt
+give-at-decides κs a z z′ ws ws′ p e e′ = let q = e ∙ sym e′ in (ap (λ (w : Left). record { answer = w .answer; byte = w .byte }) q, ap (λ (w : Left). (tt, (w .buffers .state, (tt, (tt, (tt, tt)))))) q)
+
+pub give-at-allows : Allows 4 give-at-kinds.ps give-at-kinds.r give-at-reads.Pre give-at-reads.Learnt
+unfolding giveAt
+give-at-allows κs a p = (_, (_, refl))
+
+pub press-at-decides : Decides 4 press-at-kinds.ps press-at-kinds.r press-at-reads.Pre press-at-reads.Learnt
+press-at-decides κs a z z′ ws ws′ p e e′ = let q = e ∙ sym e′ in (ap (λ (w : Left). w .answer) q, ap (λ (w : Left). (tt, (w .buffers .state, (tt, (tt, (tt, tt)))))) q)
+
+pub press-at-allows : Allows 4 press-at-kinds.ps press-at-kinds.r press-at-reads.Pre press-at-reads.Learnt
+press-at-allows κs a p = (_, (_, press-leaves _ _))
+
+pub fresh-all-decides : Decides 4 fresh-all-kinds.ps fresh-all-kinds.r fresh-all-reads.Pre fresh-all-reads.Learnt
+fresh-all-decides κs a z z′ ws ws′ p e e′ = (refl, ap (λ (w : Buffers). (w .state, (w .area, (w .screen, (tt, tt))))) (e ∙ sym e′))
+
+pub fresh-all-allows : Allows 4 fresh-all-kinds.ps fresh-all-kinds.r fresh-all-reads.Pre fresh-all-reads.Learnt
+unfolding freshOn
+fresh-all-allows κs a p = (_, (_, refl))

@@ -198,9 +198,8 @@ pub fn give(reply: Reply, room: &[u8]) -> Given
     }
 }
 
-// `count` bytes of one lent buffer, from `start` on, into another, from `place` on. Past the one's end a byte is 0, past the
-// other's nothing changes.
-pub fn copy_bytes(to: &mut [u8], place: u16, from: &[u8], start: u16, count: u16)
+// Byte by byte, for buffers that end before.
+fn copy_each(to: &mut [u8], place: u16, from: &[u8], start: u16, count: u16)
     ensures { λ _. ⌜ now (to .exit) ≡ sets (now (to .entry)) place (bytesAt (now (from .entry)) start count) ⌝ }
 {
     let mut i: u16 = 0;
@@ -209,6 +208,24 @@ pub fn copy_bytes(to: &mut [u8], place: u16, from: &[u8], start: u16, count: u16
         base::set_byte(to, place as usize + i as usize, byte);
         i += 1;
     }
+}
+
+// `count` bytes of one lent buffer, from `start` on, into another, from `place` on. Past the one's end a byte is 0, past the
+// other's nothing changes.
+pub fn copy_bytes(to: &mut [u8], place: u16, from: &[u8], start: u16, count: u16)
+    ensures { λ _. ⌜ now (to .exit) ≡ sets (now (to .entry)) place (bytesAt (now (from .entry)) start count) ⌝ }
+{
+    let first = start as usize;
+    let last = first + count as usize;
+    let at = place as usize;
+    let end = at + count as usize;
+    if last <= from.len() {
+        if end <= to.len() {
+            bytes::copy(&from[first..last], &mut to[at..end]);
+            return;
+        }
+    }
+    copy_each(to, place, from, start, count);
 }
 
 // A number as two bytes, the low one first.

@@ -1,6 +1,6 @@
--- `read` meets its contract, by `some-colours`, `colours-byte` and `read-law`.
+-- `read` meets its contract, by `shape-colours` and `read-law`.
 -- Assumes nothing.
-use Rattle.cells.proofs.Shapes.{some-colours, colours-byte, read-law}
+use Rattle.cells.proofs.Shapes.{shape-colours, read-law}
 use borrow.Author.Needs.{needs}
 use Rattle.cells.proofs.read.Statement.{statement}
 use Rattle.cells.proofs.read.Tie as tie
@@ -14,26 +14,12 @@ place-requires c κs = search needs
 byte-at-requires : tie.Need-byte-at-requires
 byte-at-requires c κs = search needs
 
-cast-cell : tie.Need-cast-cell
-cast-cell c = search needs
-
-rem-result : tie.Need-rem-result
-rem-result c = search some-colours
-
-cast-result : tie.Need-cast-result
-cast-result c = search colours-byte
+colour-requires : tie.Need-colour-requires
+colour-requires c κs = search shape-colours
 
 returns : tie.Need-returns
 returns c = search read-law
 
 pub read-spec : {M : Type 1} → statement M
 read-spec =
-    tie.close
-    (tie.spec
-    shape-of-requires
-    place-requires
-    byte-at-requires
-    cast-cell
-    rem-result
-    cast-result
-    returns)
+    tie.close (tie.spec shape-of-requires place-requires byte-at-requires colour-requires returns)

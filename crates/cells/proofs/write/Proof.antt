@@ -1,6 +1,6 @@
--- `write` meets its contract, by `some-colours`, `colours-byte` and `write-law`.
+-- `write` meets its contract, by `shape-colours` and `write-law`.
 -- Assumes nothing.
-use Rattle.cells.proofs.Shapes.{some-colours, colours-byte, write-law}
+use Rattle.cells.proofs.Shapes.{shape-colours, write-law}
 use borrow.Author.Needs.{needs}
 use Rattle.cells.proofs.write.Statement.{statement}
 use Rattle.cells.proofs.write.Tie as tie
@@ -11,11 +11,8 @@ shape-of-requires c κs = search needs
 place-requires : tie.Need-place-requires
 place-requires c κs = search needs
 
-rem-set-byte : tie.Need-rem-set-byte
-rem-set-byte c = search some-colours
-
-cast-set-byte : tie.Need-cast-set-byte
-cast-set-byte c = search colours-byte
+colour-requires : tie.Need-colour-requires
+colour-requires c κs = search shape-colours
 
 set-byte-requires : tie.Need-set-byte-requires
 set-byte-requires c κs = search needs
@@ -32,8 +29,7 @@ write-spec =
     (tie.spec
     shape-of-requires
     place-requires
-    rem-set-byte
-    cast-set-byte
+    colour-requires
     set-byte-requires
     same-length
     returns)

@@ -6,13 +6,13 @@ use Rattle.play.proofs.main.Statement.{statement}
 use Rattle.play.proofs.main.Tie as tie
 
 abbrev Inv-loop : tie.InvT-loop
-Inv-loop rooms₀ area₀ screen₀ paper₀ stick₀ lengths₀ i₀ rooms area screen paper stick lengths i = i ≤ 18446744073709551615
+Inv-loop state₀ area₀ screen₀ paper₀ lengths₀ i₀ state area screen paper lengths i = i ≤ 18446744073709551615
 
 abbrev μ-loop : tie.MeasureT-loop
-μ-loop rooms₀ area₀ screen₀ paper₀ stick₀ lengths₀ i₀ rooms area screen paper stick lengths i = 18446744073709551615 - i
+μ-loop state₀ area₀ screen₀ paper₀ lengths₀ i₀ state area screen paper lengths i = 18446744073709551615 - i
 
-slice-aggregate-rooms : tie.Need-slice-aggregate-rooms Inv-loop μ-loop
-slice-aggregate-rooms c = search needs
+slice-aggregate-state : tie.Need-slice-aggregate-state Inv-loop μ-loop
+slice-aggregate-state c = search needs
 
 slice-aggregate-area : tie.Need-slice-aggregate-area Inv-loop μ-loop
 slice-aggregate-area c = search needs
@@ -23,8 +23,8 @@ slice-aggregate-screen c = search needs
 slice-aggregate-paper : tie.Need-slice-aggregate-paper Inv-loop μ-loop
 slice-aggregate-paper c = search needs
 
-started-requires : tie.Need-started-requires Inv-loop μ-loop
-started-requires c κs = search needs
+fresh-requires : tie.Need-fresh-requires Inv-loop μ-loop
+fresh-requires c κs = search needs
 
 whole-requires : tie.Need-whole-requires Inv-loop μ-loop
 whole-requires c κs = search needs
@@ -35,29 +35,14 @@ loop-holds c = search needs
 read-requires : tie.Need-read-requires Inv-loop μ-loop
 read-requires c κs = search needs
 
-enum-told : tie.Need-enum-told Inv-loop μ-loop
-enum-told c = search needs
+ends-requires : tie.Need-ends-requires Inv-loop μ-loop
+ends-requires c κs = search needs
 
 returns : tie.Need-returns Inv-loop μ-loop
 returns c = search needs
 
-enum-known-which : tie.Need-enum-known-which Inv-loop μ-loop
-enum-known-which c = search needs
-
-lend-requires : tie.Need-lend-requires Inv-loop μ-loop
-lend-requires c κs = search needs
-
-enum-told-2 : tie.Need-enum-told-2 Inv-loop μ-loop
-enum-told-2 c = search needs
-
-write-requires : tie.Need-write-requires Inv-loop μ-loop
-write-requires c κs = search needs
-
-enum-known-call : tie.Need-enum-known-call Inv-loop μ-loop
-enum-known-call c = search needs
-
-perform-cut-requires : tie.Need-perform-cut-requires Inv-loop μ-loop
-perform-cut-requires c κs = search needs
+play-requires : tie.Need-play-requires Inv-loop μ-loop
+play-requires c κs = search needs
 
 add-i : tie.Need-add-i Inv-loop μ-loop
 add-i c = search needs
@@ -77,22 +62,17 @@ main-spec =
     (tie.spec
     Inv-loop
     μ-loop
-    slice-aggregate-rooms
+    slice-aggregate-state
     slice-aggregate-area
     slice-aggregate-screen
     slice-aggregate-paper
-    started-requires
+    fresh-requires
     whole-requires
     loop-holds
     read-requires
-    enum-told
+    ends-requires
     returns
-    enum-known-which
-    lend-requires
-    enum-told-2
-    write-requires
-    enum-known-call
-    perform-cut-requires
+    play-requires
     add-i
     loop-less
     loop-again

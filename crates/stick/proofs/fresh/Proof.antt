@@ -1,7 +1,6 @@
--- `fresh` meets its contract, by `lengths-fit`, `fresh-done` and `fresh-refused`.
+-- `fresh` meets its contract, by `all-by`, `fresh-done` and `fresh-refused`.
 -- Assumes nothing.
-use Rattle.stick.proofs.Guards.{lengths-fit}
-use Rattle.stick.proofs.Acts.{fresh-done, fresh-refused}
+use Rattle.calls.proofs.Passing.{all-by, fresh-done, fresh-refused}
 use borrow.Author.Needs.{needs}
 use Rattle.stick.proofs.fresh.Statement.{statement}
 use Rattle.stick.proofs.fresh.Tie as tie
@@ -10,7 +9,7 @@ lengths-fit-requires : tie.Need-lengths-fit-requires
 lengths-fit-requires c κs = search needs
 
 fresh-all-requires : tie.Need-fresh-all-requires
-fresh-all-requires c κs = lengths-fit _ _ (c .before .before .before .before .before .lengths-fit .ensures) (c .before .before .before .before .if1 .taken)
+fresh-all-requires c κs = all-by _ _ _ _ _ (c .before .before .before .before .before .lengths-fit .ensures) (c .before .before .before .before .if1 .taken)
 
 same-length : tie.Need-same-length
 same-length c = search needs

@@ -1,15 +1,15 @@
--- `press` meets its contract, by `press-done` and `press-refused`.
+-- `press` meets its contract, by `called-of`, `press-passed` and `press-refused`.
 -- Assumes nothing.
-use Rattle.stick.proofs.Acts.{press-done, press-refused}
+use Rattle.calls.proofs.Passing.{called-of, press-passed, press-refused}
 use borrow.Author.Needs.{needs}
 use Rattle.stick.proofs.press.Statement.{statement}
 use Rattle.stick.proofs.press.Tie as tie
 
-refusal-requires : tie.Need-refusal-requires
-refusal-requires c κs = search needs
+guard-requires : tie.Need-guard-requires
+guard-requires c κs = search needs
 
-press-key-requires : tie.Need-press-key-requires
-press-key-requires c κs = search needs
+press-at-requires : tie.Need-press-at-requires
+press-at-requires c κs = called-of _ (c .before .before .before .before .before .before .before .before .before .before .before .before .before .slice-known .given) _ _ _ _ _ (c .before .before .before .before .before .guard .ensures) (c .before .before .before .before .if1 .taken)
 
 same-length : tie.Need-same-length
 same-length c = search needs
@@ -24,7 +24,7 @@ same-length-4 : tie.Need-same-length-4
 same-length-4 c = search needs
 
 returns : tie.Need-returns
-returns c = search press-done
+returns c = search press-passed
 
 same-length-5 : tie.Need-same-length-5
 same-length-5 c = search needs
@@ -45,8 +45,8 @@ pub press-spec : {M : Type 1} → statement M
 press-spec =
     tie.close
     (tie.spec
-    refusal-requires
-    press-key-requires
+    guard-requires
+    press-at-requires
     same-length
     same-length-2
     same-length-3

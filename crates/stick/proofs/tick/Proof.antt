@@ -1,16 +1,15 @@
--- `tick` meets its contract, by `guarded-of`, `tick-port-0`, `tick-port-1` and `tick-refused`.
+-- `tick` meets its contract, by `called-of`, `tick-passed` and `tick-refused`.
 -- Assumes nothing.
-use Rattle.stick.proofs.Guards.{guarded-of}
-use Rattle.stick.proofs.Acts.{tick-port-0, tick-port-1, tick-refused}
+use Rattle.calls.proofs.Passing.{called-of, tick-passed, tick-refused}
 use borrow.Author.Needs.{needs}
 use Rattle.stick.proofs.tick.Statement.{statement}
 use Rattle.stick.proofs.tick.Tie as tie
 
-refusal-requires : tie.Need-refusal-requires
-refusal-requires c κs = search needs
+guard-requires : tie.Need-guard-requires
+guard-requires c κs = search needs
 
-tick-0-requires : tie.Need-tick-0-requires
-tick-0-requires c κs = guarded-of _ _ _ _ (c .before .before .before .before .before .before .refusal .ensures) (c .before .before .before .before .before .if1 .taken)
+tick-at-requires : tie.Need-tick-at-requires
+tick-at-requires c κs = called-of _ (c .before .before .before .before .before .before .before .before .before .before .before .before .before .slice-known .given) _ _ _ _ _ (c .before .before .before .before .before .guard .ensures) (c .before .before .before .before .if1 .taken)
 
 same-length : tie.Need-same-length
 same-length c = search needs
@@ -25,10 +24,7 @@ same-length-4 : tie.Need-same-length-4
 same-length-4 c = search needs
 
 returns : tie.Need-returns
-returns c = search tick-port-0
-
-tick-1-requires : tie.Need-tick-1-requires
-tick-1-requires c κs = guarded-of _ _ _ _ (c .before .before .before .before .before .before .refusal .ensures) (c .before .before .before .before .before .if1 .taken)
+returns c = search tick-passed
 
 same-length-5 : tie.Need-same-length-5
 same-length-5 c = search needs
@@ -43,42 +39,21 @@ same-length-8 : tie.Need-same-length-8
 same-length-8 c = search needs
 
 returns-2 : tie.Need-returns-2
-returns-2 c = search tick-port-1
-
-same-length-9 : tie.Need-same-length-9
-same-length-9 c = search needs
-
-same-length-10 : tie.Need-same-length-10
-same-length-10 c = search needs
-
-same-length-11 : tie.Need-same-length-11
-same-length-11 c = search needs
-
-same-length-12 : tie.Need-same-length-12
-same-length-12 c = search needs
-
-returns-3 : tie.Need-returns-3
-returns-3 c = search tick-refused
+returns-2 c = search tick-refused
 
 pub tick-spec : {M : Type 1} → statement M
 tick-spec =
     tie.close
     (tie.spec
-    refusal-requires
-    tick-0-requires
+    guard-requires
+    tick-at-requires
     same-length
     same-length-2
     same-length-3
     same-length-4
     returns
-    tick-1-requires
     same-length-5
     same-length-6
     same-length-7
     same-length-8
-    returns-2
-    same-length-9
-    same-length-10
-    same-length-11
-    same-length-12
-    returns-3)
+    returns-2)

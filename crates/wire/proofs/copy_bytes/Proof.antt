@@ -1,72 +1,67 @@
--- `copy_bytes` meets its contract, by `copy-none`, `copy-turn` and `copy-all`.
+-- `copy_bytes` meets its contract, by `copy-part`.
 -- Assumes nothing.
-use mathlib.Core.Path.{_≡_}
-use Prim.Native.Nat.{_≤_, _-_}
+use Rattle.wire.proofs.Copies.{copy-part}
 use borrow.Author.Needs.{needs}
-use lib.ListN.{length}
-use lib.Seq.{sets}
-use Rattle.wire.specs.Replies.{bytesAt}
-use Rattle.wire.proofs.Stores.{copy-none, copy-turn, copy-all}
 use Rattle.wire.proofs.copy_bytes.Statement.{statement}
 use Rattle.wire.proofs.copy_bytes.Tie as tie
 
-abbrev Inv-loop : tie.InvT-loop
-Inv-loop to₀ place from start count i₀ to i = (i ≤ count) × ((to ≡ sets to₀ place (bytesAt from start i)) × (length to ≡ length to₀))
+add-last : tie.Need-add-last
+add-last c = search needs
 
-abbrev μ-loop : tie.MeasureT-loop
-μ-loop to₀ place from start count i₀ to i = count - i
+add-end : tie.Need-add-end
+add-end c = search needs
 
-loop-holds : tie.Need-loop-holds Inv-loop μ-loop
-loop-holds c = (search needs, (search copy-none, search needs))
+sub-copy : tie.Need-sub-copy
+sub-copy c = search needs
 
-cast-byte-at : tie.Need-cast-byte-at Inv-loop μ-loop
-cast-byte-at c = search needs
+part-copy-start : tie.Need-part-copy-start
+part-copy-start c = search needs
 
-add-byte-at : tie.Need-add-byte-at Inv-loop μ-loop
-add-byte-at c = search needs
+part-copy-end : tie.Need-part-copy-end
+part-copy-end c = search needs
 
-byte-at-requires : tie.Need-byte-at-requires Inv-loop μ-loop
-byte-at-requires c κs = search needs
+sub-copy-2 : tie.Need-sub-copy-2
+sub-copy-2 c = search needs
 
-cast-set-byte : tie.Need-cast-set-byte Inv-loop μ-loop
-cast-set-byte c = search needs
+part-copy-start-2 : tie.Need-part-copy-start-2
+part-copy-start-2 c = search needs
 
-add-set-byte : tie.Need-add-set-byte Inv-loop μ-loop
-add-set-byte c = search needs
+part-copy-end-2 : tie.Need-part-copy-end-2
+part-copy-end-2 c = search needs
 
-set-byte-requires : tie.Need-set-byte-requires Inv-loop μ-loop
-set-byte-requires c κs = search needs
+copy-requires : tie.Need-copy-requires
+copy-requires c κs = search needs
 
-add-i : tie.Need-add-i Inv-loop μ-loop
-add-i c = search needs
-
-loop-less : tie.Need-loop-less Inv-loop μ-loop
-loop-less c = search needs
-
-loop-again : tie.Need-loop-again Inv-loop μ-loop
-loop-again c = (search needs, (search copy-turn, search needs))
-
-same-length : tie.Need-same-length Inv-loop μ-loop
+same-length : tie.Need-same-length
 same-length c = search needs
 
-returns : tie.Need-returns Inv-loop μ-loop
-returns c = search copy-all
+returns : tie.Need-returns
+returns c = search copy-part
+
+copy-each-requires : tie.Need-copy-each-requires
+copy-each-requires c κs = search needs
+
+same-length-2 : tie.Need-same-length-2
+same-length-2 c = search needs
+
+returns-2 : tie.Need-returns-2
+returns-2 c = search needs
 
 pub copy-bytes-spec : {M : Type 1} → statement M
 copy-bytes-spec =
     tie.close
     (tie.spec
-    Inv-loop
-    μ-loop
-    loop-holds
-    cast-byte-at
-    add-byte-at
-    byte-at-requires
-    cast-set-byte
-    add-set-byte
-    set-byte-requires
-    add-i
-    loop-less
-    loop-again
+    add-last
+    add-end
+    sub-copy
+    part-copy-start
+    part-copy-end
+    sub-copy-2
+    part-copy-start-2
+    part-copy-end-2
+    copy-requires
     same-length
-    returns)
+    returns
+    copy-each-requires
+    same-length-2
+    returns-2)

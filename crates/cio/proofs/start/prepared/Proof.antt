@@ -11,18 +11,11 @@ enum-told c = search needs
 enum-known-done : tie.Need-enum-known-done
 enum-known-done c = search needs
 
-over-requires : tie.Need-over-requires
-over-requires c κs = search needs
-
 returns : tie.Need-returns
 returns c = search prepared-run
-
-same-length : tie.Need-same-length
-same-length c = search needs
 
 returns-2 : tie.Need-returns-2
 returns-2 c = search prepared-refused
 
 pub prepared-spec : {M : Type 1} → statement M
-prepared-spec =
-    tie.close (tie.spec enum-told enum-known-done over-requires returns same-length returns-2)
+prepared-spec = tie.close (tie.spec enum-told enum-known-done returns returns-2)

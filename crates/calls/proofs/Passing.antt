@@ -1,0 +1,285 @@
+-- A call by its first tests: refused with 2, 3 or 1 it leaves every byte, otherwise it is the call's own part; and a fresh start.
+-- Assumes nothing.
+use mathlib.Core.Path.{_≡_, _∙_, refl, sym, ap}
+use mathlib.Core.Bool.{Bool, true, false}
+use mathlib.Core.List.{List, [], _++_, append-assoc, append-nil}
+use Prim.Native.Nat.{ℕ, _+_, _-_, _*_, _≤_, _<_}
+use native.Mathlib.Nat.{zero-add}
+use native.Mathlib.Omega.{arith}
+use borrow.Author.Tests.{lt-ltb, le-ltb, eq-eqb, ne-eqb, eqb-true, ltb-true}
+use lib.Dec.{eqb, ltb}
+use lib.ListN.{length, getD, take, drop, replicate, length-append, length-drop}
+use lib.Seq.{sets, length-take-le}
+use mir.Syntax.{w8}
+use mir.Val.{Fits}
+use Rattle.base.specs.Choice.{pick, choose, and}
+use Rattle.base.specs.Parts.{part}
+use Rattle.base.proofs.Choices.{and-left, and-right, by-test}
+use Rattle.base.proofs.Lists.{part-tail, back-tail}
+use Rattle.base.proofs.Parts.{back, part-length, sets-more, sets-over}
+use Rattle.cells.specs.Cells.{Whole}
+use Rattle.console.specs.Group.{freshConsole, freshGroup}
+use Rattle.printer.specs.Printer.{freshPrinter}
+use Rattle.blocks.specs.declared.Port.{Port}
+use Rattle.blocks.specs.Blocks.{freshPort}
+use Rattle.blocks.specs.Opening.{areaLength}
+use Rattle.wire.specs.Messages.{roomLength}
+use Rattle.layout.specs.Places.{portPlace, portLength, devicesPlace, devicesLength, roomsPlace, stateLength, Headed}
+use Rattle.layout.specs.Stick.{Stick, freshStick, Lent}
+use Rattle.layout.specs.Layout.{headOf, portBytes, consoleBytes, printerBytes, stickIn, lentIn}
+use Rattle.layout.specs.Stands.{stands}
+use Rattle.layout.specs.InBytes.{Bytes}
+use Rattle.layout.proofs.Lengths.{port-length, devices-length, head-length}
+use Rattle.layout.proofs.WriteRead.{state-back}
+use Rattle.devices.specs.Lent.{DevicesLent, devicesLent, lentOf, freshGroups, Freshens}
+use Rattle.damage.specs.Fits.{stickFits}
+use Rattle.calls.specs.Stick.{Outcome, outcome, refused, screenLength, paperLength, lengthsFit, refusalOf}
+use Rattle.calls.specs.Calls.{freshLent, freshCall, guarded, takeAt, takeCall, tickAt, tickCall, giveAt, giveCall, pressAt, pressCall}
+use Rattle.calls.specs.Bytes.{Buffers, buffers, Left, left, leftAlone, buffersFit, stickBy, lentBy, undamagedIn, leftOf, bytesRefusal, overBytes, freshBytes, takeBytes, tickBytes, giveBytes, pressBytes}
+use Rattle.calls.specs.Parts.{Called, Lengths, Long, portsFresh, freshOn}
+
+-- what is known of a lent slice of bytes: each element is a byte
+abbrev pub Known : List ℕ → Type 0
+Known xs = (i : ℕ) → Fits w8 (getD xs i 0)
+
+pub bytes-of : (xs : List ℕ) → Known xs → Bytes xs
+bytes-of xs k i = omega (arith, k i)
+
+-- the lengths, one after the other
+module _ (b : Buffers) where
+  pub lengths-state : (length (b .state) ≡ stateLength → ⊥) → false ≡ buffersFit b
+  unfolding buffersFit
+  lengths-state h = rw (ne-eqb (length (b .state)) stateLength h)
+
+  module _ (p : length (b .state) ≡ stateLength) where
+    pub lengths-area : (length (b .area) ≡ 2 * areaLength → ⊥) → false ≡ buffersFit b
+    unfolding buffersFit
+    lengths-area h = rw (eq-eqb (length (b .state)) stateLength p, ne-eqb (length (b .area)) (2 * areaLength) h)
+
+    module _ (q : length (b .area) ≡ 2 * areaLength) where
+      pub lengths-screen : (length (b .screen) ≡ screenLength → ⊥) → false ≡ buffersFit b
+      unfolding buffersFit
+      lengths-screen h = rw (eq-eqb (length (b .state)) stateLength p, eq-eqb (length (b .area)) (2 * areaLength) q, ne-eqb (length (b .screen)) screenLength h)
+
+      module _ (r : length (b .screen) ≡ screenLength) where
+        pub lengths-paper : (length (b .paper) ≡ paperLength → ⊥) → false ≡ buffersFit b
+        unfolding buffersFit
+        lengths-paper h = rw (eq-eqb (length (b .state)) stateLength p, eq-eqb (length (b .area)) (2 * areaLength) q, eq-eqb (length (b .screen)) screenLength r, ne-eqb (length (b .paper)) paperLength h)
+
+        pub lengths-all : length (b .paper) ≡ paperLength → true ≡ buffersFit b
+        unfolding buffersFit
+        lengths-all h = rw (eq-eqb (length (b .state)) stateLength p, eq-eqb (length (b .area)) (2 * areaLength) q, eq-eqb (length (b .screen)) screenLength r, eq-eqb (length (b .paper)) paperLength h)
+
+  pub lengths-of : buffersFit b ≡ true → Lengths b
+  unfolding buffersFit
+  lengths-of e =
+      let s = eqb (length (b .state)) stateLength in
+      let a = eqb (length (b .area)) (2 * areaLength) in
+      let c = eqb (length (b .screen)) screenLength in
+      let d = eqb (length (b .paper)) paperLength in
+      let e1 = and-right s (and a (and c d)) e in
+      let e2 = and-right a (and c d) e1 in
+      record {
+        long = eqb-true _ _ (and-left s (and a (and c d)) e);
+        halves = eqb-true _ _ (and-left a (and c d) e1);
+        whole = record { all = eqb-true _ _ (and-left c d e2) };
+        sheet = eqb-true _ _ (and-right c d e2);
+      }
+
+module _ (state area screen paper : List ℕ) (t : Bool) (p : t ≡ buffersFit (buffers state area screen paper)) (e : t ≡ true) where
+  pub headed-by : Headed state
+  headed-by = record { head = omega (arith, lengths-of (buffers state area screen paper) (sym p ∙ e) .long) }
+
+  pub all-by : Lengths (buffers state area screen paper)
+  all-by = lengths-of (buffers state area screen paper) (sym p ∙ e)
+
+module _ (b : Buffers) (port : ℕ) (t : Bool) (p : t ≡ buffersFit b) where
+  pub guard-2 : t ≡ false → 2 ≡ bytesRefusal b port
+  unfolding bytesRefusal
+  guard-2 e = rw (← p, e)
+
+  module _ (e : t ≡ true) (u : Bool) (q : u ≡ and (stands (b .state)) (stickFits (stickBy b) (lentBy b))) where
+    pub guard-3 : u ≡ false → 3 ≡ bytesRefusal b port
+    unfolding bytesRefusal undamagedIn
+    guard-3 f = rw (← p, e, ← q, f)
+
+    pub guard-1 : u ≡ true → 2 ≤ port → 1 ≡ bytesRefusal b port
+    unfolding bytesRefusal undamagedIn
+    guard-1 f h = rw (← p, e, ← q, f, le-ltb port 2 h)
+
+    pub guard-0 : u ≡ true → port < 2 → 0 ≡ bytesRefusal b port
+    unfolding bytesRefusal undamagedIn
+    guard-0 f h = rw (← p, e, ← q, f, lt-ltb port 2 h)
+
+three-picked : (a b c : Bool) → _≡_ {A = ℕ} (pick a (pick b (pick c 0 1) 3) 2) 0 → (a ≡ true) × ((b ≡ true) × (c ≡ true))
+three-picked true true true e = (refl, (refl, refl))
+three-picked true true false e = absurd (omega arith)
+three-picked true false c e = absurd (omega arith)
+three-picked false b c e = absurd (omega arith)
+
+module _ (b : Buffers) (l : Lengths b) where
+  pub lent-fits : lengthsFit (lentBy b) ≡ true
+  unfolding lengthsFit
+  lent-fits =
+      let r : length (drop roomsPlace (b .state)) ≡ 2 * roomLength = simp length-drop (omega (arith, l .long)) in
+      rw (eq-eqb (length (drop roomsPlace (b .state))) (2 * roomLength) r, eq-eqb (length (b .area)) (2 * areaLength) (l .halves), eq-eqb (length (b .screen)) screenLength (l .whole .all), eq-eqb (length (b .paper)) paperLength (l .sheet))
+
+-- what a call that is not refused knows
+module _ (b : Buffers) (port r : ℕ) (p : r ≡ bytesRefusal b port) (z : r ≡ 0) where
+  none : (buffersFit b ≡ true) × ((undamagedIn b ≡ true) × (ltb port 2 ≡ true))
+  unfolding bytesRefusal
+  none = three-picked (buffersFit b) (undamagedIn b) (ltb port 2) (sym p ∙ z)
+
+  stands-so : stands (b .state) ≡ true
+  unfolding undamagedIn
+  stands-so = and-left (stands (b .state)) (stickFits (stickBy b) (lentBy b)) (none .1 .0)
+
+  fits-so : stickFits (stickBy b) (lentBy b) ≡ true
+  unfolding undamagedIn
+  fits-so = and-right (stands (b .state)) (stickFits (stickBy b) (lentBy b)) (none .1 .0)
+
+  pub called-by : Bytes (b .state) → Called port b
+  called-by w =
+      let l = lengths-of b (none .0) in
+      record { low = ltb-true port 2 (none .1 .1); bytes = w; long = l .long; halves = l .halves; whole = l .whole; sheet = l .sheet; stands = stands-so; fits = fits-so }
+
+  -- the call's own part is the call
+  module _ (body : Stick → Lent → Outcome) where
+    pub over-passed : leftOf (body (stickBy b) (lentBy b)) ≡ overBytes (λ s l. guarded (refusalOf s l port) s l (λ u. body s l)) b
+    unfolding overBytes refusalOf
+    over-passed = rw (none .0, stands-so, lent-fits b (lengths-of b (none .0)), fits-so, none .1 .1)
+
+pub called-of : (state : List ℕ) → Known state → (area screen paper : List ℕ) (port r : ℕ) → r ≡ bytesRefusal (buffers state area screen paper) port → r ≡ 0 → Called port (buffers state area screen paper)
+called-of state k area screen paper port r p z = called-by (buffers state area screen paper) port r p z (bytes-of state k)
+
+-- what is refused is left as it was
+module _ (body : Stick → Lent → Outcome) (b : Buffers) (w : Bytes (b .state)) (port r : ℕ) (p : r ≡ bytesRefusal b port) (z : r ≡ 0 → ⊥) where
+  abbrev call : Stick → Lent → Outcome
+  call s l = guarded (refusalOf s l port) s l (λ u. body s l)
+
+  same : Lengths b → stands (b .state) ≡ true → (n : ℕ) → leftAlone n b ≡ leftOf (refused n (stickBy b) (lentBy b))
+  same l e n = ap (λ (x : List ℕ). left n 0 (buffers x (b .area) (b .screen) (b .paper))) (sym (state-back (b .state) w e (omega (arith, l .long))))
+
+  pub over-refused : leftAlone r b ≡ overBytes call b
+  unfolding overBytes refusalOf bytesRefusal undamagedIn
+  over-refused =
+      by-test (buffersFit b)
+      (λ e. by-test (stands (b .state))
+      (λ f. by-test (stickFits (stickBy b) (lentBy b))
+      (λ g. by-test (ltb port 2)
+      (λ h. absurd (z (p ∙ rw (e, f, g, h))))
+      (λ h.
+      let q : r ≡ 1 = p ∙ rw (e, f, g, h) in
+      rw (q, e, f, lent-fits b (lengths-of b e), g, h) (same (lengths-of b e) f 1)))
+      (λ g.
+      let q : r ≡ 3 = p ∙ rw (e, f, g) in
+      rw (q, e, f, lent-fits b (lengths-of b e), g) (same (lengths-of b e) f 3)))
+      (λ f. let q : r ≡ 3 = p ∙ rw (e, f) in rw (q, e, f)))
+      (λ e. let q : r ≡ 2 = p ∙ rw e in rw (q, e))
+
+-- the calls
+module _ (state area screen paper : List ℕ) (port r : ℕ) (p : r ≡ bytesRefusal (buffers state area screen paper) port) (z : r ≡ 0) (o : Left) where
+  abbrev held : Buffers
+  held = buffers state area screen paper
+
+  pub take-passed : (byte : ℕ) → o ≡ leftOf (takeAt port (stickBy held) (lentBy held) byte) → o ≡ takeBytes held port byte
+  unfolding takeBytes takeCall
+  take-passed byte q = q ∙ over-passed held port r p z (λ s l. takeAt port s l byte)
+
+  pub tick-passed : o ≡ leftOf (tickAt port (stickBy held) (lentBy held)) → o ≡ tickBytes held port
+  unfolding tickBytes tickCall
+  tick-passed q = q ∙ over-passed held port r p z (λ s l. tickAt port s l)
+
+  pub give-passed : o ≡ leftOf (giveAt port (stickBy held) (lentBy held)) → o ≡ giveBytes held port
+  unfolding giveBytes giveCall
+  give-passed q = q ∙ over-passed held port r p z (λ s l. giveAt port s l)
+
+module _ (state area screen paper : List ℕ) (r : ℕ) (p : r ≡ bytesRefusal (buffers state area screen paper) 0) (z : r ≡ 0) (o : Left) where
+  pub press-passed : (code : ℕ) → o ≡ leftOf (pressAt (stickBy (buffers state area screen paper)) (lentBy (buffers state area screen paper)) code) → o ≡ pressBytes (buffers state area screen paper) code
+  unfolding pressBytes pressCall
+  press-passed code q = q ∙ over-passed (buffers state area screen paper) 0 r p z (λ s l. pressAt s l code)
+
+module _ (state : List ℕ) (k : Known state) (area screen paper : List ℕ) (r : ℕ) where
+  abbrev given : Buffers
+  given = buffers state area screen paper
+
+  module _ (port : ℕ) (p : r ≡ bytesRefusal given port) (z : r ≡ 0 → ⊥) where
+    pub take-refused : (byte : ℕ) → leftAlone r given ≡ takeBytes given port byte
+    unfolding takeBytes takeCall
+    take-refused byte = over-refused (λ s l. takeAt port s l byte) given (bytes-of state k) port r p z
+
+    pub tick-refused : leftAlone r given ≡ tickBytes given port
+    unfolding tickBytes tickCall
+    tick-refused = over-refused (λ s l. tickAt port s l) given (bytes-of state k) port r p z
+
+    pub give-refused : leftAlone r given ≡ giveBytes given port
+    unfolding giveBytes giveCall
+    give-refused = over-refused (λ s l. giveAt port s l) given (bytes-of state k) port r p z
+
+  pub press-refused : (code : ℕ) → r ≡ bytesRefusal given 0 → (r ≡ 0 → ⊥) → leftAlone r given ≡ pressBytes given code
+  unfolding pressBytes pressCall
+  press-refused code p z = over-refused (λ s l. pressAt s l code) given (bytes-of state k) 0 r p z
+
+-- a fresh start writes every byte of the state
+module _ (state : List ℕ) (l : Long state) where
+  pub ports-law : (rooms s1 s2 : List ℕ) (p q : Port) → rooms ≡ replicate (length (take (length state - roomsPlace) (drop roomsPlace state))) 0
+      → p ≡ freshPort → s1 ≡ sets (take roomsPlace state ++ (rooms ++ drop (length state - roomsPlace) (drop roomsPlace state))) (portPlace 0) (portBytes p)
+      → q ≡ freshPort → s2 ≡ sets s1 (portPlace 1) (portBytes q) → s2 ≡ portsFresh state
+  unfolding portsFresh
+  ports-law rooms s1 s2 p q e f g h i =
+      let n : length (drop roomsPlace state) ≡ 2 * roomLength = simp length-drop (omega (arith, l .long)) in
+      let z : rooms ≡ replicate (2 * roomLength) 0 = e ∙ ap (λ (xs : List ℕ). replicate (length xs) 0) (part-tail roomsPlace state) ∙ ap (λ (k : ℕ). replicate k 0) n in
+      i
+      ∙ ap (λ (x : List ℕ). sets x (portPlace 1) (portBytes q)) (g ∙ ap (λ (x : List ℕ). sets x (portPlace 0) (portBytes p)) (back-tail roomsPlace state rooms ∙ ap (λ (x : List ℕ). take roomsPlace state ++ x) z))
+      ∙ rw (f, h)
+
+  pub all-written : sets (portsFresh state) devicesPlace (consoleBytes freshConsole ++ printerBytes freshPrinter) ≡ headOf freshStick ++ replicate (2 * roomLength) 0
+  unfolding portsFresh headOf
+  all-written =
+      let head = take roomsPlace state in
+      let t = length-take-le roomsPlace state (omega (arith, l .long)) in
+      let pb = portBytes freshPort in
+      let cu = consoleBytes freshConsole ++ printerBytes freshPrinter in
+      let base = head ++ replicate (2 * roomLength) 0 in
+      let n = port-length freshPort in
+      let two : length (pb ++ pb) ≡ devicesPlace = simp (length-append, n) in
+      let all : length ((pb ++ pb) ++ cu) ≡ roomsPlace = length-append (pb ++ pb) cu ∙ ap (λ (k : ℕ). k + length cu) two ∙ ap (λ (k : ℕ). devicesPlace + k) (devices-length freshConsole freshPrinter) in
+      ap (λ (x : List ℕ). sets x devicesPlace cu) (ap (λ (k : ℕ). sets (sets base 0 pb) k pb) (sym (zero-add (length pb) ∙ n)) ∙ sets-more base pb pb 0)
+      ∙ ap (λ (k : ℕ). sets (sets base 0 (pb ++ pb)) k cu) (sym (zero-add (length (pb ++ pb)) ∙ two))
+      ∙ sets-more base (pb ++ pb) cu 0
+      ∙ sets-over [] head ((pb ++ pb) ++ cu) (replicate (2 * roomLength) 0) 0 refl (t ∙ sym all)
+      ∙ ap (λ (x : List ℕ). x ++ replicate (2 * roomLength) 0) (append-assoc pb pb cu)
+
+module _ (state area screen paper : List ℕ) (l : Lengths (buffers state area screen paper)) where
+  pub long-state : Long state
+  long-state = record { long = l .long }
+
+  pub fresh-all-law : (s1 area′ numbers screen′ : List ℕ) → length s1 ≡ length state → s1 ≡ portsFresh state → area′ ≡ replicate (length area) 0 → length numbers ≡ length (part devicesPlace devicesLength s1)
+      → devicesLent numbers screen′ paper ≡ lentOf (freshGroups paper)
+      → buffers (take devicesPlace s1 ++ (numbers ++ drop devicesLength (drop devicesPlace s1))) area′ screen′ paper ≡ freshOn (buffers state area screen paper)
+  unfolding freshOn
+  fresh-all-law s1 area′ numbers screen′ k e f n q =
+      let m : length s1 ≡ stateLength = k ∙ l .long in
+      ap (λ (x : List ℕ). buffers x area′ screen′ paper)
+      (back devicesPlace devicesLength numbers s1 (n ∙ part-length devicesPlace devicesLength s1 (omega arith)) (omega arith) ∙ ap (λ (x : List ℕ). sets x devicesPlace numbers) e)
+      ∙ ap (λ (x : List ℕ). buffers (sets (portsFresh state) devicesPlace numbers) x screen′ paper) (f ∙ ap (λ (x : ℕ). replicate x 0) (l .halves))
+      ∙ ap (λ (x : DevicesLent). buffers (sets (portsFresh state) devicesPlace (x .numbers)) (replicate (2 * areaLength) 0) (x .screen) paper) q
+
+  pub freshens : (s1 : List ℕ) → length s1 ≡ length state → Freshens (part devicesPlace devicesLength s1) screen
+  freshens s1 k =
+      let m : length s1 ≡ stateLength = k ∙ l .long in
+      record { exact = part-length devicesPlace devicesLength s1 (omega arith); whole = l .whole }
+
+module _ (state area screen paper : List ℕ) (t : Bool) (p : t ≡ buffersFit (buffers state area screen paper)) where
+  pub fresh-refused : t ≡ false → leftAlone 2 (buffers state area screen paper) ≡ freshBytes (buffers state area screen paper)
+  unfolding freshBytes
+  fresh-refused e = rw (← p, e)
+
+  pub fresh-done : (b′ : Buffers) → t ≡ true → b′ ≡ freshOn (buffers state area screen paper) → left 0 0 b′ ≡ freshBytes (buffers state area screen paper)
+  unfolding freshBytes freshCall freshOn
+  fresh-done b′ e q =
+      let b = buffers state area screen paper in
+      let l = lengths-of b (sym p ∙ e) in
+      ap (left 0 0) q
+      ∙ ap (λ (x : List ℕ). left 0 0 (buffers x (replicate (2 * areaLength) 0) (freshGroup .screen) paper)) (all-written state (record { long = l .long }))
+      ∙ rw (← p, e, lent-fits b l)

@@ -1,0 +1,5 @@
+pub mod Port
+pub mod Stick
+pub mod Calls
+pub mod Bytes
+pub mod Parts

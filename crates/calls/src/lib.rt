@@ -1,0 +1,1 @@
+// What each call does, and what its stores make of the lent bytes: definitions and laws, no code.

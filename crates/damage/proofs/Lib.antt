@@ -1,0 +1,6 @@
+pub mod Ands
+pub mod Tables
+pub mod Phases
+pub mod Heads
+pub mod Fitting
+pub mod Undamaged

@@ -1,0 +1,111 @@
+-- The numbers of an undamaged stick go into their bytes, so that what is written of it is read back.
+-- Assumes nothing.
+use mathlib.Core.Path.{_≡_}
+use mathlib.Core.Bool.{true}
+use mathlib.Core.List.{List, _++_}
+use Prim.Native.Nat.{ℕ, _+_, _<_}
+use native.Mathlib.Omega.{arith}
+use borrow.Author.Tests.{eq-eqb, ne-eqb, ltb-true, leb-true}
+use lib.Dec.{ltb, leb}
+use lib.ListN.{length}
+use Rattle.base.specs.Choice.{and, within}
+use Rattle.base.proofs.Choices.{and-left, and-right, by-eq}
+use Rattle.cells.specs.Modes.{shapeOf, isMode}
+use Rattle.cells.proofs.Shapes.{shape-good}
+use Rattle.editor.specs.declared.ReadColumn.{ReadColumn}
+use Rattle.editor.specs.declared.ReadColumn.the-variants.{Dropped, At}
+use Rattle.console.specs.declared.state.Console.{Console}
+use Rattle.console.specs.Fit.{cursorFits, readingFits, keysFit, fitOf}
+use Rattle.blocks.specs.declared.Gather.{Gather}
+use Rattle.blocks.specs.declared.Phase.{Phase}
+use Rattle.blocks.specs.declared.Phase.the-variants.{Gathering, Ready, Running, Replying}
+use Rattle.blocks.specs.declared.Table.{Table}
+use Rattle.blocks.specs.declared.Port.{Port}
+use Rattle.blocks.specs.Made.{tableMade}
+use Rattle.wire.specs.Fits.{gatherFits}
+use Rattle.layout.specs.Stick.{Stick, Lent}
+use Rattle.damage.specs.Fits.{phaseFits, portFits, portsApart, stickFits}
+use Rattle.layout.specs.Layout.{headOf, stickIn}
+use Rattle.layout.specs.InBytes.{PhaseInBytes, ReadingInBytes, InBytes, LengthTyped, Typed}
+use Rattle.layout.specs.Stands.{stands}
+use Rattle.layout.proofs.ReadWrite.{read-write, head-stands}
+
+taken-in : (g : Gather) → g .length < 65536 → gatherFits g ≡ true → g .taken < 16777216
+unfolding gatherFits
+taken-in g h e =
+    by-eq (g .taken) 0 (λ z. omega arith)
+    (λ n0. by-eq (g .taken) 1 (λ z. omega arith)
+    (λ n1. by-eq (g .taken) 2 (λ z. omega arith)
+    (λ n2.
+    let l : ltb (g .taken) (3 + g .length) ≡ true = rw (ne-eqb (g .taken) 0 n0, ne-eqb (g .taken) 1 n1, ne-eqb (g .taken) 2 n2) at e in
+    omega (arith, ltb-true (g .taken) (3 + g .length) l))))
+
+phase-in : (p : Phase) (t : Table) (c : Console) → LengthTyped p → phaseFits p t c ≡ true → PhaseInBytes p
+unfolding phaseFits
+phase-in (Gathering g) t c h e = taken-in g h e
+phase-in (Ready g) t c h e = tt
+phase-in (Running g) t c h e = tt
+phase-in (Replying g) t c h e = tt
+
+port-in : (p : Port) (c : Console) → LengthTyped (p .phase) → portFits p c ≡ true → PhaseInBytes (p .phase)
+unfolding portFits
+port-in p c h e = phase-in (p .phase) (p .table) c h (and-right (tableMade (p .table)) (phaseFits (p .phase) (p .table) c) e)
+
+row-in : (mode row column : ℕ) → cursorFits mode row column ≡ true → row < 256
+unfolding cursorFits
+row-in mode row column e =
+    by-eq mode 0
+    (λ z.
+    let m : and (ltb row 24) (within 2 39 column) ≡ true = rw (eq-eqb mode 0 z) at e in
+    omega (arith, ltb-true row 24 (and-left (ltb row 24) (within 2 39 column) m)))
+    (λ z.
+    let m : and (leb row (shapeOf mode .rows)) (ltb column (shapeOf mode .columns)) ≡ true = rw (ne-eqb mode 0 z) at e in
+    omega (arith, shape-good mode .high, leb-true row (shapeOf mode .rows) (and-left (leb row (shapeOf mode .rows)) (ltb column (shapeOf mode .columns)) m)))
+
+reading-in : (r : ReadColumn) → readingFits r ≡ true → ReadingInBytes r
+unfolding readingFits
+reading-in Dropped e = tt
+reading-in (At column) e = omega (arith, leb-true column 40 (and-right (leb 2 column) (leb column 40) e))
+
+module _ (c : Console) (e : fitOf c ≡ true) where
+  console-row : c .row < 256
+  unfolding fitOf
+  console-row =
+      let a = isMode (c .mode) in
+      let b = cursorFits (c .mode) (c .row) (c .column) in
+      let d = and (readingFits (c .reading)) (keysFit (c .keyboard)) in
+      row-in (c .mode) (c .row) (c .column) (and-left b d (and-right a (and b d) e))
+
+  console-reading : ReadingInBytes (c .reading)
+  unfolding fitOf
+  console-reading =
+      let a = isMode (c .mode) in
+      let b = cursorFits (c .mode) (c .row) (c .column) in
+      let d = readingFits (c .reading) in
+      let f = keysFit (c .keyboard) in
+      reading-in (c .reading) (and-left d f (and-right b (and d f) (and-right a (and b (and d f)) e)))
+
+module _ (s : Stick) (l : Lent) (w : Typed s) (e : stickFits s l ≡ true) where
+  pub in-bytes : InBytes s
+  unfolding stickFits
+  in-bytes =
+      let a = portFits (s .port0) (s .console) in
+      let b = portFits (s .port1) (s .console) in
+      let c = fitOf (s .console) in
+      let d = and (leb (s .printer .used) 4096) (portsApart s) in
+      let e1 = and-right a (and b (and c d)) e in
+      let f = and-left c d (and-right b (and c d) e1) in
+      record {
+        phase0 = port-in (s .port0) (s .console) (w .length0) (and-left a (and b (and c d)) e);
+        phase1 = port-in (s .port1) (s .console) (w .length1) (and-left b (and c d) e1);
+        row = console-row (s .console) f;
+        reading = console-reading (s .console) f;
+        table0 = w .table0;
+        table1 = w .table1;
+      }
+
+  pub undamaged-read : (r : List ℕ) → stickIn (headOf s ++ r) ≡ s
+  undamaged-read r = read-write s r in-bytes
+
+  pub undamaged-stands : (r : List ℕ) → stands (headOf s ++ r) ≡ true
+  undamaged-stands r = head-stands s r

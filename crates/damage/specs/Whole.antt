@@ -1,0 +1,155 @@
+-- The damage test of a state byte by byte, part by part, in the order in which `judge` goes over the bytes. proofs/ has the laws that
+-- these tests together are two: that the bytes stand for a stick, and that this stick is undamaged.
+-- Assumes nothing.
+use mathlib.Core.Bool.{Bool, true, false, not}
+use mathlib.Core.List.{List}
+use Prim.Native.Nat.{ℕ, _+_, _*_, _%_}
+use lib.Dec.{eqb, leb, ltb}
+use lib.ListN.{drop}
+use Rattle.base.specs.Choice.{pick, and, within, bit}
+use Rattle.blocks.specs.Opening.{areaLength, reads, writes}
+use Rattle.cells.specs.Modes.{shapeOf}
+use Rattle.console.specs.declared.state.Console.{Console}
+use Rattle.console.specs.Group.{freshConsole, withMode}
+use Rattle.wire.specs.Messages.{wordAt}
+use Rattle.wire.specs.Fits.{gatherFits, replyFits}
+use Rattle.layout.specs.Places.{phaseLength, blockLength, devicesPlace, consolePlace, printerPlace, portPlace}
+use Rattle.layout.specs.Layout.{byteAt, gatherIn, replyIn}
+use Rattle.layout.specs.Stands.{unused, restUnused, runStands}
+
+-- AUX1 is one that the device takes
+unfoldable pub aux1Whole : (device aux1 : ℕ) → Bool
+aux1Whole device aux1 =
+    pick (eqb device 1) (pick (bit 4 aux1) (eqb (aux1 % 2) 1) true)
+    (pick (eqb device 2) (not (bit 16 aux1))
+    (pick (eqb device 3) (not (bit 8 aux1)) (not (bit 4 aux1))))
+
+unfoldable pub openWhole : (device number aux1 : ℕ) → Bool
+openWhole device number aux1 = and (ltb device 5) (and (leb 1 number) (and (leb number 8) (aux1Whole device aux1)))
+
+unfoldable pub blockWhole : (device number aux1 : ℕ) → Bool
+blockWhole device number aux1 = pick (eqb device 0) (unused 0 0 number aux1) (openWhole device number aux1)
+
+abbrev pub blockWholeIn : List ℕ → ℕ → Bool
+blockWholeIn b place = blockWhole (byteAt b place) (byteAt b (place + 1)) (byteAt b (place + 2))
+
+unfoldable pub twoWhole : List ℕ → ℕ → Bool
+twoWhole b place = and (blockWholeIn b place) (blockWholeIn b (place + blockLength))
+
+unfoldable pub fourWhole : List ℕ → ℕ → Bool
+fourWhole b place = and (twoWhole b place) (twoWhole b (place + 2 * blockLength))
+
+abbrev pub unusedIn : List ℕ → ℕ → Bool
+unusedIn b place = unused (byteAt b place) (byteAt b (place + 1)) (byteAt b (place + 2)) (byteAt b (place + 3))
+
+-- the twelve bytes of four closed blocks
+unfoldable pub fourClosed : List ℕ → ℕ → Bool
+fourClosed b place = and (unusedIn b place) (and (unusedIn b (place + 4)) (unusedIn b (place + 8)))
+
+-- a port's parts, of a list that begins with its bytes
+unfoldable pub tableWhole : List ℕ → Bool
+tableWhole b = and (fourWhole b phaseLength) (fourWhole b (phaseLength + 4 * blockLength))
+
+unfoldable pub gatherWhole : List ℕ → Bool
+gatherWhole b = and (restUnused b) (gatherFits (gatherIn b))
+
+unfoldable pub readyWhole : List ℕ → Bool
+readyWhole b = and (restUnused b) (unused 0 (byteAt b 4) (byteAt b 5) (byteAt b 6))
+
+unfoldable pub replyWhole : List ℕ → Bool
+replyWhole b = and (restUnused b) (and (unused 0 0 (byteAt b 5) (byteAt b 6)) (replyFits (replyIn b)))
+
+-- AUX1 allows the direction of this kind
+unfoldable pub directionWhole : (kind aux1 : ℕ) → Bool
+directionWhole kind aux1 = pick (ltb kind 3) (reads aux1) (writes aux1)
+
+-- the block of this IOCB is open on the device and for the direction: of a table that is whole
+unfoldable pub openedWhole : List ℕ → (kind device iocb : ℕ) → Bool
+openedWhole b kind device iocb =
+    let place = phaseLength + blockLength * iocb in
+    and (eqb (byteAt b place) device) (directionWhole kind (byteAt b (place + 2)))
+
+-- E runs in mode 0, S in another
+unfoldable pub modeWhole : (device mode : ℕ) → Bool
+modeWhole device mode = pick (eqb device 1) (eqb mode 0) (pick (eqb device 2) (ltb 0 mode) true)
+
+-- something is left, or of a record counted; what is left and what is counted lie in the area; of one character nothing is either
+unfoldable pub someLeft : (kind left count : ℕ) → Bool
+someLeft kind left count = pick (ltb 0 left) true (pick (eqb kind 1) false (pick (eqb kind 4) false (ltb 0 count)))
+
+unfoldable pub bufferWhole : (kind left place count : ℕ) → Bool
+bufferWhole kind left place count = and (someLeft kind left count) (and (leb (place + left) areaLength) (leb count place))
+
+unfoldable pub spanWhole : (kind left place count : ℕ) → Bool
+spanWhole kind left place count =
+    pick (eqb kind 0) (and (eqb left 0) (eqb count 0))
+    (pick (eqb kind 3) (and (eqb left 0) (eqb count 0)) (bufferWhole kind left place count))
+
+unfoldable pub runWhole : List ℕ → (mode : ℕ) → Bool
+runWhole b mode =
+    and (runStands (byteAt b 1) (byteAt b 2))
+    (and (ltb (byteAt b 3) 8)
+    (and (openedWhole b (byteAt b 1) (byteAt b 2) (byteAt b 3))
+    (and (modeWhole (byteAt b 2) mode) (spanWhole (byteAt b 1) (wordAt b 4) (wordAt b 6) (wordAt b 8)))))
+
+unfoldable pub phaseWhole : List ℕ → (mode : ℕ) → Bool
+phaseWhole b mode =
+    pick (eqb (byteAt b 0) 0) (gatherWhole b)
+    (pick (eqb (byteAt b 0) 1) (readyWhole b)
+    (pick (eqb (byteAt b 0) 2) (runWhole b mode)
+    (pick (eqb (byteAt b 0) 3) (replyWhole b) false)))
+
+unfoldable pub portWhole : List ℕ → (mode : ℕ) → Bool
+portWhole b mode = and (tableWhole b) (phaseWhole b mode)
+
+-- the cursor: in mode 0, and in the modes of S
+unfoldable pub textWhole : (row column : ℕ) → Bool
+textWhole row column = and (ltb row 24) (and (leb 2 column) (leb column 39))
+
+unfoldable pub pictureWhole : (mode row column : ℕ) → Bool
+pictureWhole mode row column =
+    and (leb 3 mode) (and (leb mode 8) (and (leb row (shapeOf mode .rows)) (ltb column (shapeOf mode .columns))))
+
+unfoldable pub cursorWhole : (mode row column : ℕ) → Bool
+cursorWhole mode row column = pick (eqb mode 0) (textWhole row column) (pictureWhole mode row column)
+
+unfoldable pub readingWhole : ℕ → Bool
+readingWhole n = pick (eqb n 255) true (within 2 40 n)
+
+-- the console, of a list that begins with its numbers; the devices, of one that begins with theirs
+unfoldable pub consoleWhole : List ℕ → Bool
+consoleWhole b =
+    and (cursorWhole (byteAt b 0) (byteAt b 1) (wordAt b 2))
+    (and (readingWhole (byteAt b 6))
+    (and (ltb (byteAt b 5) 2)
+    (and (leb (byteAt b 8) 2) (leb (byteAt b 9) 1))))
+
+unfoldable pub devicesWhole : List ℕ → Bool
+devicesWhole b = and (consoleWhole (drop consolePlace b)) (leb (wordAt b printerPlace) 4096)
+
+-- the two ports hold no group both: of two that run, one is on the console and one is not
+unfoldable pub onConsole : ℕ → Bool
+onConsole device = within 1 3 device
+
+unfoldable pub apartGroups : (one other : ℕ) → Bool
+apartGroups one other = pick (onConsole one) (not (onConsole other)) (onConsole other)
+
+unfoldable pub apartWhole : List ℕ → Bool
+apartWhole b =
+    pick (eqb (byteAt b (portPlace 0)) 2)
+    (pick (eqb (byteAt b (portPlace 1)) 2) (apartGroups (byteAt b (portPlace 0 + 2)) (byteAt b (portPlace 1 + 2))) true)
+    true
+
+-- the head
+abbrev pub modeIn : List ℕ → ℕ
+modeIn b = byteAt b (devicesPlace + consolePlace)
+
+unfoldable pub headWhole : List ℕ → Bool
+headWhole b =
+    and (portWhole (drop (portPlace 0) b) (modeIn b))
+    (and (portWhole (drop (portPlace 1) b) (modeIn b))
+    (and (devicesWhole (drop devicesPlace b)) (apartWhole b)))
+
+-- a console in this mode: of a console the ports' tests ask its mode alone
+abbrev pub consoleWith : ℕ → Console
+consoleWith mode = withMode mode freshConsole

@@ -1,0 +1,5 @@
+pub mod Frame
+pub mod Arms
+pub mod Lens
+pub mod Keeps
+pub mod Decided

@@ -1,0 +1,24 @@
+-- A group undamaged, and whether its numbers go into their bytes.
+-- Assumes nothing.
+use Prim.Native.Nat.{_<_}
+use Rattle.console.specs.Fit.{FitGroup}
+use Rattle.printer.specs.Fit.{FitPrinter}
+use Rattle.layout.specs.InBytes.{ReadingInBytes}
+use Rattle.devices.specs.declared.Group.{Group}
+use Rattle.devices.specs.declared.Group.the-variants as group
+use Rattle.devices.specs.Groups.{Groups, Part}
+
+abbrev pub FitPart : (g : Group) → Part g → Type 0
+FitPart group.Nobody x = Unit {0}
+FitPart group.Console x = FitGroup x
+FitPart group.Printer x = FitPrinter x
+
+pub record FitGroups (s : Groups) : Type 0 where
+  pub console : FitGroup (s .console)
+  pub printer : FitPrinter (s .printer)
+
+-- a row is one byte, a read column one that is not 255
+abbrev pub GoesIn : (g : Group) → Part g → Type 0
+GoesIn group.Nobody x = Unit {0}
+GoesIn group.Console x = (x .console .row < 256) × ReadingInBytes (x .console .reading)
+GoesIn group.Printer x = Unit {0}

@@ -1,0 +1,106 @@
+-- What a function gives is what its definition says: of a chain of calls, and of a call whose argument is another's result.
+-- Assumes nothing.
+use mathlib.Core.Path.{_≡_, _∙_, ap}
+use mathlib.Core.Bool.{Bool, true, false, not}
+use mathlib.Core.List.{List}
+use Prim.Native.Nat.{ℕ, _+_, _-_, _*_, _≤_, _<_}
+use borrow.Author.Tests.{eq-eqb, ne-eqb, le-leb, lt-leb}
+use lib.Dec.{leb, ltb}
+use lib.ListN.{length, take, drop}
+use Rattle.base.specs.Choice.{and}
+use Rattle.base.proofs.Tests.{tests}
+use Rattle.base.proofs.Lists.{part-tail}
+use Rattle.cells.specs.declared.Shape.{Shape}
+use Rattle.cells.specs.Modes.{shapeOf}
+use Rattle.wire.specs.Messages.{wordOf, wordAt}
+use Rattle.wire.specs.Fits.{gatherFits, replyFits}
+use Rattle.layout.specs.Places.{devicesPlace, consolePlace, printerPlace}
+use Rattle.layout.specs.Layout.{byteAt, gatherIn, replyIn, stickIn, lentIn}
+use Rattle.layout.specs.Stands.{unused, stands}
+use Rattle.damage.specs.Fits.{stickFits}
+use Rattle.damage.specs.Whole.{gatherWhole, replyWhole, spanWhole, portWhole, textWhole, pictureWhole, cursorWhole, consoleWhole, devicesWhole, onConsole, apartGroups, apartWhole, headWhole}
+use Rattle.damage.proofs.Heads.{head-is}
+
+module _ (a b t : Bool) (e : t ≡ a) where
+  pub and-no : t ≡ false → false ≡ and a b
+  and-no z = rw (← e, z)
+
+  pub and-yes : (u : Bool) → t ≡ true → u ≡ b → u ≡ and a b
+  and-yes u z f = rw (← e, z) f
+
+pub ruleset calls = (and-no, and-yes, tests)
+
+-- numbers made of bytes
+module _ (b : List ℕ) (t : Bool) (e : t ≡ unused (byteAt b 7) (byteAt b 8) (byteAt b 9) (byteAt b 10)) (h : t ≡ true) (n m : ℕ) where
+  pub gathers-is : (r : Bool) → n ≡ wordAt b 2 → m ≡ byteAt b 4 + 256 * byteAt b 5 + 65536 * byteAt b 6 → r ≡ gatherFits (record { tag = byteAt b 1; length = n; taken = m }) → r ≡ gatherWhole b
+  unfolding gatherWhole
+  gathers-is r p q f = and-yes (unused (byteAt b 7) (byteAt b 8) (byteAt b 9) (byteAt b 10)) (gatherFits (gatherIn b)) t e r h (f ∙ rw (p, q))
+
+  pub replies-is : (u r : Bool) → u ≡ unused 0 0 (byteAt b 5) (byteAt b 6) → u ≡ true → n ≡ wordAt b 1 → m ≡ wordAt b 3 → r ≡ replyFits (record { length = n; given = m }) → r ≡ replyWhole b
+  unfolding replyWhole
+  replies-is u r g k p q f =
+      and-yes (unused (byteAt b 7) (byteAt b 8) (byteAt b 9) (byteAt b 10)) (and (unused 0 0 (byteAt b 5) (byteAt b 6)) (replyFits (replyIn b))) t e r h
+      (and-yes (unused 0 0 (byteAt b 5) (byteAt b 6)) (replyFits (replyIn b)) u g r k (f ∙ rw (p, q)))
+
+pub span-is : (b : List ℕ) (kind l p c : ℕ) (r : Bool) → l ≡ wordAt b 4 → p ≡ wordAt b 6 → c ≡ wordAt b 8 → r ≡ spanWhole kind l p c → r ≡ spanWhole kind (wordAt b 4) (wordAt b 6) (wordAt b 8)
+span-is b kind l p c r x y z e = e ∙ rw (x, y, z)
+
+pub paper-is : (low high n : ℕ) → n ≡ wordOf low high → leb n 4096 ≡ leb (wordOf low high) 4096
+paper-is low high n e = rw e
+
+module _ (mode row low high n : ℕ) (e : n ≡ wordOf low high) (r : Bool) where
+  pub cursor-text : mode ≡ 0 → r ≡ textWhole row n → r ≡ cursorWhole mode row (wordOf low high)
+  unfolding cursorWhole
+  cursor-text z f = f ∙ rw (e, eq-eqb mode 0 z)
+
+  pub cursor-picture : (mode ≡ 0 → ⊥) → r ≡ pictureWhole mode row n → r ≡ cursorWhole mode row (wordOf low high)
+  unfolding cursorWhole
+  cursor-picture z f = f ∙ rw (e, ne-eqb mode 0 z)
+
+module _ (mode row column : ℕ) (l : 3 ≤ mode) (h : mode ≤ 8) (s : Shape) (e : s ≡ shapeOf mode) where
+  pub picture-is : row ≤ s .rows → ltb column (s .columns) ≡ pictureWhole mode row column
+  unfolding pictureWhole
+  picture-is z = rw (le-leb 3 mode l, le-leb mode 8 h, ← e, le-leb row (s .rows) z)
+
+  pub picture-past : s .rows < row → false ≡ pictureWhole mode row column
+  unfolding pictureWhole
+  picture-past z = rw (le-leb 3 mode l, le-leb mode 8 h, ← e, lt-leb row (s .rows) z)
+
+module _ (one other : ℕ) (t u : Bool) (e : t ≡ onConsole one) (f : u ≡ onConsole other) where
+  pub groups-console : t ≡ true → not u ≡ apartGroups one other
+  unfolding apartGroups
+  groups-console z = rw (← e, ← f, z)
+
+  pub groups-paper : t ≡ false → u ≡ apartGroups one other
+  unfolding apartGroups
+  groups-paper z = rw (← e, ← f, z)
+
+-- a part of the bytes
+pub port-there : (b : List ℕ) (place mode : ℕ) (r : Bool) → r ≡ portWhole (take (length b - place) (drop place b)) mode → r ≡ portWhole (drop place b) mode
+port-there b place mode r e = e ∙ ap (λ (x : List ℕ). portWhole x mode) (part-tail place b)
+
+module _ (b : List ℕ) (t : Bool) (e : t ≡ consoleWhole (take (length b - consolePlace) (drop consolePlace b))) where
+  there : t ≡ consoleWhole (drop consolePlace b)
+  there = e ∙ ap consoleWhole (part-tail consolePlace b)
+
+  pub numbers-console : t ≡ false → false ≡ devicesWhole b
+  unfolding devicesWhole
+  numbers-console = and-no (consoleWhole (drop consolePlace b)) (leb (wordAt b printerPlace) 4096) t there
+
+  pub numbers-used : (r : Bool) → t ≡ true → r ≡ leb (wordAt b printerPlace) 4096 → r ≡ devicesWhole b
+  unfolding devicesWhole
+  numbers-used = and-yes (consoleWhole (drop consolePlace b)) (leb (wordAt b printerPlace) 4096) t there
+
+module _ (b : List ℕ) (t : Bool) (e : t ≡ devicesWhole (take (length b - devicesPlace) (drop devicesPlace b))) where
+  behind : t ≡ devicesWhole (drop devicesPlace b)
+  behind = e ∙ ap devicesWhole (part-tail devicesPlace b)
+
+  pub groups-numbers : t ≡ false → false ≡ and (devicesWhole (drop devicesPlace b)) (apartWhole b)
+  groups-numbers = and-no (devicesWhole (drop devicesPlace b)) (apartWhole b) t behind
+
+  pub groups-apart : (r : Bool) → t ≡ true → r ≡ apartWhole b → r ≡ and (devicesWhole (drop devicesPlace b)) (apartWhole b)
+  groups-apart = and-yes (devicesWhole (drop devicesPlace b)) (apartWhole b) t behind
+
+-- and all of them
+pub undamaged-is : (state area screen paper : List ℕ) (r : Bool) → r ≡ headWhole state → r ≡ and (stands state) (stickFits (stickIn state) (lentIn state area screen paper))
+undamaged-is state area screen paper r e = e ∙ head-is state (lentIn state area screen paper)

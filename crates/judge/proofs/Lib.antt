@@ -1,0 +1,3 @@
+pub mod Calls
+pub mod Zeros
+pub mod Decided

@@ -1,0 +1,523 @@
+// Whether the bytes of a lent state stand for an undamaged stick: each byte is looked at once, in the order of damage's Whole.
+use blocks::Gather;
+use blocks::Reply;
+use layout::places::BLOCK;
+use layout::places::CONSOLE;
+use layout::places::DEVICES;
+use layout::places::PHASE;
+use layout::places::PORT;
+use layout::places::PRINTER;
+ghost use mathlib.Core.Path.{_≡_};
+ghost use Prim.Native.Nat.{_+_, _*_, _≤_};
+ghost use lib.Dec.{leb};
+ghost use lib.ListN.{length, drop};
+ghost use Rattle.base.specs.Choice.{and};
+ghost use Rattle.wire.specs.Messages.{wordOf};
+ghost use Rattle.layout.specs.Places.{blockLength, portLength, consoleLength, devicesPlace, devicesLength, Headed};
+ghost use Rattle.layout.specs.Layout.{stickIn, lentIn};
+ghost use Rattle.layout.specs.Stands.{unused, restUnused, runStands, stands};
+ghost use Rattle.damage.specs.Fits.{stickFits};
+ghost use Rattle.damage.specs.Whole.{aux1Whole, openWhole, blockWhole, blockWholeIn, twoWhole, fourWhole, unusedIn, fourClosed, tableWhole, gatherWhole, readyWhole, replyWhole, directionWhole, openedWhole, modeWhole, someLeft, bufferWhole, spanWhole, runWhole, phaseWhole, portWhole, textWhole, pictureWhole, cursorWhole, readingWhole, consoleWhole, devicesWhole, onConsole, apartGroups, apartWhole, headWhole};
+ghost use Rattle.judge.specs.Ported.{Ported};
+
+// Two blocks; where a port's fifth block begins, and where the console's mode stands.
+const PAIR: usize = 2 * BLOCK;
+
+const FIFTH: usize = PHASE + 4 * BLOCK;
+
+const MODE: usize = DEVICES + CONSOLE;
+
+// Four bytes as a number, the low one first.
+fn four(a: u8, b: u8, c: u8, d: u8) -> u32
+    ensures { λ r. ⌜ r ≡ a + 256 * b + 65536 * c + 16777216 * d ⌝ }
+{
+    a as u32 + 256 * (b as u32) + 65536 * (c as u32) + 16777216 * (d as u32)
+}
+
+// Four bytes are 0, by one comparison.
+fn none(a: u8, b: u8, c: u8, d: u8) -> bool
+    ensures { λ r. ⌜ r ≡ unused a b c d ⌝ }
+{
+    four(a, b, c, d) == 0
+}
+
+// Two bytes are 0, by one comparison.
+fn neither(a: u8, b: u8) -> bool
+    ensures { λ r. ⌜ r ≡ unused 0 0 a b ⌝ }
+{
+    reading::word(a, b) == 0
+}
+
+// AUX1 is one that the device takes.
+fn aux1_whole(device: u8, aux1: u8) -> bool
+    ensures { λ r. ⌜ r ≡ aux1Whole device aux1 ⌝ }
+{
+    if device == 1 {
+        if aux1 / 4 % 2 == 1 {
+            return aux1 % 2 == 1;
+        }
+        return true;
+    }
+    if device == 2 {
+        return !(aux1 / 16 % 2 == 1);
+    }
+    if device == 3 {
+        return !(aux1 / 8 % 2 == 1);
+    }
+    !(aux1 / 4 % 2 == 1)
+}
+
+// Some OPEN makes this block.
+fn open_whole(device: u8, number: u8, aux1: u8) -> bool
+    ensures { λ r. ⌜ r ≡ openWhole device number aux1 ⌝ }
+{
+    if device < 5 {
+        if 1 <= number {
+            if number <= 8 {
+                return aux1_whole(device, aux1);
+            }
+            return false;
+        }
+        return false;
+    }
+    false
+}
+
+fn block_whole(device: u8, number: u8, aux1: u8) -> bool
+    ensures { λ r. ⌜ r ≡ blockWhole device number aux1 ⌝ }
+{
+    if device == 0 {
+        return none(0, 0, number, aux1);
+    }
+    open_whole(device, number, aux1)
+}
+
+// The block whose three bytes begin at this place.
+fn block(bytes: &[u8], place: usize) -> bool
+    requires { ⌜ place + blockLength ≤ length (now bytes) ⌝ }
+    ensures { λ r. ⌜ r ≡ blockWholeIn (now (bytes .entry)) place ⌝ }
+{
+    block_whole(bytes[place], bytes[place + 1], bytes[place + 2])
+}
+
+// Two blocks, from this place on.
+fn two(bytes: &[u8], place: usize) -> bool
+    requires { ⌜ place + 2 * blockLength ≤ length (now bytes) ⌝ }
+    ensures { λ r. ⌜ r ≡ twoWhole (now (bytes .entry)) place ⌝ }
+{
+    if block(bytes, place) {
+        return block(bytes, place + BLOCK);
+    }
+    false
+}
+
+fn none_at(bytes: &[u8], place: usize) -> bool
+    requires { ⌜ place + 4 ≤ length (now bytes) ⌝ }
+    ensures { λ r. ⌜ r ≡ unusedIn (now (bytes .entry)) place ⌝ }
+{
+    none(
+        bytes[place],
+        bytes[place + 1],
+        bytes[place + 2],
+        bytes[place + 3],
+    )
+}
+
+// Four blocks are closed, by three comparisons.
+fn closed(bytes: &[u8], place: usize) -> bool
+    requires { ⌜ place + 4 * blockLength ≤ length (now bytes) ⌝ }
+    ensures { λ r. ⌜ r ≡ fourClosed (now (bytes .entry)) place ⌝ }
+{
+    if none_at(bytes, place) {
+        if none_at(bytes, place + 4) {
+            return none_at(bytes, place + 8);
+        }
+        return false;
+    }
+    false
+}
+
+// Four blocks, from this place on.
+fn four_blocks(bytes: &[u8], place: usize) -> bool
+    requires { ⌜ place + 4 * blockLength ≤ length (now bytes) ⌝ }
+    ensures { λ r. ⌜ r ≡ fourWhole (now (bytes .entry)) place ⌝ }
+{
+    if closed(bytes, place) {
+        return true;
+    }
+    if two(bytes, place) {
+        return two(bytes, place + PAIR);
+    }
+    false
+}
+
+// A port's eight.
+fn table(bytes: &[u8]) -> bool
+    requires { ⌜ portLength ≤ length (now bytes) ⌝ }
+    ensures { λ r. ⌜ r ≡ tableWhole (now (bytes .entry)) ⌝ }
+{
+    if four_blocks(bytes, PHASE) {
+        return four_blocks(bytes, FIFTH);
+    }
+    false
+}
+
+// The last four bytes of a phase are not used.
+fn rest(bytes: &[u8]) -> bool
+    requires { ⌜ portLength ≤ length (now bytes) ⌝ }
+    ensures { λ r. ⌜ r ≡ restUnused (now (bytes .entry)) ⌝ }
+{
+    none(bytes[7], bytes[8], bytes[9], bytes[10])
+}
+
+fn gathers(bytes: &[u8]) -> bool
+    requires { ⌜ portLength ≤ length (now bytes) ⌝ }
+    ensures { λ r. ⌜ r ≡ gatherWhole (now (bytes .entry)) ⌝ }
+{
+    if rest(bytes) {
+        return wire::gather_fits(Gather {
+            tag: bytes[1],
+            length: reading::word(bytes[2], bytes[3]),
+            taken: reading::three(bytes[4], bytes[5], bytes[6]),
+        });
+    }
+    false
+}
+
+fn is_ready(bytes: &[u8]) -> bool
+    requires { ⌜ portLength ≤ length (now bytes) ⌝ }
+    ensures { λ r. ⌜ r ≡ readyWhole (now (bytes .entry)) ⌝ }
+{
+    if rest(bytes) {
+        return none(0, bytes[4], bytes[5], bytes[6]);
+    }
+    false
+}
+
+fn replies(bytes: &[u8]) -> bool
+    requires { ⌜ portLength ≤ length (now bytes) ⌝ }
+    ensures { λ r. ⌜ r ≡ replyWhole (now (bytes .entry)) ⌝ }
+{
+    if rest(bytes) {
+        if neither(bytes[5], bytes[6]) {
+            return wire::reply_fits(Reply {
+                length: reading::word(bytes[1], bytes[2]),
+                given: reading::word(bytes[3], bytes[4]),
+            });
+        }
+        return false;
+    }
+    false
+}
+
+// A running request's kind is 0 to 5, its device 1 to 4.
+fn run_stands(kind: u8, device: u8) -> bool
+    ensures { λ r. ⌜ r ≡ runStands kind device ⌝ }
+{
+    if kind < 6 {
+        if 1 <= device {
+            return device <= 4;
+        }
+        return false;
+    }
+    false
+}
+
+// AUX1 allows the direction of this kind.
+fn directs(kind: u8, aux1: u8) -> bool
+    ensures { λ r. ⌜ r ≡ directionWhole kind aux1 ⌝ }
+{
+    if kind < 3 {
+        return aux1 / 4 % 2 == 1;
+    }
+    aux1 / 8 % 2 == 1
+}
+
+// The block of this IOCB is open on the device and for the direction.
+fn opened(bytes: &[u8], kind: u8, device: u8, iocb: u8) -> bool
+    requires { ⌜ Ported (now bytes) iocb ⌝ }
+    ensures { λ r. ⌜ r ≡ openedWhole (now (bytes .entry)) kind device iocb ⌝ }
+{
+    let place = PHASE + BLOCK * (iocb as usize);
+    if bytes[place] == device {
+        return directs(kind, bytes[place + 2]);
+    }
+    false
+}
+
+// E runs in mode 0, S in another.
+fn mode_fits(device: u8, mode: u8) -> bool
+    ensures { λ r. ⌜ r ≡ modeWhole device mode ⌝ }
+{
+    if device == 1 {
+        return mode == 0;
+    }
+    if device == 2 {
+        return 0 < mode;
+    }
+    true
+}
+
+// Something is left, or of a record counted.
+fn some(kind: u8, left: u16, count: u16) -> bool
+    ensures { λ r. ⌜ r ≡ someLeft kind left count ⌝ }
+{
+    if 0 < left {
+        return true;
+    }
+    if kind == 1 {
+        return false;
+    }
+    if kind == 4 {
+        return false;
+    }
+    0 < count
+}
+
+// What is left and what is counted lie in the area.
+fn buffer(kind: u8, left: u16, place: u16, count: u16) -> bool
+    ensures { λ r. ⌜ r ≡ bufferWhole kind left place count ⌝ }
+{
+    if some(kind, left, count) {
+        if place as usize + left as usize <= blocks::AREA {
+            return count <= place;
+        }
+        return false;
+    }
+    false
+}
+
+fn span(kind: u8, left: u16, place: u16, count: u16) -> bool
+    ensures { λ r. ⌜ r ≡ spanWhole kind left place count ⌝ }
+{
+    if kind == 0 {
+        if left == 0 {
+            return count == 0;
+        }
+        return false;
+    }
+    if kind == 3 {
+        if left == 0 {
+            return count == 0;
+        }
+        return false;
+    }
+    buffer(kind, left, place, count)
+}
+
+fn runs(bytes: &[u8], mode: u8) -> bool
+    requires { ⌜ portLength ≤ length (now bytes) ⌝ }
+    ensures { λ r. ⌜ r ≡ runWhole (now (bytes .entry)) mode ⌝ }
+{
+    let kind = bytes[1];
+    let device = bytes[2];
+    let iocb = bytes[3];
+    if run_stands(kind, device) {
+        if iocb < 8 {
+            if opened(bytes, kind, device, iocb) {
+                if mode_fits(device, mode) {
+                    return span(
+                        kind,
+                        reading::word(bytes[4], bytes[5]),
+                        reading::word(bytes[6], bytes[7]),
+                        reading::word(bytes[8], bytes[9]),
+                    );
+                }
+                return false;
+            }
+            return false;
+        }
+        return false;
+    }
+    false
+}
+
+fn phase(bytes: &[u8], mode: u8) -> bool
+    requires { ⌜ portLength ≤ length (now bytes) ⌝ }
+    ensures { λ r. ⌜ r ≡ phaseWhole (now (bytes .entry)) mode ⌝ }
+{
+    let number = bytes[0];
+    if number == 0 {
+        return gathers(bytes);
+    }
+    if number == 1 {
+        return is_ready(bytes);
+    }
+    if number == 2 {
+        return runs(bytes, mode);
+    }
+    if number == 3 {
+        return replies(bytes);
+    }
+    false
+}
+
+fn port(bytes: &[u8], mode: u8) -> bool
+    requires { ⌜ portLength ≤ length (now bytes) ⌝ }
+    ensures { λ r. ⌜ r ≡ portWhole (now (bytes .entry)) mode ⌝ }
+{
+    if table(bytes) {
+        return phase(bytes, mode);
+    }
+    false
+}
+
+// The port whose bytes begin at this place.
+fn port_at(state: &[u8], place: usize, mode: u8) -> bool
+    requires { ⌜ place + portLength ≤ length (now state) ⌝ }
+    ensures { λ r. ⌜ r ≡ portWhole (drop place (now (state .entry))) mode ⌝ }
+{
+    port(&state[place..], mode)
+}
+
+fn text(row: u8, column: u16) -> bool
+    ensures { λ r. ⌜ r ≡ textWhole row column ⌝ }
+{
+    if row < 24 {
+        if 2 <= column {
+            return column <= 39;
+        }
+        return false;
+    }
+    false
+}
+
+fn picture(mode: u8, row: u8, column: u16) -> bool
+    ensures { λ r. ⌜ r ≡ pictureWhole mode row column ⌝ }
+{
+    if 3 <= mode {
+        if mode <= 8 {
+            let shape = cells::shape_of(mode);
+            if row as u16 <= shape.rows {
+                return column < shape.columns;
+            }
+            return false;
+        }
+        return false;
+    }
+    false
+}
+
+fn cursor(mode: u8, row: u8, low: u8, high: u8) -> bool
+    ensures { λ r. ⌜ r ≡ cursorWhole mode row (wordOf low high) ⌝ }
+{
+    let column = reading::word(low, high);
+    if mode == 0 {
+        return text(row, column);
+    }
+    picture(mode, row, column)
+}
+
+fn read_column(byte: u8) -> bool
+    ensures { λ r. ⌜ r ≡ readingWhole byte ⌝ }
+{
+    if byte == 255 {
+        return true;
+    }
+    if 2 <= byte {
+        return byte <= 40;
+    }
+    false
+}
+
+fn console(bytes: &[u8]) -> bool
+    requires { ⌜ consoleLength ≤ length (now bytes) ⌝ }
+    ensures { λ r. ⌜ r ≡ consoleWhole (now (bytes .entry)) ⌝ }
+{
+    if cursor(bytes[0], bytes[1], bytes[2], bytes[3]) {
+        if read_column(bytes[6]) {
+            if bytes[5] < 2 {
+                if bytes[8] <= 2 {
+                    return bytes[9] <= 1;
+                }
+                return false;
+            }
+            return false;
+        }
+        return false;
+    }
+    false
+}
+
+// The printer's used length is one of its paper.
+fn used(low: u8, high: u8) -> bool
+    ensures { λ r. ⌜ r ≡ leb (wordOf low high) 4096 ⌝ }
+{
+    reading::word(low, high) <= 4096
+}
+
+fn numbers(bytes: &[u8]) -> bool
+    requires { ⌜ devicesLength ≤ length (now bytes) ⌝ }
+    ensures { λ r. ⌜ r ≡ devicesWhole (now (bytes .entry)) ⌝ }
+{
+    if console(&bytes[CONSOLE..]) {
+        return used(bytes[PRINTER], bytes[PRINTER + 1]);
+    }
+    false
+}
+
+fn on_console(device: u8) -> bool
+    ensures { λ r. ⌜ r ≡ onConsole device ⌝ }
+{
+    if 1 <= device {
+        return device <= 3;
+    }
+    false
+}
+
+// The groups of two devices are not one.
+fn apart_groups(one: u8, other: u8) -> bool
+    ensures { λ r. ⌜ r ≡ apartGroups one other ⌝ }
+{
+    if on_console(one) {
+        return !on_console(other);
+    }
+    on_console(other)
+}
+
+// The two ports hold no group both: only a running request holds one.
+fn apart(state: &[u8]) -> bool
+    requires { ⌜ Headed (now state) ⌝ }
+    ensures { λ r. ⌜ r ≡ apartWhole (now (state .entry)) ⌝ }
+{
+    if state[0] == 2 {
+        if state[PORT] == 2 {
+            return apart_groups(state[2], state[PORT + 2]);
+        }
+        return true;
+    }
+    true
+}
+
+// Behind the ports: the devices' numbers, and the groups.
+fn groups(state: &[u8]) -> bool
+    requires { ⌜ Headed (now state) ⌝ }
+    ensures { λ r. ⌜ r ≡ and (devicesWhole (drop devicesPlace (now (state .entry)))) (apartWhole (now (state .entry))) ⌝ }
+{
+    if numbers(&state[DEVICES..]) {
+        return apart(state);
+    }
+    false
+}
+
+fn head(state: &[u8]) -> bool
+    requires { ⌜ Headed (now state) ⌝ }
+    ensures { λ r. ⌜ r ≡ headWhole (now (state .entry)) ⌝ }
+{
+    let mode = state[MODE];
+    if port_at(state, 0, mode) {
+        if port_at(state, PORT, mode) {
+            return groups(state);
+        }
+        return false;
+    }
+    false
+}
+
+// Whether a state, with what is lent beside it, stands for an undamaged stick.
+pub fn undamaged(state: &[u8], area: &[u8], screen: &[u8], paper: &[u8]) -> bool
+    requires { ⌜ Headed (now state) ⌝ }
+    ensures { λ r. ⌜ r ≡ and (stands (now (state .entry))) (stickFits (stickIn (now (state .entry))) (lentIn (now (state .entry)) (now (area .entry)) (now (screen .entry)) (now (paper .entry)))) ⌝ }
+{
+    head(state)
+}

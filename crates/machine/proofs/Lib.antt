@@ -1,0 +1,11 @@
+pub mod Spelling
+pub mod Lawful
+pub mod Demanded
+pub mod Course
+pub mod SeenBytes
+pub mod SeenTick
+pub mod Linked
+pub mod Plugged
+pub mod Busy
+pub mod Cases
+pub mod Wrong

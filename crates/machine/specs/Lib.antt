@@ -1,0 +1,4 @@
+pub mod Spells
+pub mod Real
+pub mod Sticks
+pub mod Course

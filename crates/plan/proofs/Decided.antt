@@ -1,0 +1,28 @@
+-- Each promise of this crate decides: two outcomes that it allows are equal, and it allows one.
+-- Assumes nothing.
+use mathlib.Core.Path.{refl, sym, _∙_}
+use Rattle.base.specs.Decides.{Decides, Allows}
+use Rattle.plan.proofs.iocb_of.Kinds as iocb-of-kinds
+use Rattle.plan.proofs.iocb_of.Reads as iocb-of-reads
+use Rattle.plan.proofs.plan_in.Kinds as plan-in-kinds
+use Rattle.plan.proofs.plan_in.Reads as plan-in-reads
+use Rattle.plan.proofs.group_needed.Kinds as group-needed-kinds
+use Rattle.plan.proofs.group_needed.Reads as group-needed-reads
+
+pub iocb-of-decides : Decides 0 iocb-of-kinds.ps iocb-of-kinds.r iocb-of-reads.Pre iocb-of-reads.Learnt
+iocb-of-decides κs a z z′ ws ws′ p e e′ = (e ∙ sym e′, refl)
+
+pub iocb-of-allows : Allows 0 iocb-of-kinds.ps iocb-of-kinds.r iocb-of-reads.Pre iocb-of-reads.Learnt
+iocb-of-allows κs a p = (_, (_, refl))
+
+pub plan-in-decides : Decides 1 plan-in-kinds.ps plan-in-kinds.r plan-in-reads.Pre plan-in-reads.Learnt
+plan-in-decides κs a z z′ ws ws′ p e e′ = (e ∙ sym e′, refl)
+
+pub plan-in-allows : Allows 1 plan-in-kinds.ps plan-in-kinds.r plan-in-reads.Pre plan-in-reads.Learnt
+plan-in-allows κs a p = (_, (_, refl))
+
+pub group-needed-decides : Decides 0 group-needed-kinds.ps group-needed-kinds.r group-needed-reads.Pre group-needed-reads.Learnt
+group-needed-decides κs a z z′ ws ws′ p e e′ = (e ∙ sym e′, refl)
+
+pub group-needed-allows : Allows 0 group-needed-kinds.ps group-needed-kinds.r group-needed-reads.Pre group-needed-reads.Learnt
+group-needed-allows κs a p = (_, (_, refl))

@@ -1,0 +1,290 @@
+// The checks that come before the group, in their order: what a message comes to.
+use blocks::BlockState;
+use blocks::ControlBlock;
+use blocks::Device;
+use blocks::Kind;
+use blocks::Specification;
+use blocks::Way;
+use devices::Group;
+use wire::Call;
+use wire::Message;
+ghost use mathlib.Core.Path.{_≡_};
+ghost use Rattle.plan.specs.Plan.{commandOf, wayOf, kindOf, plannedOf, nameOf, openPlan, areaPlan, transferPlan, blockPlan, callPlan, iocbOf, planIn, groupNeeded};
+
+pub enum Command {
+    Bad,
+    Open,
+    Close,
+    Status,
+    Special,
+    Transfer { reads: bool, records: bool },
+}
+
+// What follows an opening: the block stays open, or GET STATUS or SPECIAL answers and it is closed again.
+pub enum After {
+    Stay,
+    Status,
+    Special,
+}
+
+// What is done with the group held; of an opening also the device's number, and where the name behind the colon begins.
+pub enum Work {
+    Close,
+    Status,
+    Special,
+    Open(After, u8, u32),
+    Transfer(Kind),
+}
+
+// A CALL's work on its device.
+pub struct Job {
+    pub device: Device,
+    pub work: Work,
+    pub call: Call,
+}
+
+// What needs no group: a CALL's status and A, LOAD, FETCH, or a bad message's status.
+pub enum Errand {
+    Status(u8, u8),
+    Load { address: u16, size: u16 },
+    Fetch { address: u16, count: u16 },
+    Bad(u8),
+}
+
+pub enum Plan {
+    Free(Errand),
+    On(Job),
+}
+
+fn command_of(byte: u8) -> Command
+    ensures { λ r. ⌜ r ≡ commandOf byte ⌝ }
+{
+    match byte {
+        0x03 => Command::Open,
+        0x05 => Command::Transfer {
+            reads: true,
+            records: true,
+        },
+        0x07 => Command::Transfer {
+            reads: true,
+            records: false,
+        },
+        0x09 => Command::Transfer {
+            reads: false,
+            records: true,
+        },
+        0x0B => Command::Transfer {
+            reads: false,
+            records: false,
+        },
+        0x0C => Command::Close,
+        0x0D => Command::Status,
+        _ => {
+            if 0x0D < byte {
+                return Command::Special;
+            }
+            Command::Bad
+        }
+    }
+}
+
+fn way_of(records: bool, length: u16) -> Way
+    ensures { λ r. ⌜ r ≡ wayOf records length ⌝ }
+{
+    if length == 0 {
+        return Way::One;
+    }
+    if records {
+        return Way::Record;
+    }
+    Way::Characters
+}
+
+fn kind_of(reads: bool, way: Way) -> Kind
+    ensures { λ r. ⌜ r ≡ kindOf reads way ⌝ }
+{
+    if reads {
+        return Kind::Get(way);
+    }
+    Kind::Put(way)
+}
+
+// Work on a device.
+fn planned(device: Device, work: Work, call: Call) -> Plan
+    ensures { λ r. ⌜ r ≡ plannedOf device work call ⌝ }
+{
+    let job = Job {
+        device: device,
+        work: work,
+        call: call,
+    };
+    Plan::On(job)
+}
+
+// Where what follows a specification's colon begins.
+fn name_at(half: &[u8], address: u16) -> u32
+    ensures { λ r. ⌜ r ≡ nameOf (now (half .entry)) address ⌝ }
+{
+    if base::byte_at(half, address as usize + 1) == b':' {
+        return address as u32 + 2;
+    }
+    address as u32 + 3
+}
+
+// An opening by its device specification.
+fn open_plan(after: After, specification: Specification, half: &[u8], call: Call) -> Plan
+    ensures { λ r. ⌜ r ≡ openPlan after specification (now (half .entry)) call ⌝ }
+{
+    match specification {
+        Specification::Refused(status) => Plan::Free(Errand::Status(status, call.a)),
+        Specification::Names(device, number) => {
+            let name = name_at(half, call.address);
+            let work = Work::Open(after, number, name);
+            planned(device, work, call)
+        }
+    }
+}
+
+// The buffer is in the area, or is not looked at.
+fn area_plan(reads: bool, records: bool, device: Device, call: Call) -> Plan
+    ensures { λ r. ⌜ r ≡ areaPlan reads records device call ⌝ }
+{
+    let length = call.length;
+    let kind = kind_of(reads, way_of(records, length));
+    let work = Work::Transfer(kind);
+    if length == 0 {
+        return planned(device, work, call);
+    }
+    if call.address as usize + length as usize <= blocks::AREA {
+        return planned(device, work, call);
+    }
+    Plan::Free(Errand::Status(0xB0, call.a))
+}
+
+// The direction is one that the block was opened for.
+fn transfer_plan(reads: bool, records: bool, device: Device, aux1: u8, call: Call) -> Plan
+    ensures { λ r. ⌜ r ≡ transferPlan reads records device aux1 call ⌝ }
+{
+    if reads {
+        if aux1 / 4 % 2 == 1 {
+            return area_plan(reads, records, device, call);
+        }
+        return Plan::Free(Errand::Status(0x83, call.a));
+    }
+    if aux1 / 8 % 2 == 1 {
+        return area_plan(reads, records, device, call);
+    }
+    Plan::Free(Errand::Status(0x87, call.a))
+}
+
+fn block_plan(command: Command, block: ControlBlock, call: Call, half: &[u8]) -> Plan
+    ensures { λ r. ⌜ r ≡ blockPlan command (block .state) call (now (half .entry)) ⌝ }
+{
+    let state = block.state;
+    match command {
+        Command::Bad => Plan::Free(Errand::Status(0x84, call.a)),
+        Command::Open => match state {
+            BlockState::Closed => open_plan(
+                After::Stay,
+                blocks::specification_at(half, call.address),
+                half,
+                call,
+            ),
+            BlockState::Open {
+                device,
+                number,
+                aux1,
+            } => Plan::Free(Errand::Status(0x81, call.a)),
+        },
+        Command::Close => match state {
+            BlockState::Closed => Plan::Free(Errand::Status(0x01, call.a)),
+            BlockState::Open {
+                device,
+                number,
+                aux1,
+            } => planned(device, Work::Close, call),
+        },
+        Command::Status => match state {
+            BlockState::Closed => open_plan(
+                After::Status,
+                blocks::specification_at(half, call.address),
+                half,
+                call,
+            ),
+            BlockState::Open {
+                device,
+                number,
+                aux1,
+            } => planned(device, Work::Status, call),
+        },
+        Command::Special => match state {
+            BlockState::Closed => open_plan(
+                After::Special,
+                blocks::specification_at(half, call.address),
+                half,
+                call,
+            ),
+            BlockState::Open {
+                device,
+                number,
+                aux1,
+            } => planned(device, Work::Special, call),
+        },
+        Command::Transfer { reads, records } => match state {
+            BlockState::Closed => Plan::Free(Errand::Status(0x85, call.a)),
+            BlockState::Open {
+                device,
+                number,
+                aux1,
+            } => transfer_plan(reads, records, device, aux1, call),
+        },
+    }
+}
+
+// A CALL, with the block of its IOCB.
+fn call_plan(call: Call, block: ControlBlock, half: &[u8]) -> Plan
+    ensures { λ r. ⌜ r ≡ callPlan call block (now (half .entry)) ⌝ }
+{
+    if 7 < call.iocb {
+        return Plan::Free(Errand::Status(0x86, call.a));
+    }
+    let command = command_of(call.command);
+    block_plan(command, block, call, half)
+}
+
+// The IOCB that a message names; past the table where it names none.
+pub fn iocb_of(message: Message) -> u8
+    ensures { λ r. ⌜ r ≡ iocbOf message ⌝ }
+{
+    match message {
+        Message::Call(call) => call.iocb,
+        Message::Load { address, size } => 8,
+        Message::Fetch { address, count } => 8,
+        Message::Bad(status) => 8,
+    }
+}
+
+// A message, with the block of the IOCB that it names.
+pub fn plan_in(message: Message, block: ControlBlock, half: &[u8]) -> Plan
+    ensures { λ r. ⌜ r ≡ planIn message block (now (half .entry)) ⌝ }
+{
+    match message {
+        Message::Call(call) => call_plan(call, block, half),
+        Message::Load { address, size } => Plan::Free(Errand::Load { address, size }),
+        Message::Fetch { address, count } => Plan::Free(Errand::Fetch { address, count }),
+        Message::Bad(status) => Plan::Free(Errand::Bad(status)),
+    }
+}
+
+// The group that a plan needs.
+pub fn group_needed(plan: Plan) -> Group
+    ensures { λ r. ⌜ r ≡ groupNeeded plan ⌝ }
+{
+    match plan {
+        Plan::Free(errand) => Group::Nobody,
+        Plan::On(job) => {
+            let device = job.device;
+            devices::group_of(device)
+        }
+    }
+}

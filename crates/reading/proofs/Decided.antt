@@ -1,0 +1,84 @@
+-- Each promise of this crate decides: two outcomes that it allows are equal, and it allows one.
+-- Assumes nothing.
+use mathlib.Core.Path.{refl, sym, _∙_}
+use Rattle.base.specs.Decides.{Decides, Allows}
+use Rattle.reading.proofs.word.Kinds as word-kinds
+use Rattle.reading.proofs.word.Reads as word-reads
+use Rattle.reading.proofs.three.Kinds as three-kinds
+use Rattle.reading.proofs.three.Reads as three-reads
+use Rattle.reading.proofs.block.Kinds as block-kinds
+use Rattle.reading.proofs.block.Reads as block-reads
+use Rattle.reading.proofs.phase.Kinds as phase-kinds
+use Rattle.reading.proofs.phase.Reads as phase-reads
+use Rattle.reading.proofs.gather.Kinds as gather-kinds
+use Rattle.reading.proofs.gather.Reads as gather-reads
+use Rattle.reading.proofs.header.Kinds as header-kinds
+use Rattle.reading.proofs.header.Reads as header-reads
+use Rattle.reading.proofs.run.Kinds as run-kinds
+use Rattle.reading.proofs.run.Reads as run-reads
+use Rattle.reading.proofs.reply.Kinds as reply-kinds
+use Rattle.reading.proofs.reply.Reads as reply-reads
+use Rattle.reading.proofs.console.Kinds as console-kinds
+use Rattle.reading.proofs.console.Reads as console-reads
+use Rattle.reading.proofs.printer.Kinds as printer-kinds
+use Rattle.reading.proofs.printer.Reads as printer-reads
+
+pub word-decides : Decides 0 word-kinds.ps word-kinds.r word-reads.Pre word-reads.Learnt
+word-decides κs a z z′ ws ws′ p e e′ = (e ∙ sym e′, refl)
+
+pub word-allows : Allows 0 word-kinds.ps word-kinds.r word-reads.Pre word-reads.Learnt
+word-allows κs a p = (_, (_, refl))
+
+pub three-decides : Decides 0 three-kinds.ps three-kinds.r three-reads.Pre three-reads.Learnt
+three-decides κs a z z′ ws ws′ p e e′ = (e ∙ sym e′, refl)
+
+pub three-allows : Allows 0 three-kinds.ps three-kinds.r three-reads.Pre three-reads.Learnt
+three-allows κs a p = (_, (_, refl))
+
+pub block-decides : Decides 1 block-kinds.ps block-kinds.r block-reads.Pre block-reads.Learnt
+block-decides κs a z z′ ws ws′ p e e′ = (e ∙ sym e′, refl)
+
+pub block-allows : Allows 1 block-kinds.ps block-kinds.r block-reads.Pre block-reads.Learnt
+block-allows κs a p = (_, (_, refl))
+
+pub phase-decides : Decides 1 phase-kinds.ps phase-kinds.r phase-reads.Pre phase-reads.Learnt
+phase-decides κs a z z′ ws ws′ p e e′ = (e ∙ sym e′, refl)
+
+pub phase-allows : Allows 1 phase-kinds.ps phase-kinds.r phase-reads.Pre phase-reads.Learnt
+phase-allows κs a p = (_, (_, refl))
+
+pub console-decides : Decides 1 console-kinds.ps console-kinds.r console-reads.Pre console-reads.Learnt
+console-decides κs a z z′ ws ws′ p e e′ = (e ∙ sym e′, refl)
+
+pub console-allows : Allows 1 console-kinds.ps console-kinds.r console-reads.Pre console-reads.Learnt
+console-allows κs a p = (_, (_, refl))
+
+pub printer-decides : Decides 1 printer-kinds.ps printer-kinds.r printer-reads.Pre printer-reads.Learnt
+printer-decides κs a z z′ ws ws′ p e e′ = (e ∙ sym e′, refl)
+
+pub printer-allows : Allows 1 printer-kinds.ps printer-kinds.r printer-reads.Pre printer-reads.Learnt
+printer-allows κs a p = (_, (_, refl))
+
+pub gather-decides : Decides 1 gather-kinds.ps gather-kinds.r gather-reads.Pre gather-reads.Learnt
+gather-decides κs a z z′ ws ws′ p e e′ = (e ∙ sym e′, refl)
+
+pub gather-allows : Allows 1 gather-kinds.ps gather-kinds.r gather-reads.Pre gather-reads.Learnt
+gather-allows κs a p = (_, (_, refl))
+
+pub header-decides : Decides 1 header-kinds.ps header-kinds.r header-reads.Pre header-reads.Learnt
+header-decides κs a z z′ ws ws′ p e e′ = (e ∙ sym e′, refl)
+
+pub header-allows : Allows 1 header-kinds.ps header-kinds.r header-reads.Pre header-reads.Learnt
+header-allows κs a p = (_, (_, refl))
+
+pub run-decides : Decides 1 run-kinds.ps run-kinds.r run-reads.Pre run-reads.Learnt
+run-decides κs a z z′ ws ws′ p e e′ = (e ∙ sym e′, refl)
+
+pub run-allows : Allows 1 run-kinds.ps run-kinds.r run-reads.Pre run-reads.Learnt
+run-allows κs a p = (_, (_, refl))
+
+pub reply-decides : Decides 1 reply-kinds.ps reply-kinds.r reply-reads.Pre reply-reads.Learnt
+reply-decides κs a z z′ ws ws′ p e e′ = (e ∙ sym e′, refl)
+
+pub reply-allows : Allows 1 reply-kinds.ps reply-kinds.r reply-reads.Pre reply-reads.Learnt
+reply-allows κs a p = (_, (_, refl))

@@ -1,2 +1,0 @@
-pub mod Stick
-pub mod Calls

@@ -1,0 +1,83 @@
+// A take, a give and a press that are not refused: each reads and writes the port's phase and room, or the console's numbers.
+use crate::Answered;
+use devices::Group;
+use layout::places::DEVICES;
+use layout::places::ROOM;
+use layout::places::ROOMS;
+ghost use mathlib.Core.Path.{_≡_};
+ghost use Rattle.calls.specs.Calls.{takeAt, giveAt, pressAt};
+ghost use Rattle.calls.specs.Bytes.{buffers, left, leftOf, stickBy, lentBy};
+ghost use Rattle.calls.specs.Parts.{Called, Rooms, consoleHeldOn, keyOn};
+
+// A byte offered by a port's host.
+pub fn take_at(port: u8, byte: u8, state: &mut [u8], area: &[u8], screen: &[u8], paper: &[u8]) -> u8
+    requires { ⌜ Called port (buffers (now state) (now area) (now screen) (now paper)) ⌝ }
+    ensures { λ r. ⌜ left r 0 (buffers (now (state .exit)) (now (area .entry)) (now (screen .entry)) (now (paper .entry))) ≡ leftOf (takeAt port (stickBy (buffers (now (state .entry)) (now (area .entry)) (now (screen .entry)) (now (paper .entry)))) (lentBy (buffers (now (state .entry)) (now (area .entry)) (now (screen .entry)) (now (paper .entry)))) byte) ⌝ }
+{
+    let room = ROOMS + ROOM * (port as usize);
+    let past = room + ROOM;
+    if ports::phase_number(port, state) == 0 {
+        let gather = ports::gather_of(port, state);
+        let next = wire::take(gather, &mut state[room..past], byte);
+        ports::set_phase(port, next, state);
+        return 0;
+    }
+    4
+}
+
+// The next byte of a port's reply.
+pub fn give_at(port: u8, state: &mut [u8], area: &[u8], screen: &[u8], paper: &[u8]) -> Answered
+    requires { ⌜ Called port (buffers (now state) (now area) (now screen) (now paper)) ⌝ }
+    ensures { λ r. ⌜ left (r .answer) (r .byte) (buffers (now (state .exit)) (now (area .entry)) (now (screen .entry)) (now (paper .entry))) ≡ leftOf (giveAt port (stickBy (buffers (now (state .entry)) (now (area .entry)) (now (screen .entry)) (now (paper .entry)))) (lentBy (buffers (now (state .entry)) (now (area .entry)) (now (screen .entry)) (now (paper .entry))))) ⌝ }
+{
+    let room = ROOMS + ROOM * (port as usize);
+    let past = room + ROOM;
+    if 3 <= ports::phase_number(port, state) {
+        let reply = ports::reply_of(port, state);
+        let given = wire::give(reply, &state[room..past]);
+        let next = given.phase;
+        ports::set_phase(port, next, state);
+        return Answered {
+            answer: 0,
+            byte: given.byte,
+        };
+    }
+    Answered { answer: 5, byte: 0 }
+}
+
+// A port's running request holds the console.
+fn holds_console(port: u8, state: &[u8]) -> bool
+    requires { ⌜ Rooms port (now state) ⌝ }
+    ensures { λ r. ⌜ r ≡ consoleHeldOn port (now (state .entry)) ⌝ }
+{
+    if ports::phase_number(port, state) == 2 {
+        let phase = ports::phase_of(port, state);
+        return devices::clashes(Group::Console, devices::held_by(phase));
+    }
+    false
+}
+
+// A pressed key, over an older one.
+fn store_key(code: u8, state: &mut [u8])
+    requires { ⌜ Rooms 0 (now state) ⌝ }
+    ensures { λ _. ⌜ now (state .exit) ≡ keyOn code (now (state .entry)) ⌝ }
+{
+    let console = devices::numbers::console_of(&state[DEVICES..ROOMS]);
+    let next = console.press(code);
+    devices::numbers::set_console(&mut state[DEVICES..ROOMS], next);
+}
+
+// A key of the console.
+pub fn press_at(code: u8, state: &mut [u8], area: &[u8], screen: &[u8], paper: &[u8]) -> u8
+    requires { ⌜ Called 0 (buffers (now state) (now area) (now screen) (now paper)) ⌝ }
+    ensures { λ r. ⌜ left r 0 (buffers (now (state .exit)) (now (area .entry)) (now (screen .entry)) (now (paper .entry))) ≡ leftOf (pressAt (stickBy (buffers (now (state .entry)) (now (area .entry)) (now (screen .entry)) (now (paper .entry)))) (lentBy (buffers (now (state .entry)) (now (area .entry)) (now (screen .entry)) (now (paper .entry)))) code) ⌝ }
+{
+    if holds_console(0, state) {
+        return 6;
+    }
+    if holds_console(1, state) {
+        return 6;
+    }
+    store_key(code, state);
+    0
+}

@@ -1,0 +1,156 @@
+-- What each function of a character returns and leaves is what its definition says.
+-- Assumes nothing.
+use mathlib.Core.Path.{_≡_, _∙_, refl, sym, ap}
+use mathlib.Core.Bool.{Bool, true, false}
+use mathlib.Core.List.{List}
+use Prim.Native.Nat.{ℕ, _+_, _-_, _<_, _≤_}
+use native.Mathlib.Omega.{arith}
+use lib.Dec.{eqb, leb, ltb}
+use lib.ListN.{getD, set}
+use borrow.Author.Tests.{eq-eqb, ne-eqb, ltb-true, leb-true}
+use Rattle.base.specs.Choice.{and}
+use Rattle.base.proofs.Choices.{and-left, and-right}
+use Rattle.handler.specs.declared.Got.{Got}
+use Rattle.handler.specs.declared.Got.the-variants as got
+use Rattle.handler.specs.declared.Done.{Done}
+use Rattle.handler.specs.declared.Done.the-variants as done
+use Rattle.blocks.specs.declared.Way.{Way}
+use Rattle.blocks.specs.declared.Way.the-variants.{One, Characters, Record}
+use Rattle.blocks.specs.declared.Run.{Run}
+use Rattle.blocks.specs.declared.Phase.the-variants.{Running, Replying}
+use Rattle.blocks.specs.declared.Reply.{Reply}
+use Rattle.wire.specs.Replies.{callReply, replied, repliedOf, replyOf, replyInto, Replied}
+use Rattle.transfer.specs.declared.Next.{Next}
+use Rattle.transfer.specs.declared.Next.the-variants.{On, Off}
+use Rattle.transfer.specs.Transfer.{Progress, progress, furtherOf, endedOf, onwardOf, eol, recordOf, gotCharacter, gotOf, sentByte, sentRecord, sentNext, sentOf, outOf, inPort, landed}
+use Rattle.transfer.specs.Spans.{Further, spanFits, Spans}
+
+-- what a span says of a request whose way is known
+module _ (way : Way) (run : Run) (s : Spans way run) where
+  pub span-characters : way ≡ Characters → Further run
+  unfolding spanFits
+  span-characters e =
+      let p : spanFits Characters run ≡ true = rw e at (s .span) in
+      let q = and-right (ltb 0 (run .left)) (and (leb (run .place + run .left) 16384) (leb (run .count) (run .place))) p in
+      let a = ltb-true 0 (run .left) (and-left (ltb 0 (run .left)) (and (leb (run .place + run .left) 16384) (leb (run .count) (run .place))) p) in
+      let b = leb-true (run .place + run .left) 16384 (and-left (leb (run .place + run .left) 16384) (leb (run .count) (run .place)) q) in
+      let c = leb-true (run .count) (run .place) (and-right (leb (run .place + run .left) 16384) (leb (run .count) (run .place)) q) in
+      record { left = a; place = omega arith; count = omega arith }
+
+  pub span-same : (w : Way) → way ≡ w → Spans w run
+  span-same w e = rw e at s
+
+pub span-record : (run : Run) → Spans Record run → (run .left ≡ 0 → ⊥) → Further run
+unfolding spanFits
+span-record run s n =
+    let p : spanFits Record run ≡ true = s .span in
+    let q = and-right (ltb 0 (run .left + run .count)) (and (leb (run .place + run .left) 16384) (leb (run .count) (run .place))) p in
+    let b = leb-true (run .place + run .left) 16384 (and-left (leb (run .place + run .left) 16384) (leb (run .count) (run .place)) q) in
+    let c = leb-true (run .count) (run .place) (and-right (leb (run .place + run .left) 16384) (leb (run .count) (run .place)) q) in
+    record { left = omega arith; place = omega arith; count = omega arith }
+
+module _ (run : Run) where
+  pub onward-end : (next : Next) → run .left ≡ 0 → next ≡ endedOf 0x01 run → next ≡ onwardOf run
+  unfolding onwardOf
+  onward-end next h q = q ∙ rw (eq-eqb (run .left) 0 h)
+
+  pub onward-on : (run .left ≡ 0 → ⊥) → On run ≡ onwardOf run
+  unfolding onwardOf
+  onward-on h = rw (ne-eqb (run .left) 0 h)
+
+  module _ (byte : ℕ) where
+    pub record-end : (next : Next) → byte ≡ 0x9B → next ≡ endedOf 0x01 run → next ≡ recordOf run byte
+    unfolding recordOf
+    record-end next h q = q ∙ rw (eq-eqb byte 0x9B h)
+
+    pub record-on : (byte ≡ 0x9B → ⊥) → On run ≡ recordOf run byte
+    unfolding recordOf
+    record-on h = rw (ne-eqb byte 0x9B h)
+
+    -- a character got
+    module _ (area after : List ℕ) where
+      pub got-characters : (more : Run) (next : Next) → after ≡ set area (run .place) byte → more ≡ furtherOf run → next ≡ onwardOf more → progress next after ≡ gotCharacter Characters run byte area
+      unfolding gotCharacter
+      got-characters more next p q r = rw (p, r, q)
+
+      pub drop-end : (next : Next) → run .left ≡ 0 → byte ≡ 0x9B → next ≡ endedOf 0x89 run → progress next area ≡ gotCharacter Record run byte area
+      unfolding gotCharacter
+      drop-end next h k q = rw (q, eq-eqb (run .left) 0 h, eq-eqb byte 0x9B k)
+
+      pub drop-on : run .left ≡ 0 → (byte ≡ 0x9B → ⊥) → progress (On run) area ≡ gotCharacter Record run byte area
+      unfolding gotCharacter
+      drop-on h k = rw (eq-eqb (run .left) 0 h, ne-eqb byte 0x9B k)
+
+      pub got-record : (more : Run) (next : Next) → (run .left ≡ 0 → ⊥) → after ≡ set area (run .place) byte → more ≡ furtherOf run → next ≡ recordOf more byte → progress next after ≡ gotCharacter Record run byte area
+      unfolding gotCharacter
+      got-record more next h p q r = rw (p, r, q, ne-eqb (run .left) 0 h)
+
+      module _ (way : Way) where
+        pub character-one : way ≡ One → progress (Off 0x01 (run .count) byte) area ≡ gotCharacter way run byte area
+        unfolding gotCharacter
+        character-one e = rw e
+
+        pub character-way : (w : Way) (next : Next) → way ≡ w → progress next after ≡ gotCharacter w run byte area → progress next after ≡ gotCharacter way run byte area
+        character-way w next e q = q ∙ rw e
+
+        pub got-character : (g : Got) (next : Next) → g ≡ got.Character byte → progress next after ≡ gotCharacter way run byte area → progress next after ≡ gotOf way run g area
+        unfolding gotOf
+        got-character g next e q = q ∙ rw e
+
+        pub got-refused : (g : Got) (status : ℕ) (next : Next) → g ≡ got.Refused status → next ≡ endedOf status run → progress next area ≡ gotOf way run g area
+        unfolding gotOf
+        got-refused g status next e q = rw (q, e)
+
+    -- a byte sent
+    pub sent-record-end : (next : Next) → run .left ≡ 0 → next ≡ endedOf 0x01 run → next ≡ sentRecord run byte
+    unfolding sentRecord
+    sent-record-end next h q = q ∙ rw (eq-eqb (run .left) 0 h)
+
+    pub sent-record-on : (more : Run) (next : Next) → (run .left ≡ 0 → ⊥) → more ≡ furtherOf run → next ≡ recordOf more byte → next ≡ sentRecord run byte
+    unfolding sentRecord
+    sent-record-on more next h q r = r ∙ rw (q, ne-eqb (run .left) 0 h)
+
+    module _ (way : Way) (next : Next) where
+      pub sent-one : way ≡ One → next ≡ endedOf 0x01 run → next ≡ sentNext way run byte
+      unfolding sentNext
+      sent-one e q = q ∙ rw e
+
+      pub sent-characters : (more : Run) → way ≡ Characters → more ≡ furtherOf run → next ≡ onwardOf more → next ≡ sentNext way run byte
+      unfolding sentNext
+      sent-characters more e q r = r ∙ rw (q, e)
+
+      pub sent-record : way ≡ Record → next ≡ sentRecord run byte → next ≡ sentNext way run byte
+      unfolding sentNext
+      sent-record e q = q ∙ rw e
+
+      pub sent-success : (d : Done) → d ≡ done.Success → next ≡ sentNext way run byte → next ≡ sentOf way run byte d
+      unfolding sentOf
+      sent-success d e q = q ∙ rw e
+
+      pub sent-refused : (d : Done) (status : ℕ) → d ≡ done.Refused status → next ≡ endedOf status run → next ≡ sentOf way run byte d
+      unfolding sentOf
+      sent-refused d status e q = q ∙ rw e
+
+  module _ (way : Way) (area : List ℕ) where
+    pub send-one : way ≡ One → run .a ≡ sentByte way run area
+    unfolding sentByte
+    send-one e = rw e
+
+    pub send-characters : (byte : ℕ) → way ≡ Characters → byte ≡ getD area (run .place) 0 → byte ≡ sentByte way run area
+    unfolding sentByte
+    send-characters byte e q = q ∙ rw e
+
+    pub send-eol : way ≡ Record → run .left ≡ 0 → 0x9B ≡ sentByte way run area
+    unfolding sentByte
+    send-eol e h = rw (e, eq-eqb (run .left) 0 h)
+
+    pub send-record : (byte : ℕ) → way ≡ Record → (run .left ≡ 0 → ⊥) → byte ≡ getD area (run .place) 0 → byte ≡ sentByte way run area
+    unfolding sentByte
+    send-record byte e h q = q ∙ rw (e, ne-eqb (run .left) 0 h)
+
+module _ (next : Next) (room after : List ℕ) where
+  pub land-on : (run : Run) → next ≡ On run → inPort (Running run) room ≡ landed (outOf next) room
+  land-on run e = rw e
+
+  pub land-off : (status count a : ℕ) (reply : Reply) → next ≡ Off status count a → replied reply after ≡ repliedOf room (callReply status count a) → inPort (Replying reply) after ≡ landed (outOf next) room
+  land-off status count a reply e q = ap (λ (x : Replied). inPort (Replying (x .reply)) (x .room)) q ∙ rw e

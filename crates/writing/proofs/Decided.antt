@@ -1,0 +1,46 @@
+-- Each promise of this crate decides: two outcomes that it allows are equal, and it allows one.
+-- Assumes nothing.
+use mathlib.Core.Path.{refl, sym, _∙_, ap}
+use mathlib.Core.List.{List}
+use Prim.Native.Nat.{ℕ}
+use Rattle.base.specs.Decides.{Decides, Allows}
+use Rattle.writing.proofs.block.Kinds as block-kinds
+use Rattle.writing.proofs.block.Reads as block-reads
+use Rattle.writing.proofs.phase.Kinds as phase-kinds
+use Rattle.writing.proofs.phase.Reads as phase-reads
+use Rattle.writing.proofs.port.Kinds as port-kinds
+use Rattle.writing.proofs.port.Reads as port-reads
+use Rattle.writing.proofs.console.Kinds as console-kinds
+use Rattle.writing.proofs.console.Reads as console-reads
+use Rattle.writing.proofs.printer.Kinds as printer-kinds
+use Rattle.writing.proofs.printer.Reads as printer-reads
+
+pub block-decides : Decides 1 block-kinds.ps block-kinds.r block-reads.Pre block-reads.Learnt
+block-decides κs a z z′ ws ws′ p e e′ = (refl, ap (λ (l : List ℕ). (l, (tt, (tt, tt)))) (e ∙ sym e′))
+
+pub block-allows : Allows 1 block-kinds.ps block-kinds.r block-reads.Pre block-reads.Learnt
+block-allows κs a p = (_, (_, refl))
+
+pub phase-decides : Decides 1 phase-kinds.ps phase-kinds.r phase-reads.Pre phase-reads.Learnt
+phase-decides κs a z z′ ws ws′ p e e′ = (refl, ap (λ (l : List ℕ). (l, (tt, tt))) (e ∙ sym e′))
+
+pub phase-allows : Allows 1 phase-kinds.ps phase-kinds.r phase-reads.Pre phase-reads.Learnt
+phase-allows κs a p = (_, (_, refl))
+
+pub port-decides : Decides 1 port-kinds.ps port-kinds.r port-reads.Pre port-reads.Learnt
+port-decides κs a z z′ ws ws′ p e e′ = (refl, ap (λ (l : List ℕ). (l, (tt, tt))) (e ∙ sym e′))
+
+pub port-allows : Allows 1 port-kinds.ps port-kinds.r port-reads.Pre port-reads.Learnt
+port-allows κs a p = (_, (_, refl))
+
+pub console-decides : Decides 1 console-kinds.ps console-kinds.r console-reads.Pre console-reads.Learnt
+console-decides κs a z z′ ws ws′ p e e′ = (refl, ap (λ (l : List ℕ). (l, (tt, tt))) (e ∙ sym e′))
+
+pub console-allows : Allows 1 console-kinds.ps console-kinds.r console-reads.Pre console-reads.Learnt
+console-allows κs a p = (_, (_, refl))
+
+pub printer-decides : Decides 1 printer-kinds.ps printer-kinds.r printer-reads.Pre printer-reads.Learnt
+printer-decides κs a z z′ ws ws′ p e e′ = (refl, ap (λ (l : List ℕ). (l, (tt, tt))) (e ∙ sym e′))
+
+pub printer-allows : Allows 1 printer-kinds.ps printer-kinds.r printer-reads.Pre printer-reads.Learnt
+printer-allows κs a p = (_, (_, refl))
