@@ -1,5 +1,5 @@
-"""docs/slow-crates.txt lists the crates that take above 15 seconds to prove. A must-fail edit proves its crate whole again, so none
-of them has one; and each crate that is listed is there."""
+"""docs/slow-crates.txt lists the crates that have no must-fail edit because they take above 15 seconds to prove: an edit proves its
+crate whole again. None of them has one, and each is there."""
 
 from __future__ import annotations
 

@@ -115,5 +115,5 @@ pub cases : map fresh scripts ≡
     heard (opened ++ (calls 0x01 0 0x41 ∷ calls 0x88 0 0 ∷ calls 0x01 0 0x61 ∷ [])) (0 ∷ 2 ∷ []) blank ∷
     heard (opened ++ (calls 0x01 0 0x01 ∷ calls 0x88 0 0 ∷ [])) (0 ∷ 2 ∷ []) blank ∷
     heard (opened ++ (calls 0x01 0 5 ∷ [])) (0 ∷ 1 ∷ []) (1 ∷ 0 ∷ 0 ∷ []) ∷ []
-unfolding modes rowOf shapeOf countOf cellOf withCell filled reduced scrolled keys.keys keys-to.entryOf keys-to.answerOf keys-to.translateOf keyboard.obeyed keyboard.struckBy keyboard.getOf editor-acts.plainOf editor-acts.actOf editor.newRow editor.openOf editor.lessOf editor.moreOf editor.clearOf editor.backOf editor.onward editor.dataOf editor.doing editor.putOf editor-get.heldOf editor-get.endOf editor-get.getAt editor-get.getOf graphics.onward graphics.startOf graphics.openOf graphics.getOf graphics.clearOf graphics.dataOf graphics.putOf openE openS openOf prepareE prepareS prepareOf readE readS readK readOf writeE writeS writeOf deviceOf numberOf namedOf specificationOf offersOf bytesAt fetchStatus fetchReply commandOf wayOf areaPlan transferPlan blockPlan nameOf callPlan planIn planOf loadStatus getOne putOne getCharacters dropLine getRecord putCharacters putRecord getting putting transferred leftE leftS leftK consoleLeft thenOf openedOf aloneOpening aloneTransfer aloneWork loaded aloneErrand alonePlan aloneOf
+unfolding modes rowOf shapeOf countOf cellOf withCell filled reduced scrolled keys.keys keys-to.entryOf keys-to.keyAnswer keys-to.translateOf keyboard.obeyed keyboard.struckBy keyboard.getOf editor-acts.plainOf editor-acts.actOf editor.newRow editor.openOf editor.lessOf editor.moreOf editor.clearOf editor.backOf editor.onward editor.dataOf editor.doing editor.putOf editor-get.cellsHeld editor-get.endOf editor-get.getAt editor-get.getOf graphics.onward graphics.cellsOpened graphics.openOf graphics.getOf graphics.clearOf graphics.dataOf graphics.putOf openE openS openOf prepareE prepareS prepareOf readE readS readK readOf writeE writeS writeOf deviceOf numberOf namedOf specificationOf offersOf bytesAt fetchStatus fetchReply commandOf wayOf areaPlan transferPlan blockPlan nameOf callPlan planIn planOf loadStatus getOne putOne getCharacters dropLine getRecord putCharacters putRecord getting putting transferred leftE leftS leftK consoleLeft thenOf openedOf aloneOpening aloneTransfer aloneWork loaded aloneErrand alonePlan aloneOf
 cases = refl

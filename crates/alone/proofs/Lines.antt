@@ -24,7 +24,7 @@ use Rattle.keys.proofs.Keeps as keys-keeps
 use Rattle.cells.specs.Modes.{shapeOf}
 use Rattle.cells.proofs.Shapes.{shape-good}
 use Rattle.editor.specs.Text.{Text, cellAt}
-use Rattle.editor.specs.Get.{columnOf, heldOf, endOf, getAt}
+use Rattle.editor.specs.Get.{columnOf, cellsHeld, endOf, getAt}
 use Rattle.editor.specs.Get as editor
 use Rattle.graphics.specs.declared.Graphics.{Graphics}
 use Rattle.graphics.specs.Picture.{onward, withLast, placed}
@@ -61,11 +61,11 @@ no-character : (status byte : ℕ) → got.Refused status ≡ got.Character byte
 no-character status byte e = let z : _≡_ {A = ℕ} 0 1 = cc in omega arith
 
 -- ---- E
-held-le : (cells : List ℕ) (place n : ℕ) → heldOf cells place n ≤ n
-unfolding heldOf
+held-le : (cells : List ℕ) (place n : ℕ) → cellsHeld cells place n ≤ n
+unfolding cellsHeld
 held-le cells place zero = omega arith
 held-le cells place (suc n) =
-    choose-eq (λ (m : ℕ). m ≤ suc n) (getD cells (place + n) 0) 0x20 (λ u. heldOf cells place n) (λ u. suc n)
+    choose-eq (λ (m : ℕ). m ≤ suc n) (getD cells (place + n) 0) 0x20 (λ u. cellsHeld cells place n) (λ u. suc n)
     (λ e. le-trans (held-le cells place n) (omega arith)) (λ e. omega arith)
 
 abbrev leftText : Text → ℕ

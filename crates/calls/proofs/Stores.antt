@@ -6,7 +6,7 @@ use mathlib.Core.List.{List, _++_}
 use Prim.Native.Nat.{ℕ, _+_, _-_, _*_, _<_, _≤_}
 use native.Mathlib.Omega.{arith}
 use lib.Dec.{ltb}
-use lib.ListN.{length, take, drop}
+use lib.ListN.{length, take, drop, take-append-drop}
 use lib.Seq.{sets}
 use Rattle.base.specs.Choice.{pick, choose}
 use Rattle.base.specs.Parts.{part}
@@ -15,6 +15,7 @@ use Rattle.blocks.specs.declared.ControlBlock.{ControlBlock}
 use Rattle.blocks.specs.declared.Header.{Header}
 use Rattle.blocks.specs.declared.Run.{Run}
 use Rattle.blocks.specs.declared.Phase.{Phase}
+use Rattle.blocks.specs.declared.Phase.the-variants.{Running}
 use Rattle.blocks.specs.Blocks.{blockAt}
 use Rattle.blocks.specs.Opening.{areaLength}
 use Rattle.wire.specs.declared.Message.{Message}
@@ -29,7 +30,9 @@ use Rattle.plan.specs.declared.Job.{Job}
 use Rattle.plan.specs.declared.Plan.{Plan}
 use Rattle.plan.specs.declared.Plan.the-variants as plan
 use Rattle.plan.specs.Plan.{planIn, iocbOf, groupNeeded}
-use Rattle.transfer.specs.Transfer.{Out, InPort, inPort, landed}
+use Rattle.transfer.specs.declared.Next.{Next}
+use Rattle.transfer.specs.declared.Next.the-variants.{On}
+use Rattle.transfer.specs.Transfer.{Out, outOf, InPort, inPort, landed}
 use Rattle.cio.specs.Start.{Begun, begun, Freed, freed, errandOf, jobBegun}
 use Rattle.cio.specs.Move.{Went, went, advanceOf}
 use Rattle.calls.specs.Bytes.{Buffers, buffers, Left, left, leftAlone}
@@ -52,6 +55,23 @@ module _ (port : ℕ) (state : List ℕ) (r : Rooms port state) where
       → state′ ≡ landOn port out state
   unfolding landOn
   land-law out room state′ phase l q e = in-port (landed out (roomIn port state)) room state′ phase l (q ∙ ap (landed out) (lent-part (roomPlace port) roomLength state)) e
+
+  -- the room, written back as it was
+  room-kept : sets state (roomPlace port) (roomIn port state) ≡ state
+  room-kept =
+      sym (back (roomPlace port) roomLength (roomIn port state) state (part-length (roomPlace port) roomLength state room-fits) room-fits)
+      ∙ ap (λ (l : List ℕ). take (roomPlace port) state ++ l) (take-append-drop roomLength (drop (roomPlace port) state))
+      ∙ take-append-drop (roomPlace port) state
+
+  -- of a request that goes on only the phase changes
+  pub land-goes : (next : Next) (run : Run) (state′ : List ℕ) → next ≡ On run → state′ ≡ sets state (phasePlace port) (phaseBytes (Running run)) → state′ ≡ landOn port (outOf next) state
+  unfolding landOn
+  land-goes next run state′ e q =
+      q ∙ ap (λ (m : List ℕ). sets m (phasePlace port) (phaseBytes (Running run))) (sym room-kept)
+      ∙ ap (λ (x : Next). withInPort port (landed (outOf x) (roomIn port state)) state) (sym e)
+
+  pub land-ends : (next off : Next) (state′ : List ℕ) → next ≡ off → state′ ≡ landOn port (outOf off) state → state′ ≡ landOn port (outOf next) state
+  land-ends next off state′ e q = q ∙ ap (λ (x : Next). landOn port (outOf x) state) (sym e)
 
   pub waits-law : (p : Plan) (other : Phase) (g h : Group) (t : Bool) → other ≡ phaseIn (drop (phasePlace (1 - port)) state) → g ≡ groupNeeded p → h ≡ heldOf other → t ≡ clash g h → t ≡ waitsOn port p state
   unfolding waitsOn

@@ -199,8 +199,8 @@ module _ (b : Buffers) (s : AfterFresh b) where
   pub started-stands : leaves ≡ standsFor b
   started-stands = sym (read-back leaves leaves-typed leaves-sound) ∙ ap standsFor leaves-is
 
-  pub started-is : sticks.Started (standsFor b)
-  started-is = subst sticks.Started started-stands (record {
+  pub started-is : sticks.StartedFresh (standsFor b)
+  started-is = subst sticks.StartedFresh started-stands (record {
     before = freshStick;
     borrowed = lentBy (s .before);
     zero = ap (λ (o : Outcome). o .answer) done;

@@ -147,6 +147,10 @@ use Rattle.blocks.proofs.offers.Reads as blocks-offers-reads
 use Rattle.blocks.proofs.Decided as blocks
 use Rattle.wire.proofs.field_is_good.Kinds as wire-field-is-good-kinds
 use Rattle.wire.proofs.field_is_good.Reads as wire-field-is-good-reads
+use Rattle.wire.proofs.goes_on.Kinds as wire-goes-on-kinds
+use Rattle.wire.proofs.goes_on.Reads as wire-goes-on-reads
+use Rattle.wire.proofs.value.Kinds as wire-value-kinds
+use Rattle.wire.proofs.value.Reads as wire-value-reads
 use Rattle.wire.proofs.take.Kinds as wire-take-kinds
 use Rattle.wire.proofs.take.Reads as wire-take-reads
 use Rattle.wire.proofs.message_of.Kinds as wire-message-of-kinds
@@ -189,6 +193,10 @@ use Rattle.reading.proofs.reply.Reads as reading-reply-reads
 use Rattle.reading.proofs.Decided as reading
 use Rattle.writing.proofs.block.Kinds as writing-block-kinds
 use Rattle.writing.proofs.block.Reads as writing-block-reads
+use Rattle.writing.proofs.gather.Kinds as writing-gather-kinds
+use Rattle.writing.proofs.gather.Reads as writing-gather-reads
+use Rattle.writing.proofs.run.Kinds as writing-run-kinds
+use Rattle.writing.proofs.run.Reads as writing-run-reads
 use Rattle.writing.proofs.phase.Kinds as writing-phase-kinds
 use Rattle.writing.proofs.phase.Reads as writing-phase-reads
 use Rattle.writing.proofs.port.Kinds as writing-port-kinds
@@ -202,6 +210,10 @@ use Rattle.ports.proofs.phase_of.Kinds as ports-phase-of-kinds
 use Rattle.ports.proofs.phase_of.Reads as ports-phase-of-reads
 use Rattle.ports.proofs.set_phase.Kinds as ports-set-phase-kinds
 use Rattle.ports.proofs.set_phase.Reads as ports-set-phase-reads
+use Rattle.ports.proofs.set_gather.Kinds as ports-set-gather-kinds
+use Rattle.ports.proofs.set_gather.Reads as ports-set-gather-reads
+use Rattle.ports.proofs.set_run.Kinds as ports-set-run-kinds
+use Rattle.ports.proofs.set_run.Reads as ports-set-run-reads
 use Rattle.ports.proofs.block_of.Kinds as ports-block-of-kinds
 use Rattle.ports.proofs.block_of.Reads as ports-block-of-reads
 use Rattle.ports.proofs.set_block.Kinds as ports-set-block-kinds
@@ -422,6 +434,8 @@ blocks-decided =
 pub wire-decided : Promises
 wire-decided =
     promise 0 wire-field-is-good-kinds.ps wire-field-is-good-kinds.r wire-field-is-good-reads.Pre wire-field-is-good-reads.Learnt wire.field-is-good-decides wire.field-is-good-allows (
+    promise 0 wire-goes-on-kinds.ps wire-goes-on-kinds.r wire-goes-on-reads.Pre wire-goes-on-reads.Learnt wire.goes-on-decides wire.goes-on-allows (
+    promise 1 wire-value-kinds.ps wire-value-kinds.r wire-value-reads.Pre wire-value-reads.Learnt wire.value-decides wire.value-allows (
     promise 1 wire-take-kinds.ps wire-take-kinds.r wire-take-reads.Pre wire-take-reads.Learnt wire.take-decides wire.take-allows (
     promise 1 wire-message-of-kinds.ps wire-message-of-kinds.r wire-message-of-reads.Pre wire-message-of-reads.Learnt wire.message-of-decides wire.message-of-allows (
     promise 1 wire-give-kinds.ps wire-give-kinds.r wire-give-reads.Pre wire-give-reads.Learnt wire.give-decides wire.give-allows (
@@ -430,7 +444,7 @@ wire-decided =
     promise 1 wire-status-reply-kinds.ps wire-status-reply-kinds.r wire-status-reply-reads.Pre wire-status-reply-reads.Learnt wire.status-reply-decides wire.status-reply-allows (
     promise 2 wire-fetch-reply-kinds.ps wire-fetch-reply-kinds.r wire-fetch-reply-reads.Pre wire-fetch-reply-reads.Learnt wire.fetch-reply-decides wire.fetch-reply-allows (
     promise 0 wire-gather-fits-kinds.ps wire-gather-fits-kinds.r wire-gather-fits-reads.Pre wire-gather-fits-reads.Learnt wire.gather-fits-decides wire.gather-fits-allows (
-    promise 0 wire-reply-fits-kinds.ps wire-reply-fits-kinds.r wire-reply-fits-reads.Pre wire-reply-fits-reads.Learnt wire.reply-fits-decides wire.reply-fits-allows blocks-decided)))))))))
+    promise 0 wire-reply-fits-kinds.ps wire-reply-fits-kinds.r wire-reply-fits-reads.Pre wire-reply-fits-reads.Learnt wire.reply-fits-decides wire.reply-fits-allows blocks-decided)))))))))))
 
 pub reading-decided : Promises
 reading-decided =
@@ -448,15 +462,19 @@ reading-decided =
 pub writing-decided : Promises
 writing-decided =
     promise 1 writing-block-kinds.ps writing-block-kinds.r writing-block-reads.Pre writing-block-reads.Learnt writing.block-decides writing.block-allows (
+    promise 1 writing-gather-kinds.ps writing-gather-kinds.r writing-gather-reads.Pre writing-gather-reads.Learnt writing.gather-decides writing.gather-allows (
+    promise 1 writing-run-kinds.ps writing-run-kinds.r writing-run-reads.Pre writing-run-reads.Learnt writing.run-decides writing.run-allows (
     promise 1 writing-phase-kinds.ps writing-phase-kinds.r writing-phase-reads.Pre writing-phase-reads.Learnt writing.phase-decides writing.phase-allows (
     promise 1 writing-port-kinds.ps writing-port-kinds.r writing-port-reads.Pre writing-port-reads.Learnt writing.port-decides writing.port-allows (
     promise 1 writing-console-kinds.ps writing-console-kinds.r writing-console-reads.Pre writing-console-reads.Learnt writing.console-decides writing.console-allows (
-    promise 1 writing-printer-kinds.ps writing-printer-kinds.r writing-printer-reads.Pre writing-printer-reads.Learnt writing.printer-decides writing.printer-allows reading-decided))))
+    promise 1 writing-printer-kinds.ps writing-printer-kinds.r writing-printer-reads.Pre writing-printer-reads.Learnt writing.printer-decides writing.printer-allows reading-decided))))))
 
 pub ports-decided : Promises
 ports-decided =
     promise 1 ports-phase-of-kinds.ps ports-phase-of-kinds.r ports-phase-of-reads.Pre ports-phase-of-reads.Learnt ports.phase-of-decides ports.phase-of-allows (
     promise 1 ports-set-phase-kinds.ps ports-set-phase-kinds.r ports-set-phase-reads.Pre ports-set-phase-reads.Learnt ports.set-phase-decides ports.set-phase-allows (
+    promise 1 ports-set-gather-kinds.ps ports-set-gather-kinds.r ports-set-gather-reads.Pre ports-set-gather-reads.Learnt ports.set-gather-decides ports.set-gather-allows (
+    promise 1 ports-set-run-kinds.ps ports-set-run-kinds.r ports-set-run-reads.Pre ports-set-run-reads.Learnt ports.set-run-decides ports.set-run-allows (
     promise 1 ports-block-of-kinds.ps ports-block-of-kinds.r ports-block-of-reads.Pre ports-block-of-reads.Learnt ports.block-of-decides ports.block-of-allows (
     promise 1 ports-set-block-kinds.ps ports-set-block-kinds.r ports-set-block-reads.Pre ports-set-block-reads.Learnt ports.set-block-decides ports.set-block-allows (
     promise 1 ports-set-port-kinds.ps ports-set-port-kinds.r ports-set-port-reads.Pre ports-set-port-reads.Learnt ports.set-port-decides ports.set-port-allows (
@@ -464,7 +482,7 @@ ports-decided =
     promise 1 ports-gather-of-kinds.ps ports-gather-of-kinds.r ports-gather-of-reads.Pre ports-gather-of-reads.Learnt ports.gather-of-decides ports.gather-of-allows (
     promise 1 ports-header-of-kinds.ps ports-header-of-kinds.r ports-header-of-reads.Pre ports-header-of-reads.Learnt ports.header-of-decides ports.header-of-allows (
     promise 1 ports-run-of-kinds.ps ports-run-of-kinds.r ports-run-of-reads.Pre ports-run-of-reads.Learnt ports.run-of-decides ports.run-of-allows (
-    promise 1 ports-reply-of-kinds.ps ports-reply-of-kinds.r ports-reply-of-reads.Pre ports-reply-of-reads.Learnt ports.reply-of-decides ports.reply-of-allows writing-decided)))))))))
+    promise 1 ports-reply-of-kinds.ps ports-reply-of-kinds.r ports-reply-of-reads.Pre ports-reply-of-reads.Learnt ports.reply-of-decides ports.reply-of-allows writing-decided)))))))))))
 
 pub transfer-decided : Promises
 transfer-decided =

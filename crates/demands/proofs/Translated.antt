@@ -11,41 +11,41 @@ use Rattle.base.proofs.Choices.{pick-go, and-right, by-test}
 use Rattle.base.proofs.Table.{upto, on, anywhere}
 use Rattle.keys.specs.Table as table
 use Rattle.keys.specs.Table.{keyAt}
-use Rattle.keys.specs.Translation.{letter, numberOf, entryOf, answerOf, translateOf}
+use Rattle.keys.specs.Translation.{letter, entryNumber, entryOf, keyAnswer, translateOf}
 use Rattle.demands.specs.Told.{TranslateCall, codeAsked, lockAsked, inverseAsked, translation}
 use Rattle.demands.specs.Demand1.{KnownLock, TranslateAnswers}
 
 -- an entry of the table that is no number has a character under either inverse
 abbrev small : ℕ → ℕ → Bool
-small entry inverse = or (within 0x80 0x85 entry) (ltb (answerOf entry inverse) 256)
+small entry inverse = or (within 0x80 0x85 entry) (ltb (keyAnswer entry inverse) 256)
 
 small-table : (place : ℕ) → T (upto (small (keyAt place)) 0 2)
-unfolding answerOf table.keys
+unfolding keyAnswer table.keys
 small-table = anywhere (λ (entry : ℕ). upto (small entry) 0 2) 0x80 tt table.keys 0 tt
 
 or-second : (a b : Bool) → T (or a b) → a ≡ false → T b
 or-second true b t e = absurd (true≢false e)
 or-second false b t e = t
 
-key-small : (place inverse : ℕ) → inverse ≤ 1 → within 0x80 0x85 (keyAt place) ≡ false → answerOf (keyAt place) inverse < 256
+key-small : (place inverse : ℕ) → inverse ≤ 1 → within 0x80 0x85 (keyAt place) ≡ false → keyAnswer (keyAt place) inverse < 256
 key-small place inverse h e =
-    ltb→lt (answerOf (keyAt place) inverse) 256
+    ltb→lt (keyAnswer (keyAt place) inverse) 256
     (or-second (within 0x80 0x85 (keyAt place)) _
     (on (small (keyAt place)) 0 2 (small-table place) inverse (omega arith) (omega arith)) e)
 
 entry-small : (code lock inverse : ℕ) → inverse ≤ 1 → within 0x80 0x85 (entryOf code lock) ≡ false
-    → answerOf (entryOf code lock) inverse < 256
+    → keyAnswer (entryOf code lock) inverse < 256
 unfolding entryOf
 entry-small code lock inverse h =
-    pick-go (λ (e : ℕ). within 0x80 0x85 e ≡ false → answerOf e inverse < 256) (and (ltb code 64) (letter (keyAt code))) _ _
+    pick-go (λ (e : ℕ). within 0x80 0x85 e ≡ false → keyAnswer e inverse < 256) (and (ltb code 64) (letter (keyAt code))) _ _
     (λ t. key-small (code + 64 * lock) inverse h)
     (λ t. key-small code inverse h)
 
-entry-number : (entry inverse : ℕ) → within 0x80 0x85 entry ≡ true → answerOf entry inverse ≡ numberOf entry
-unfolding answerOf
+entry-number : (entry inverse : ℕ) → within 0x80 0x85 entry ≡ true → keyAnswer entry inverse ≡ entryNumber entry
+unfolding keyAnswer
 entry-number entry inverse e = rw e
 
-number-low : (entry : ℕ) → within 0x80 0x85 entry ≡ true → numberOf entry ≤ 261
+number-low : (entry : ℕ) → within 0x80 0x85 entry ≡ true → entryNumber entry ≤ 261
 number-low entry e = omega (arith, within-most entry e)
   where
     within-most : (entry : ℕ) → within 0x80 0x85 entry ≡ true → entry ≤ 0x85
@@ -53,14 +53,14 @@ number-low entry e = omega (arith, within-most entry e)
 
 module _ (code lock inverse : ℕ) where
   asked-is : KnownLock lock inverse
-      → translateOf code lock inverse ≡ pick (ltb 0xBF code) 256 (answerOf (entryOf code lock) inverse)
+      → translateOf code lock inverse ≡ pick (ltb 0xBF code) 256 (keyAnswer (entryOf code lock) inverse)
   unfolding translateOf
   asked-is a = rw (le-ltb 2 lock (a .lock-known), le-ltb 1 inverse (a .inverse-known))
 
   past-is : KnownLock lock inverse → 0xBF < code → translateOf code lock inverse ≡ 256
   past-is a h = asked-is a ∙ rw (lt-ltb 0xBF code h)
 
-  entry-is : KnownLock lock inverse → code ≤ 0xBF → translateOf code lock inverse ≡ answerOf (entryOf code lock) inverse
+  entry-is : KnownLock lock inverse → code ≤ 0xBF → translateOf code lock inverse ≡ keyAnswer (entryOf code lock) inverse
   entry-is a h = asked-is a ∙ rw (le-ltb 0xBF code h)
 
   below-262 : KnownLock lock inverse → translateOf code lock inverse < 262

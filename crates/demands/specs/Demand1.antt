@@ -11,7 +11,7 @@ use borrow.Fn.Kind.{PK, RK}
 use borrow.Fn.Kinds.{In, Out, Dens}
 use Rattle.base.specs.Choice.{within}
 use Rattle.base.specs.Decides.{Allows}
-use Rattle.keys.specs.Translation.{entryOf, answerOf}
+use Rattle.keys.specs.Translation.{entryOf, keyAnswer}
 use Rattle.layout.specs.Stick.{Stick, Lent}
 use Rattle.layout.specs.Stands.{stands}
 use Rattle.calls.specs.Bytes.{Buffers, stickBy, lentBy}
@@ -78,4 +78,4 @@ pub record TranslateAnswers (code lock inverse answer : ℕ) : Type 0 where
       → answer ≡ 256 + (entryOf code lock - 0x80)
   -- "the character"
   pub character : KnownLock lock inverse → code ≤ 0xBF → within 0x80 0x85 (entryOf code lock) ≡ false
-      → (answer ≡ answerOf (entryOf code lock) inverse) × (answer < 256)
+      → (answer ≡ keyAnswer (entryOf code lock) inverse) × (answer < 256)

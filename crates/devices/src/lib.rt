@@ -1,4 +1,4 @@
-// The devices: the one place that knows which there are. Each act of a handler is one function with one match; an arm reads and
+// The devices: the one crate that calls a handler. Each act of a handler is one function with one match; an arm reads and
 // writes its own group's numbers, which are a part of the lent state, and is lent its own group's buffer alone. What an act does
 // not change is written back as it was read, so that one law serves every arm.
 pub mod fresh;

@@ -16,7 +16,7 @@ use Rattle.cells.specs.Cells.{Whole, placeOf, filled, scrolled}
 use Rattle.cells.proofs.Parts.{filled-length, scrolled-length}
 use Rattle.editor.specs.Decide.{actOf}
 use Rattle.editor.specs.Text.{Text, text, placed, withLast, unread, withEscape, moveTo, cellAt, newRow, openOf, lessOf, moreOf, clearOf, backOf, onward, dataOf, doing, putOf}
-use Rattle.editor.specs.Get.{columnOf, heldOf, endOf, readOn, getAt, getOf}
+use Rattle.editor.specs.Get.{columnOf, cellsHeld, endOf, readOn, getAt, getOf}
 use Rattle.editor.specs.Fit.{FitReading, FitEditor, FitText}
 use Rattle.editor.specs.declared.decide.Act.{Act}
 use Rattle.editor.specs.declared.decide.Act.the-variants.{Escape, Up, Down, Left, Right, Clear, Back, NewRow, Nothing, Data}
@@ -128,11 +128,11 @@ pub open-fit : (t : Text) → Whole (t .cells) → FitText (openOf t)
 unfolding openOf
 open-fit t w = record { editor = record { row = omega arith; low = omega arith; high = omega arith; reading = tt }; whole = blank-whole (t .cells) w }
 
-held-le : (cells : List ℕ) (place n : ℕ) → heldOf cells place n ≤ n
-unfolding heldOf
+held-le : (cells : List ℕ) (place n : ℕ) → cellsHeld cells place n ≤ n
+unfolding cellsHeld
 held-le cells place zero = omega arith
 held-le cells place (suc n) =
-    choose-eq (λ (m : ℕ). m ≤ suc n) (getD cells (place + n) 0) 0x20 (λ u. heldOf cells place n) (λ u. suc n)
+    choose-eq (λ (m : ℕ). m ≤ suc n) (getD cells (place + n) 0) 0x20 (λ u. cellsHeld cells place n) (λ u. suc n)
     (λ e. le-trans (held-le cells place n) (omega arith)) (λ e. omega arith)
 
 end-le : (row : ℕ) (cells : List ℕ) → endOf row cells ≤ 40

@@ -19,13 +19,13 @@ columnOf Dropped = 2
 columnOf (At column) = column
 
 -- of the n cells from this place on, how many there are up to the last that does not hold $20
-unfoldable pub heldOf : List ℕ → (place n : ℕ) → ℕ
-heldOf cells place zero = 0
-heldOf cells place (suc n) = choose (eqb (getD cells (place + n) 0) 0x20) (λ u. heldOf cells place n) (λ u. suc n)
+unfoldable pub cellsHeld : List ℕ → (place n : ℕ) → ℕ
+cellsHeld cells place zero = 0
+cellsHeld cells place (suc n) = choose (eqb (getD cells (place + n) 0) 0x20) (λ u. cellsHeld cells place n) (λ u. suc n)
 
 -- one past "the row's last column of 2 to 39 not holding $20", and 2 where all hold it
 unfoldable pub endOf : (row : ℕ) → List ℕ → ℕ
-endOf row cells = heldOf cells (cellAt row 2) 38 + 2
+endOf row cells = cellsHeld cells (cellAt row 2) 38 + 2
 
 -- the next column is read, and this character is the last
 abbrev pub readOn : (column cell : ℕ) → Editor → Editor

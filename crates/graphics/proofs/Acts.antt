@@ -14,7 +14,7 @@ use Rattle.handler.specs.Answer.{answer}
 use Rattle.cells.specs.declared.Shape.{Shape}
 use Rattle.cells.specs.Modes.{shapeOf}
 use Rattle.cells.specs.Cells.{cellOf, withCell, filled, reduced}
-use Rattle.graphics.specs.Picture.{Picture, picture, placed, withLast, onward, startOf, inMode, openOf, pastLastRow, getOf, clearOf, dataOf, putOf}
+use Rattle.graphics.specs.Picture.{Picture, picture, placed, withLast, onward, cellsOpened, inMode, openOf, pastLastRow, getOf, clearOf, dataOf, putOf}
 use Rattle.graphics.specs.declared.Graphics.{Graphics}
 
 module _ (g r : Graphics) (shape : Shape) (s : shape ≡ shapeOf (g .mode)) where
@@ -27,12 +27,12 @@ module _ (g r : Graphics) (shape : Shape) (s : shape ≡ shapeOf (g .mode)) wher
   on-next h q = q ∙ rw (← s, le-ltb (g .column + 1) (shape .columns) h)
 
 module _ (mode aux1 : ℕ) (cells t : List ℕ) where
-  pub start-kept : aux1 / 32 % 2 ≡ 1 → t ≡ reduced mode cells → t ≡ startOf mode aux1 cells
-  unfolding startOf
+  pub start-kept : aux1 / 32 % 2 ≡ 1 → t ≡ reduced mode cells → t ≡ cellsOpened mode aux1 cells
+  unfolding cellsOpened
   start-kept h q = q ∙ rw (eq-eqb (aux1 / 32 % 2) 1 h)
 
-  pub start-zero : (aux1 / 32 % 2 ≡ 1 → ⊥) → t ≡ filled mode 0 cells → t ≡ startOf mode aux1 cells
-  unfolding startOf
+  pub start-zero : (aux1 / 32 % 2 ≡ 1 → ⊥) → t ≡ filled mode 0 cells → t ≡ cellsOpened mode aux1 cells
+  unfolding cellsOpened
   start-zero h q = q ∙ rw (ne-eqb (aux1 / 32 % 2) 1 h)
 
 module _ (aux1 aux2 : ℕ) (g : Graphics) (cells t : List ℕ) where
@@ -49,7 +49,7 @@ module _ (aux1 aux2 : ℕ) (g : Graphics) (cells t : List ℕ) where
     unfolding openOf
     open-high k l = rw (ne-eqb (aux1 / 16 % 2) 1 h, le-leb 3 aux2 k, lt-leb aux2 8 l)
 
-    pub open-law : 3 ≤ aux2 → aux2 ≤ 8 → t ≡ startOf aux2 aux1 cells → answer Success (picture (inMode aux2 g) t) ≡ openOf aux1 aux2 (picture g cells)
+    pub open-law : 3 ≤ aux2 → aux2 ≤ 8 → t ≡ cellsOpened aux2 aux1 cells → answer Success (picture (inMode aux2 g) t) ≡ openOf aux1 aux2 (picture g cells)
     unfolding openOf
     open-law k l q = rw (ne-eqb (aux1 / 16 % 2) 1 h, le-leb 3 aux2 k, le-leb aux2 8 l, q)
 

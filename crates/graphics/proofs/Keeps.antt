@@ -18,7 +18,7 @@ use Rattle.handler.specs.Answer.{Answer, answer}
 use Rattle.cells.specs.Modes.{modes, rowOf, shapeOf}
 use Rattle.cells.specs.Cells.{Whole, filled, reduced, withCell}
 use Rattle.cells.proofs.Parts.{filled-length, reduced-length}
-use Rattle.graphics.specs.Picture.{Picture, picture, placed, withLast, onward, startOf, inMode, openOf, getOf, clearOf, dataOf, putOf}
+use Rattle.graphics.specs.Picture.{Picture, picture, placed, withLast, onward, cellsOpened, inMode, openOf, getOf, clearOf, dataOf, putOf}
 use Rattle.graphics.specs.Fit.{FitGraphics, FitPicture}
 use Rattle.graphics.specs.declared.Graphics.{Graphics}
 
@@ -48,8 +48,8 @@ module _ (g : Graphics) (m : within 3 8 (g .mode) ≡ true) where
 filled-whole : (mode byte : ℕ) (s : List ℕ) → Whole s → Whole (filled mode byte s)
 filled-whole mode byte s w = record { all = filled-length mode s w byte ∙ w .all }
 
-start-whole : (mode aux1 : ℕ) (s : List ℕ) → Whole s → Whole (startOf mode aux1 s)
-unfolding startOf
+start-whole : (mode aux1 : ℕ) (s : List ℕ) → Whole s → Whole (cellsOpened mode aux1 s)
+unfolding cellsOpened
 start-whole mode aux1 s w =
     choose-go Whole (bit 32 aux1) (λ u. reduced mode s) (λ u. filled mode 0 s)
     (λ e. record { all = reduced-length mode s w ∙ w .all }) (λ e. filled-whole mode 0 s w)
@@ -66,14 +66,14 @@ or-false false false e = absurd (subst T e tt)
 -- an opening is refused and changes nothing, or succeeds in one of S's modes
 module _ (aux1 aux2 : ℕ) (p : Picture) (P : Answer Done Picture → Type 0) where
   pub open-either : P (answer (Refused 0x91) p)
-      → (within 3 8 aux2 ≡ true → P (answer Success (picture (inMode aux2 (p .graphics)) (startOf aux2 aux1 (p .cells)))))
+      → (within 3 8 aux2 ≡ true → P (answer Success (picture (inMode aux2 (p .graphics)) (cellsOpened aux2 aux1 (p .cells)))))
       → P (openOf aux1 aux2 p)
   unfolding openOf
   open-either q r =
       choose-go P (or (bit 16 aux1) (not (within 3 8 aux2))) _ _ (λ e. q) (λ e. r (or-false (bit 16 aux1) (within 3 8 aux2) e))
 
 -- an opened screen is in range whatever it was
-pub opened-fit : (aux1 aux2 : ℕ) (p : Picture) → within 3 8 aux2 ≡ true → Whole (p .cells) → FitPicture (picture (inMode aux2 (p .graphics)) (startOf aux2 aux1 (p .cells)))
+pub opened-fit : (aux1 aux2 : ℕ) (p : Picture) → within 3 8 aux2 ≡ true → Whole (p .cells) → FitPicture (picture (inMode aux2 (p .graphics)) (cellsOpened aux2 aux1 (p .cells)))
 opened-fit aux1 aux2 p m w = record { graphics = record { mode = m; row = omega arith; column = some-columns aux2 m }; whole = start-whole aux2 aux1 (p .cells) w }
 
 pub get-fit : (cells : List ℕ) (g : Graphics) → FitGraphics g → FitGraphics (getOf cells g .leaves)

@@ -34,8 +34,8 @@ unfoldable pub onward : Graphics → Graphics
 onward g = pick (ltb (g .column + 1) (shapeOf (g .mode) .columns)) (placed (g .row) (g .column + 1) g) (placed (g .row + 1) 0 g)
 
 -- "Bit 5 clear zeroes the mode's cells; set takes each modulo the colours. Cells past the mode stay."
-unfoldable pub startOf : (mode aux1 : ℕ) → List ℕ → List ℕ
-startOf mode aux1 cells = choose (bit 32 aux1) (λ u. reduced mode cells) (λ u. filled mode 0 cells)
+unfoldable pub cellsOpened : (mode aux1 : ℕ) → List ℕ → List ℕ
+cellsOpened mode aux1 cells = choose (bit 32 aux1) (λ u. reduced mode cells) (λ u. filled mode 0 cells)
 
 -- in this mode, with the cursor at (0,0)
 abbrev pub inMode : ℕ → Graphics → Graphics
@@ -46,7 +46,7 @@ unfoldable pub openOf : (aux1 aux2 : ℕ) → Picture → Answer Done Picture
 openOf aux1 aux2 p =
     choose (or (bit 16 aux1) (not (within 3 8 aux2)))
     (λ u. answer (Refused 0x91) p)
-    (λ u. answer Success (picture (inMode aux2 (p .graphics)) (startOf aux2 aux1 (p .cells))))
+    (λ u. answer Success (picture (inMode aux2 (p .graphics)) (cellsOpened aux2 aux1 (p .cells))))
 
 -- the cursor stands past the last row
 abbrev pub pastLastRow : Graphics → Bool

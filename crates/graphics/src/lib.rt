@@ -5,7 +5,7 @@ ghost use mathlib.Core.Path.{_≡_};
 ghost use Prim.Native.Nat.{_<_};
 ghost use Rattle.handler.specs.Answer.{answer};
 ghost use Rattle.cells.specs.Cells.{Whole};
-ghost use Rattle.graphics.specs.Picture.{picture, placed, onward, startOf, openOf, getOf, clearOf, dataOf, putOf};
+ghost use Rattle.graphics.specs.Picture.{picture, placed, onward, cellsOpened, openOf, getOf, clearOf, dataOf, putOf};
 
 pub struct Graphics {
     pub mode: u8,
@@ -55,7 +55,7 @@ fn move_on(graphics: Graphics) -> Graphics
 // The cells of a mode as its opening leaves them.
 fn start(screen: &mut [u8], mode: u8, aux1: u8)
     requires { ⌜ Whole (now screen) ⌝ }
-    ensures { λ _. ⌜ now (screen .exit) ≡ startOf mode aux1 (now (screen .entry)) ⌝ }
+    ensures { λ _. ⌜ now (screen .exit) ≡ cellsOpened mode aux1 (now (screen .entry)) ⌝ }
 {
     if aux1 / 32 % 2 == 1 {
         cells::reduce(screen, mode);

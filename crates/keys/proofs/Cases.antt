@@ -6,7 +6,7 @@ use Prim.Native.Nat.{ℕ}
 use Rattle.handler.specs.declared.Got.{Got}
 use Rattle.handler.specs.declared.Got.the-variants.{Character, Refused}
 use Rattle.keys.specs.Table.{keys}
-use Rattle.keys.specs.Translation.{entryOf, answerOf, translateOf}
+use Rattle.keys.specs.Translation.{entryOf, keyAnswer, translateOf}
 use Rattle.keys.specs.Keyboard.{freshKeyboard, pressOf, obeyed, struckBy, getOf}
 use Rattle.keys.specs.declared.keyboard.Keyboard.{Keyboard}
 
@@ -33,7 +33,7 @@ pub keyboard-cases : map (typed freshKeyboard) scripts
     ∷ (Refused 0x88 ∷ Refused 0x88 ∷ [])
     ∷ (Refused 0x88 ∷ Character 0xC1 ∷ Character 0x1B ∷ Refused 0x88 ∷ Character 0x41 ∷ [])
     ∷ []
-unfolding keys entryOf answerOf translateOf obeyed struckBy getOf
+unfolding keys entryOf keyAnswer translateOf obeyed struckBy getOf
 keyboard-cases = refl
 
 -- a call of `translate`
@@ -62,5 +62,5 @@ calls =
 
 pub translate-cases : map (λ (c : Call). translateOf (c .code) (c .lock) (c .inverse)) calls
     ≡ 0x61 ∷ 0x41 ∷ 0x01 ∷ 0xC1 ∷ 0x1B ∷ 258 ∷ 261 ∷ 0x01 ∷ 256 ∷ 262 ∷ 262 ∷ []
-unfolding keys entryOf answerOf translateOf
+unfolding keys entryOf keyAnswer translateOf
 translate-cases = refl

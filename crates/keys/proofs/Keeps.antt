@@ -9,7 +9,7 @@ use Rattle.base.proofs.Choices.{pick-go, pick-eq, pick-lt}
 use Rattle.handler.specs.Answer.{Answer, answer}
 use Rattle.handler.specs.declared.Got.{Got}
 use Rattle.handler.specs.declared.Got.the-variants.{Character, Refused}
-use Rattle.keys.specs.Translation.{numberOf, translateOf}
+use Rattle.keys.specs.Translation.{entryNumber, translateOf}
 use Rattle.keys.specs.Keyboard.{freshKeyboard, pressOf, emptied, withLock, flipped, obeyed, struckBy, getOf}
 use Rattle.keys.specs.Fit.{FitKeys}
 use Rattle.keys.specs.declared.keyboard.Keyboard.{Keyboard}
@@ -42,10 +42,10 @@ module _ (P : Keyboard → Type 0) (k : Keyboard) where
   obeyed-either : (n : ℕ) → P (flipped k) → ((lock : ℕ) → lock ≤ 2 → P (withLock k lock)) → P k → P (obeyed n k)
   unfolding obeyed
   obeyed-either n p q r =
-      pick-go P (eqb n (numberOf 0x81)) _ _ (λ t. p)
-      (λ t. pick-go P (eqb n (numberOf 0x82)) _ _ (λ t. q 0 (omega arith))
-      (λ t. pick-go P (eqb n (numberOf 0x83)) _ _ (λ t. q 1 (omega arith))
-      (λ t. pick-go P (eqb n (numberOf 0x84)) _ _ (λ t. q 2 (omega arith)) (λ t. r))))
+      pick-go P (eqb n (entryNumber 0x81)) _ _ (λ t. p)
+      (λ t. pick-go P (eqb n (entryNumber 0x82)) _ _ (λ t. q 0 (omega arith))
+      (λ t. pick-go P (eqb n (entryNumber 0x83)) _ _ (λ t. q 1 (omega arith))
+      (λ t. pick-go P (eqb n (entryNumber 0x84)) _ _ (λ t. q 2 (omega arith)) (λ t. r))))
 
 pub get-fit : (k : Keyboard) → FitKeys k → FitKeys (getOf k .leaves)
 get-fit k f =

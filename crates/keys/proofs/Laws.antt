@@ -14,7 +14,7 @@ use Rattle.base.proofs.Table.{both, both-left, both-right, upto, on}
 use Rattle.handler.specs.Answer.{answer}
 use Rattle.handler.specs.declared.Got.the-variants.{Character, Refused}
 use Rattle.keys.specs.Table.{keys, keyAt}
-use Rattle.keys.specs.Translation.{fixed, numberOf, entryOf, answerOf, translateOf}
+use Rattle.keys.specs.Translation.{fixed, entryNumber, entryOf, keyAnswer, translateOf}
 use Rattle.keys.specs.Keyboard.{emptied, obeyed, struckBy, getOf}
 use Rattle.keys.specs.declared.keyboard.Keyboard.{Keyboard}
 
@@ -83,20 +83,20 @@ abbrev pub kind : Bool → Bool → ℕ → Bool
 kind none kept entry = both (is none (within 0x80 0x85 entry)) (is kept (fixed entry))
 
 pub answer-on : (none kept : Bool) (lo n : ℕ) → T (upto (kind none kept) lo n) → (entry inverse : ℕ) → lo ≤ entry → entry < lo + n
-    → pick none (numberOf entry) (pick kept entry (entry + 0x80 * inverse)) ≡ answerOf entry inverse
-unfolding answerOf
+    → pick none (entryNumber entry) (pick kept entry (entry + 0x80 * inverse)) ≡ keyAnswer entry inverse
+unfolding keyAnswer
 answer-on none kept lo n t entry inverse h k =
     let u = on (kind none kept) lo n t entry h k in
     let p : none ≡ within 0x80 0x85 entry = is-eq none (within 0x80 0x85 entry) (both-left (is none (within 0x80 0x85 entry)) (is kept (fixed entry)) u) in
     let q : kept ≡ fixed entry = is-eq kept (fixed entry) (both-right (is none (within 0x80 0x85 entry)) (is kept (fixed entry)) u) in
-    ap (λ (b : Bool). pick b (numberOf entry) (pick kept entry (entry + 0x80 * inverse))) p
-    ∙ ap (λ (b : Bool). pick (within 0x80 0x85 entry) (numberOf entry) (pick b entry (entry + 0x80 * inverse))) q
+    ap (λ (b : Bool). pick b (entryNumber entry) (pick kept entry (entry + 0x80 * inverse))) p
+    ∙ ap (λ (b : Bool). pick (within 0x80 0x85 entry) (entryNumber entry) (pick b entry (entry + 0x80 * inverse))) q
 
 pub translate-entry : (code lock inverse entry r : ℕ) → lock ≤ 2 → inverse ≤ 1 → code ≤ 0xBF
-    → entry ≡ entryOf code lock → r ≡ answerOf entry inverse → r ≡ translateOf code lock inverse
+    → entry ≡ entryOf code lock → r ≡ keyAnswer entry inverse → r ≡ translateOf code lock inverse
 unfolding translateOf
 translate-entry code lock inverse entry r h k l p q =
-    q ∙ ap (λ (e : ℕ). answerOf e inverse) p ∙ simp (le-ltb 2 lock h, le-ltb 1 inverse k, le-ltb 0xBF code l)
+    q ∙ ap (λ (e : ℕ). keyAnswer e inverse) p ∙ simp (le-ltb 2 lock h, le-ltb 1 inverse k, le-ltb 0xBF code l)
 
 -- the effect of a number is what it is of the number that it is equal to
 pub obey-at : (number n : ℕ) (k r : Keyboard) → number ≡ n → r ≡ obeyed n k → r ≡ obeyed number k

@@ -10,24 +10,24 @@ use Rattle.base.specs.Choice.{and, or}
 use Rattle.base.proofs.Choices.{pick-go}
 use Rattle.base.proofs.Table.{upto, on, anywhere}
 use Rattle.keys.specs.Table.{keys, keyAt}
-use Rattle.keys.specs.Translation.{letter, entryOf, answerOf, translateOf}
+use Rattle.keys.specs.Translation.{letter, entryOf, keyAnswer, translateOf}
 
 -- an entry's answer under an inverse of 0 or 1
 within-261 : ℕ → ℕ → Bool
-within-261 entry inverse = leb (answerOf entry inverse) 261
+within-261 entry inverse = leb (keyAnswer entry inverse) 261
 
 whole-table : (place : ℕ) → T (upto (within-261 (keyAt place)) 0 2)
-unfolding within-261 answerOf keys
+unfolding within-261 keyAnswer keys
 whole-table = anywhere (λ (entry : ℕ). upto (within-261 entry) 0 2) 0x80 tt keys 0 tt
 
-key-range : (place inverse : ℕ) → inverse ≤ 1 → answerOf (keyAt place) inverse ≤ 261
+key-range : (place inverse : ℕ) → inverse ≤ 1 → keyAnswer (keyAt place) inverse ≤ 261
 unfolding within-261
 key-range place inverse h = leb→le _ 261 (on (within-261 (keyAt place)) 0 2 (whole-table place) inverse (omega arith) (omega arith))
 
-entry-range : (code lock inverse : ℕ) → inverse ≤ 1 → answerOf (entryOf code lock) inverse ≤ 261
+entry-range : (code lock inverse : ℕ) → inverse ≤ 1 → keyAnswer (entryOf code lock) inverse ≤ 261
 unfolding entryOf
 entry-range code lock inverse h =
-    pick-go (λ (e : ℕ). answerOf e inverse ≤ 261) (and (ltb code 64) (letter (keyAt code))) _ _
+    pick-go (λ (e : ℕ). keyAnswer e inverse ≤ 261) (and (ltb code 64) (letter (keyAt code))) _ _
     (λ t. key-range (code + 64 * lock) inverse h)
     (λ t. key-range code inverse h)
 

@@ -6,7 +6,7 @@ use Rattle.base.specs.Choice.{pick}
 use Rattle.handler.specs.Answer.{Answer, answer}
 use Rattle.handler.specs.declared.Got.{Got}
 use Rattle.handler.specs.declared.Got.the-variants.{Character, Refused}
-use Rattle.keys.specs.Translation.{numberOf, translateOf}
+use Rattle.keys.specs.Translation.{entryNumber, translateOf}
 use Rattle.keys.specs.declared.keyboard.Keyboard.{Keyboard}
 
 -- "Fresh: .. no key, shift lock, inverse off"
@@ -31,10 +31,10 @@ flipped k = record { code = k .code; lock = k .lock; inverse = pick (eqb (k .inv
 -- "$80 none, $81 flip inverse, $82 unlock, $83 shift lock, $84 control lock, $85 end of file", by the number of each
 unfoldable pub obeyed : ℕ → Keyboard → Keyboard
 obeyed number k =
-    pick (eqb number (numberOf 0x81)) (flipped k)
-    (pick (eqb number (numberOf 0x82)) (withLock k 0)
-    (pick (eqb number (numberOf 0x83)) (withLock k 1)
-    (pick (eqb number (numberOf 0x84)) (withLock k 2) k)))
+    pick (eqb number (entryNumber 0x81)) (flipped k)
+    (pick (eqb number (entryNumber 0x82)) (withLock k 0)
+    (pick (eqb number (entryNumber 0x83)) (withLock k 1)
+    (pick (eqb number (entryNumber 0x84)) (withLock k 2) k)))
 
 -- "Empty, above $BF, or no character: $88": no translation from 256 on is a character
 unfoldable pub struckBy : ℕ → Keyboard → Answer Got Keyboard

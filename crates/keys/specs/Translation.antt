@@ -31,17 +31,17 @@ fixed character =
     (or (within 0x9B 0x9F character) (within 0xFD 0xFF character)))
 
 -- "256 to 261 for entries $80 to $85"
-abbrev pub numberOf : ℕ → ℕ
-numberOf entry = 256 + (entry - 0x80)
+abbrev pub entryNumber : ℕ → ℕ
+entryNumber entry = 256 + (entry - 0x80)
 
 -- "Answer: the character; 256 to 261 for entries $80 to $85"
-unfoldable pub answerOf : (entry inverse : ℕ) → ℕ
-answerOf entry inverse =
-    pick (within 0x80 0x85 entry) (numberOf entry)
+unfoldable pub keyAnswer : (entry inverse : ℕ) → ℕ
+keyAnswer entry inverse =
+    pick (within 0x80 0x85 entry) (entryNumber entry)
     (pick (fixed entry) entry (entry + 0x80 * inverse))
 
 -- "256 for a code above $BF; 262, first, for another lock or inverse."
 unfoldable pub translateOf : (code lock inverse : ℕ) → ℕ
 translateOf code lock inverse =
     pick (or (ltb 2 lock) (ltb 1 inverse)) 262
-    (pick (ltb 0xBF code) 256 (answerOf (entryOf code lock) inverse))
+    (pick (ltb 0xBF code) 256 (keyAnswer (entryOf code lock) inverse))

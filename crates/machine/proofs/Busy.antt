@@ -50,7 +50,7 @@ busyNumbers =
     ++ replicate 7 0
 
 pub machine-answers : answers real (coreOf real) busyCalls first ≡ busyNumbers
-unfolding after feed fedOf goodField senseOf badStatus messageOf errandStep planStep moveBy keys.keys keys-to.entryOf keys-to.answerOf keys-to.translateOf keyboard.obeyed keyboard.struckBy keyboard.getOf printer.putOf openE openOf prepareE prepareOf readE readK readOf writeE writeOf deviceOf numberOf namedOf specificationOf offersOf bytesAt fetchStatus fetchReply moves.getOf moves.putOf moves.goOf moves.advanceOf commandOf wayOf areaPlan transferPlan blockPlan nameOf callPlan planIn planOf loadedOf loadStatus thenOf openedOf openingOf transferOf workOf onwardOf recordOf gotCharacter gotOf sentByte sentRecord sentNext sentOf loaded
+unfolding after feed fedOf goodField senseOf badStatus messageOf errandStep planStep moveBy keys.keys keys-to.entryOf keys-to.keyAnswer keys-to.translateOf keyboard.obeyed keyboard.struckBy keyboard.getOf printer.putOf openE openOf prepareE prepareOf readE readK readOf writeE writeOf deviceOf numberOf namedOf specificationOf offersOf bytesAt fetchStatus fetchReply moves.getOf moves.putOf moves.goOf moves.advanceOf commandOf wayOf areaPlan transferPlan blockPlan nameOf callPlan planIn planOf loadedOf loadStatus thenOf openedOf openingOf transferOf workOf onwardOf recordOf gotCharacter gotOf sentByte sentRecord sentNext sentOf loaded
 machine-answers = refl
 
 abbrev pub machineEnd : State real (coreOf real)
@@ -58,15 +58,15 @@ machineEnd = after real (coreOf real) busyCalls (begin real (coreOf real) first)
 
 -- two characters and one on the paper, both ports gathering
 pub machine-used : machineEnd .world .devs .printer .used ≡ 3
-unfolding after feed fedOf goodField senseOf badStatus messageOf errandStep planStep moveBy keys.keys keys-to.entryOf keys-to.answerOf keys-to.translateOf keyboard.obeyed keyboard.struckBy keyboard.getOf printer.putOf openE openOf prepareE prepareOf readE readK readOf writeE writeOf deviceOf numberOf namedOf specificationOf offersOf bytesAt fetchStatus fetchReply moves.getOf moves.putOf moves.goOf moves.advanceOf commandOf wayOf areaPlan transferPlan blockPlan nameOf callPlan planIn planOf loadedOf loadStatus thenOf openedOf openingOf transferOf workOf onwardOf recordOf gotCharacter gotOf sentByte sentRecord sentNext sentOf loaded
+unfolding after feed fedOf goodField senseOf badStatus messageOf errandStep planStep moveBy keys.keys keys-to.entryOf keys-to.keyAnswer keys-to.translateOf keyboard.obeyed keyboard.struckBy keyboard.getOf printer.putOf openE openOf prepareE prepareOf readE readK readOf writeE writeOf deviceOf numberOf namedOf specificationOf offersOf bytesAt fetchStatus fetchReply moves.getOf moves.putOf moves.goOf moves.advanceOf commandOf wayOf areaPlan transferPlan blockPlan nameOf callPlan planIn planOf loadedOf loadStatus thenOf openedOf openingOf transferOf workOf onwardOf recordOf gotCharacter gotOf sentByte sentRecord sentNext sentOf loaded
 machine-used = refl
 
 pub machine-0 : phaseAt real port-0 (machineEnd .world) ≡ gathering nothingYet
-unfolding after feed fedOf goodField senseOf badStatus messageOf errandStep planStep moveBy keys.keys keys-to.entryOf keys-to.answerOf keys-to.translateOf keyboard.obeyed keyboard.struckBy keyboard.getOf printer.putOf openE openOf prepareE prepareOf readE readK readOf writeE writeOf deviceOf numberOf namedOf specificationOf offersOf bytesAt fetchStatus fetchReply moves.getOf moves.putOf moves.goOf moves.advanceOf commandOf wayOf areaPlan transferPlan blockPlan nameOf callPlan planIn planOf loadedOf loadStatus thenOf openedOf openingOf transferOf workOf onwardOf recordOf gotCharacter gotOf sentByte sentRecord sentNext sentOf loaded
+unfolding after feed fedOf goodField senseOf badStatus messageOf errandStep planStep moveBy keys.keys keys-to.entryOf keys-to.keyAnswer keys-to.translateOf keyboard.obeyed keyboard.struckBy keyboard.getOf printer.putOf openE openOf prepareE prepareOf readE readK readOf writeE writeOf deviceOf numberOf namedOf specificationOf offersOf bytesAt fetchStatus fetchReply moves.getOf moves.putOf moves.goOf moves.advanceOf commandOf wayOf areaPlan transferPlan blockPlan nameOf callPlan planIn planOf loadedOf loadStatus thenOf openedOf openingOf transferOf workOf onwardOf recordOf gotCharacter gotOf sentByte sentRecord sentNext sentOf loaded
 machine-0 = refl
 
 pub machine-1 : phaseAt real port-1 (machineEnd .world) ≡ gathering nothingYet
-unfolding after feed fedOf goodField senseOf badStatus messageOf errandStep planStep moveBy keys.keys keys-to.entryOf keys-to.answerOf keys-to.translateOf keyboard.obeyed keyboard.struckBy keyboard.getOf printer.putOf openE openOf prepareE prepareOf readE readK readOf writeE writeOf deviceOf numberOf namedOf specificationOf offersOf bytesAt fetchStatus fetchReply moves.getOf moves.putOf moves.goOf moves.advanceOf commandOf wayOf areaPlan transferPlan blockPlan nameOf callPlan planIn planOf loadedOf loadStatus thenOf openedOf openingOf transferOf workOf onwardOf recordOf gotCharacter gotOf sentByte sentRecord sentNext sentOf loaded
+unfolding after feed fedOf goodField senseOf badStatus messageOf errandStep planStep moveBy keys.keys keys-to.entryOf keys-to.keyAnswer keys-to.translateOf keyboard.obeyed keyboard.struckBy keyboard.getOf printer.putOf openE openOf prepareE prepareOf readE readK readOf writeE writeOf deviceOf numberOf namedOf specificationOf offersOf bytesAt fetchStatus fetchReply moves.getOf moves.putOf moves.goOf moves.advanceOf commandOf wayOf areaPlan transferPlan blockPlan nameOf callPlan planIn planOf loadedOf loadStatus thenOf openedOf openingOf transferOf workOf onwardOf recordOf gotCharacter gotOf sentByte sentRecord sentNext sentOf loaded
 machine-1 = refl
 
 -- port 1 is given the key's character, and its own counts
@@ -76,5 +76,5 @@ busyGiven =
     0x90 ∷ 4 ∷ 0 ∷ 1 ∷ 0 ∷ 0 ∷ 0x41 ∷ 0x90 ∷ 4 ∷ 0 ∷ 1 ∷ 1 ∷ 0 ∷ 0 ∷ []
 
 pub machine-given : machineEnd .seen .port .first .given ≡ busyGiven
-unfolding after feed fedOf goodField senseOf badStatus messageOf errandStep planStep moveBy keys.keys keys-to.entryOf keys-to.answerOf keys-to.translateOf keyboard.obeyed keyboard.struckBy keyboard.getOf printer.putOf openE openOf prepareE prepareOf readE readK readOf writeE writeOf deviceOf numberOf namedOf specificationOf offersOf bytesAt fetchStatus fetchReply moves.getOf moves.putOf moves.goOf moves.advanceOf commandOf wayOf areaPlan transferPlan blockPlan nameOf callPlan planIn planOf loadedOf loadStatus thenOf openedOf openingOf transferOf workOf onwardOf recordOf gotCharacter gotOf sentByte sentRecord sentNext sentOf loaded
+unfolding after feed fedOf goodField senseOf badStatus messageOf errandStep planStep moveBy keys.keys keys-to.entryOf keys-to.keyAnswer keys-to.translateOf keyboard.obeyed keyboard.struckBy keyboard.getOf printer.putOf openE openOf prepareE prepareOf readE readK readOf writeE writeOf deviceOf numberOf namedOf specificationOf offersOf bytesAt fetchStatus fetchReply moves.getOf moves.putOf moves.goOf moves.advanceOf commandOf wayOf areaPlan transferPlan blockPlan nameOf callPlan planIn planOf loadedOf loadStatus thenOf openedOf openingOf transferOf workOf onwardOf recordOf gotCharacter gotOf sentByte sentRecord sentNext sentOf loaded
 machine-given = refl

@@ -119,7 +119,7 @@ outcomes =
     heard (opened ++ calls 0x01 0 5) (0 ∷ 1 ∷ []) (1 ∷ 0 ∷ 0 ∷ []) ∷ []
 
 machine-cases : map machinePlays scripts ≡ outcomes
-unfolding after feed fedOf goodField senseOf badStatus messageOf errandStep planStep moveBy keys.keys keys-to.entryOf keys-to.answerOf keys-to.translateOf keyboard.obeyed keyboard.struckBy keyboard.getOf printer.putOf openE openOf prepareE prepareOf readE readK readOf writeE writeOf deviceOf numberOf namedOf specificationOf offersOf bytesAt fetchStatus fetchReply moves.getOf moves.putOf moves.goOf moves.advanceOf commandOf wayOf areaPlan transferPlan blockPlan nameOf callPlan planIn planOf loadedOf loadStatus thenOf openedOf openingOf transferOf workOf onwardOf recordOf gotCharacter gotOf sentByte sentRecord sentNext sentOf loaded modes rowOf shapeOf countOf cellOf withCell filled reduced scrolled editor-acts.plainOf editor-acts.actOf editor.newRow editor.openOf editor.lessOf editor.moreOf editor.clearOf editor.backOf editor.onward editor.dataOf editor.doing editor.putOf editor-get.heldOf editor-get.endOf editor-get.getAt editor-get.getOf graphics.onward graphics.startOf graphics.openOf graphics.getOf graphics.clearOf graphics.dataOf graphics.putOf openS prepareS readS writeS
+unfolding after feed fedOf goodField senseOf badStatus messageOf errandStep planStep moveBy keys.keys keys-to.entryOf keys-to.keyAnswer keys-to.translateOf keyboard.obeyed keyboard.struckBy keyboard.getOf printer.putOf openE openOf prepareE prepareOf readE readK readOf writeE writeOf deviceOf numberOf namedOf specificationOf offersOf bytesAt fetchStatus fetchReply moves.getOf moves.putOf moves.goOf moves.advanceOf commandOf wayOf areaPlan transferPlan blockPlan nameOf callPlan planIn planOf loadedOf loadStatus thenOf openedOf openingOf transferOf workOf onwardOf recordOf gotCharacter gotOf sentByte sentRecord sentNext sentOf loaded modes rowOf shapeOf countOf cellOf withCell filled reduced scrolled editor-acts.plainOf editor-acts.actOf editor.newRow editor.openOf editor.lessOf editor.moreOf editor.clearOf editor.backOf editor.onward editor.dataOf editor.doing editor.putOf editor-get.cellsHeld editor-get.endOf editor-get.getAt editor-get.getOf graphics.onward graphics.cellsOpened graphics.openOf graphics.getOf graphics.clearOf graphics.dataOf graphics.putOf openS prepareS readS writeS
 machine-cases = refl
 
 -- the five calls play what the machine plays

@@ -43,7 +43,7 @@ use Rattle.rules.proofs.FreshStart.{fresh-done, fresh-guarded}
 use Rattle.rules.proofs.Answers as answers
 use Rattle.rules.proofs.NeverDamaged as never
 use Rattle.machine.specs.Real.{pressedOn, FitAll, real}
-use Rattle.machine.specs.Sticks.{World, phaseSeen, portSeen, seen, portNumber, answerBy, outcomeOf, called, Started, sticks, Sound}
+use Rattle.machine.specs.Sticks.{World, phaseSeen, portSeen, seen, portNumber, answerBy, outcomeOf, called, StartedFresh, sticks, Sound}
 use Rattle.machine.specs.Course.{CourseRule}
 use Rattle.machine.proofs.Lawful.{lawful}
 use Rattle.machine.proofs.Course.{course}
@@ -264,7 +264,7 @@ module _ (s : Stick) (l : Lent) where
   call-refused (calls.press code) r = ap worldOf (press-still s l code (not-zero done (λ z. z) (pressCall s l code .answer) r))
 
 -- a fresh start that gives 0
-module _ (w : World) (b : Started w) where
+module _ (w : World) (b : StartedFresh w) where
   borrowed-long : LengthsFit (b .borrowed)
   borrowed-long = fresh-answers (b .before) (b .borrowed) .done .0 (b .zero)
 

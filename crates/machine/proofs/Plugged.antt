@@ -17,7 +17,7 @@ use Rattle.serial.proofs.Tested.{allOk, all-ok}
 use Rattle.serial.proofs.WrongCores.{Calls, with-call}
 use Rattle.rules.proofs.FreshStart.{fresh-done}
 use Rattle.machine.specs.Real.{real}
-use Rattle.machine.specs.Sticks.{World, Started, seen, sticks}
+use Rattle.machine.specs.Sticks.{World, StartedFresh, seen, sticks}
 use Rattle.machine.proofs.Linked.{fresh-seen, fresh-begins}
 
 abbrev pub zeros : Lent
@@ -34,7 +34,7 @@ zeros-fit = record {
 abbrev pub plugged : World
 plugged = record { stick = freshStick; buffers = freshLent zeros }
 
-pub plugged-started : Started plugged
+pub plugged-started : StartedFresh plugged
 plugged-started =
     let e = fresh-done zeros zeros-fit freshStick in
     record { before = freshStick; borrowed = zeros; zero = ap (λ (o : Outcome). o .answer) e; stick = ap (λ (o : Outcome). o .stick) e; buffers = ap (λ (o : Outcome). o .lent) e }

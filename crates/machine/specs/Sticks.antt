@@ -83,7 +83,7 @@ abbrev pub called : Call real → World → Effect real World
 called c w = let o = outcomeOf c w in effectBy (success c o) o
 
 -- "after one fresh start that gives 0", whatever state and buffers held before
-pub record Started (w : World) : Type 0 where
+pub record StartedFresh (w : World) : Type 0 where
   pub before : Stick
   pub borrowed : Lent
   pub zero : freshCall before borrowed .answer ≡ 0
@@ -91,7 +91,7 @@ pub record Started (w : World) : Type 0 where
   pub buffers : freshCall before borrowed .lent ≡ w .buffers
 
 abbrev pub sticks : Core real
-sticks = record { World = World; Fresh = Started; call = called; see = seen }
+sticks = record { World = World; Fresh = StartedFresh; call = called; see = seen }
 
 -- undamaged, and each lent buffer of its length: what every call tests first
 abbrev pub Sound : World → Type 0

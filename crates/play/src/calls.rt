@@ -1,6 +1,6 @@
 // The stick's calls, and what is written for each.
-use crate::lengths::Lengths;
-use crate::ops::Call;
+use crate::lengths::LentLengths;
+use crate::ops::Operation;
 use crate::say;
 use layout::places;
 use stick::Answered;
@@ -48,39 +48,39 @@ fn ticks(
 }
 
 fn perform(
-    call: Call,
+    call: Operation,
     state: &mut [u8],
     area: &mut [u8],
     screen: &mut [u8],
     paper: &mut [u8],
 ) -> Answered {
     match call {
-        Call::Fresh => stick::fresh(state, area, screen, paper),
-        Call::Take(port, byte) => stick::take(state, area, screen, paper, port, byte),
-        Call::Tick(port) => stick::tick(state, area, screen, paper, port),
-        Call::Give(port) => stick::give(state, area, screen, paper, port),
-        Call::Press(code) => stick::press(state, area, screen, paper, code),
-        Call::Ticks(port, most) => ticks(state, area, screen, paper, port, most),
+        Operation::Fresh => stick::fresh(state, area, screen, paper),
+        Operation::Take(port, byte) => stick::take(state, area, screen, paper, port, byte),
+        Operation::Tick(port) => stick::tick(state, area, screen, paper, port),
+        Operation::Give(port) => stick::give(state, area, screen, paper, port),
+        Operation::Press(code) => stick::press(state, area, screen, paper, code),
+        Operation::Ticks(port, most) => ticks(state, area, screen, paper, port, most),
     }
 }
 
 // A call's answer, and the reply byte if it asks for one.
-fn write(call: Call, answered: Answered) {
+fn write(call: Operation, answered: Answered) {
     say::byte(answered.answer);
     match call {
-        Call::Fresh => {}
-        Call::Take(port, byte) => {}
-        Call::Tick(port) => {}
-        Call::Give(port) => say::byte(answered.byte),
-        Call::Press(code) => {}
-        Call::Ticks(port, most) => {}
+        Operation::Fresh => {}
+        Operation::Take(port, byte) => {}
+        Operation::Tick(port) => {}
+        Operation::Give(port) => say::byte(answered.byte),
+        Operation::Press(code) => {}
+        Operation::Ticks(port, most) => {}
     }
 }
 
 // A call that is lent the first bytes of each buffer, at most its whole.
 pub fn perform_cut(
-    call: Call,
-    lengths: Lengths,
+    call: Operation,
+    lengths: LentLengths,
     state: &mut [u8],
     area: &mut [u8],
     screen: &mut [u8],

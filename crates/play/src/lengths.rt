@@ -1,16 +1,16 @@
 // How much of each buffer is lent: its first so many bytes.
 use layout::places;
 
-pub struct Lengths {
+pub struct LentLengths {
     pub area: u32,
     pub screen: u32,
     pub paper: u32,
     pub state: u32,
 }
 
-impl Lengths {
-    pub fn whole() -> Lengths {
-        Lengths {
+impl LentLengths {
+    pub fn whole() -> LentLengths {
+        LentLengths {
             area: 2 * places::AREA as u32,
             screen: stick::SCREEN as u32,
             paper: stick::PAPER as u32,
@@ -19,7 +19,7 @@ impl Lengths {
     }
 
     // Another length for buffer 0, area; 1, screen; 2, paper; 3, state.
-    pub fn lend(self, which: u8, length: u32) -> Lengths {
+    pub fn lend(self, which: u8, length: u32) -> LentLengths {
         let mut next = self;
         match which {
             0 => {

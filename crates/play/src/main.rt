@@ -1,7 +1,7 @@
 // Plays a call script from standard input on the stick, an op at a time: each is answered on standard output before the next is
 // read. It ends with the input, with an op cut by its end, or with a byte that is no op.
 use layout::places;
-use lengths::Lengths;
+use lengths::LentLengths;
 use ops::Op;
 
 mod calls;
@@ -13,12 +13,12 @@ mod say;
 // Plays an op; how much of each buffer is lent after it.
 fn play(
     op: Op,
-    lengths: Lengths,
+    lengths: LentLengths,
     state: &mut [u8],
     area: &mut [u8],
     screen: &mut [u8],
     paper: &mut [u8],
-) -> Lengths {
+) -> LentLengths {
     match op {
         Op::End => lengths,
         Op::Lend(which, length) => lengths.lend(which, length),
@@ -26,7 +26,7 @@ fn play(
             dump::write(state, area, screen, paper);
             lengths
         }
-        Op::Call(call) => {
+        Op::Operation(call) => {
             calls::perform_cut(call, lengths, state, area, screen, paper);
             lengths
         }
@@ -44,7 +44,7 @@ fn main() {
     let screen: &mut [u8] = &mut some_screen;
     let paper: &mut [u8] = &mut some_paper;
     stick::fresh(state, area, screen, paper);
-    let mut lengths = Lengths::whole();
+    let mut lengths = LentLengths::whole();
     let mut i: u64 = 0;
     while i < u64::MAX {
         let op = ops::read();

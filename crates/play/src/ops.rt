@@ -2,7 +2,7 @@
 use libc::STDIN_FILENO;
 
 // What one of the stick's calls is asked; `Ticks` stands for as many ticks as there are while the port runs on.
-pub enum Call {
+pub enum Operation {
     Fresh,
     Take(u8, u8),
     Tick(u8),
@@ -15,7 +15,7 @@ pub enum Op {
     End,
     Lend(u8, u32),
     Dump,
-    Call(Call),
+    Operation(Operation),
 }
 
 // How many bytes an op's operands have.
@@ -42,12 +42,12 @@ fn long(low: u8, middle: u8, high: u8) -> u32 {
 // An op and its operands, as far as it has some.
 fn op_of(op: u8, first: u8, second: u8, third: u8, fourth: u8) -> Op {
     match op {
-        b'F' => Op::Call(Call::Fresh),
-        b'T' => Op::Call(Call::Take(first, second)),
-        b'K' => Op::Call(Call::Tick(first)),
-        b'G' => Op::Call(Call::Give(first)),
-        b'P' => Op::Call(Call::Press(first)),
-        b'X' => Op::Call(Call::Ticks(first, word(second, third))),
+        b'F' => Op::Operation(Operation::Fresh),
+        b'T' => Op::Operation(Operation::Take(first, second)),
+        b'K' => Op::Operation(Operation::Tick(first)),
+        b'G' => Op::Operation(Operation::Give(first)),
+        b'P' => Op::Operation(Operation::Press(first)),
+        b'X' => Op::Operation(Operation::Ticks(first, word(second, third))),
         b'L' => Op::Lend(first, long(second, third, fourth)),
         b'D' => Op::Dump,
         _ => Op::End,
@@ -80,6 +80,6 @@ pub fn ends(op: Op) -> bool {
         Op::End => true,
         Op::Lend(which, length) => false,
         Op::Dump => false,
-        Op::Call(call) => false,
+        Op::Operation(call) => false,
     }
 }

@@ -8,6 +8,10 @@ use Rattle.ports.proofs.phase_of.Kinds as phase-of-kinds
 use Rattle.ports.proofs.phase_of.Reads as phase-of-reads
 use Rattle.ports.proofs.set_phase.Kinds as set-phase-kinds
 use Rattle.ports.proofs.set_phase.Reads as set-phase-reads
+use Rattle.ports.proofs.set_gather.Kinds as set-gather-kinds
+use Rattle.ports.proofs.set_gather.Reads as set-gather-reads
+use Rattle.ports.proofs.set_run.Kinds as set-run-kinds
+use Rattle.ports.proofs.set_run.Reads as set-run-reads
 use Rattle.ports.proofs.block_of.Kinds as block-of-kinds
 use Rattle.ports.proofs.block_of.Reads as block-of-reads
 use Rattle.ports.proofs.set_block.Kinds as set-block-kinds
@@ -36,6 +40,18 @@ set-phase-decides κs a z z′ ws ws′ p e e′ = (refl, ap (λ (l : List ℕ).
 
 pub set-phase-allows : Allows 1 set-phase-kinds.ps set-phase-kinds.r set-phase-reads.Pre set-phase-reads.Learnt
 set-phase-allows κs a p = (_, (_, refl))
+
+pub set-gather-decides : Decides 1 set-gather-kinds.ps set-gather-kinds.r set-gather-reads.Pre set-gather-reads.Learnt
+set-gather-decides κs a z z′ ws ws′ p e e′ = (refl, ap (λ (l : List ℕ). (tt, (tt, (l, tt)))) (e ∙ sym e′))
+
+pub set-gather-allows : Allows 1 set-gather-kinds.ps set-gather-kinds.r set-gather-reads.Pre set-gather-reads.Learnt
+set-gather-allows κs a p = (_, (_, refl))
+
+pub set-run-decides : Decides 1 set-run-kinds.ps set-run-kinds.r set-run-reads.Pre set-run-reads.Learnt
+set-run-decides κs a z z′ ws ws′ p e e′ = (refl, ap (λ (l : List ℕ). (tt, (tt, (l, tt)))) (e ∙ sym e′))
+
+pub set-run-allows : Allows 1 set-run-kinds.ps set-run-kinds.r set-run-reads.Pre set-run-reads.Learnt
+set-run-allows κs a p = (_, (_, refl))
 
 pub block-of-decides : Decides 1 block-of-kinds.ps block-of-kinds.r block-of-reads.Pre block-of-reads.Learnt
 block-of-decides κs a z z′ ws ws′ p e e′ = (e ∙ sym e′, refl)

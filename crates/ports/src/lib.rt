@@ -77,6 +77,25 @@ pub fn set_phase(port: u8, phase: Phase, state: &mut [u8])
     writing::phase(&mut state[at..end], phase);
 }
 
+// A phase of which it is known that it gathers, or runs.
+pub fn set_gather(port: u8, gather: Gather, state: &mut [u8])
+    requires { ⌜ Reaches port (now state) ⌝ }
+    ensures { λ _. ⌜ now (state .exit) ≡ sets (now (state .entry)) (phasePlace port) (phaseBytes (Phase.Gathering gather)) ⌝ }
+{
+    let at = PORT * (port as usize);
+    let end = at + PHASE;
+    writing::gather(&mut state[at..end], gather);
+}
+
+pub fn set_run(port: u8, run: Run, state: &mut [u8])
+    requires { ⌜ Reaches port (now state) ⌝ }
+    ensures { λ _. ⌜ now (state .exit) ≡ sets (now (state .entry)) (phasePlace port) (phaseBytes (Phase.Running run)) ⌝ }
+{
+    let at = PORT * (port as usize);
+    let end = at + PHASE;
+    writing::run(&mut state[at..end], run);
+}
+
 // Where the block of an IOCB begins.
 fn block_place(port: u8, iocb: u8) -> usize
     ensures { λ r. ⌜ r ≡ blockPlace port iocb ⌝ }

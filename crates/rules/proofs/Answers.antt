@@ -29,7 +29,7 @@ use Rattle.damage.specs.Fits.{stickFits}
 use Rattle.calls.specs.Port.{Reach, Ticked, ticked, readyTick, tickPort, Served, served, takePort, givePort}
 use Rattle.calls.specs.Stick.{Outcome, outcome, refused, lengthsFit, refusalOf, LengthsFit, areaAt, roomAt, withRoom, reachAt, withReach, lentReach}
 use Rattle.calls.specs.Calls.{freshCall, guarded, takeAt, takeCall, tickAt, tickCall, giveAt, giveCall, consoleHeld, pressAt, pressCall}
-use Rattle.rules.specs.Answers.{OtherLength, Damaged, Above, Called, PortIs, Gathers, Replies, NotGathers, NotReplies, Idle, Holds, ConsoleHeld, ConsoleFree, needAt, Waits, TickDone, oneOf, FreshAnswers, FirstAnswers, TakeAnswers, TickAnswers, GiveAnswers, PressAnswers}
+use Rattle.rules.specs.Answers.{OtherLength, Damaged, Above, Unrefused, PortIs, Gathers, Replies, NotGathers, NotReplies, Idle, Holds, ConsoleHeld, ConsoleFree, needAt, Waits, TickDone, oneOf, FreshAnswers, FirstAnswers, TakeAnswers, TickAnswers, GiveAnswers, PressAnswers}
 use Rattle.rules.proofs.Guards.{fit-of, lengths-of}
 
 -- none above 8
@@ -60,7 +60,7 @@ module _ (s : Stick) (l : Lent) (call : Unit {0} → Outcome) (C : Outcome → T
   by-tests true false c two three one rest = three refl refl
   by-tests false b c two three one rest = two refl
 
-  pub by-order : (port : ℕ) → (OtherLength l → C (refused 2 s l)) → (Damaged s l → C (refused 3 s l)) → (Above s l port → C (refused 1 s l)) → (Called s l port → C (call tt))
+  pub by-order : (port : ℕ) → (OtherLength l → C (refused 2 s l)) → (Damaged s l → C (refused 3 s l)) → (Above s l port → C (refused 1 s l)) → (Unrefused s l port → C (call tt))
       → C (guarded (refusalOf s l port) s l call)
   unfolding refusalOf
   by-order port two three one rest =
@@ -100,7 +100,7 @@ module _ (s : Stick) (l : Lent) (port : ℕ) (call : Unit {0} → Outcome) (own 
   )
 
   module _ (n : ℕ) (m : Own n) where
-    rest-of : (W : Type 0) → (W → Called s l port) → (Called s l port → (call tt .answer ≡ n) ↔ W) → (guarded (refusalOf s l port) s l call .answer ≡ n) ↔ W
+    rest-of : (W : Type 0) → (W → Unrefused s l port) → (Unrefused s l port → (call tt .answer ≡ n) ↔ W) → (guarded (refusalOf s l port) s l call .answer ≡ n) ↔ W
     rest-of W k q = (
       by-order s l call (λ (o : Outcome). o .answer ≡ n → W) port
           (λ w e. let h = m (λ z. omega arith) in absurd (omega arith)) (λ w e. let h = m (λ z. omega arith) in absurd (omega arith)) (λ w e. let h = m (λ z. omega arith) in absurd (omega arith)) (λ c e. q c .0 e),

@@ -42,7 +42,7 @@ use Rattle.cio.specs.Move.{getOf, putOf, goOf, advanceOf}
 use Rattle.calls.specs.Port.{Reach, startPlan, moveRun, Ticked, ticked, readyTick, tickPort, takePort, givePort}
 use Rattle.calls.specs.Stick.{refused, areaAt, roomAt, withGroups, reachAt, withReach}
 use Rattle.calls.specs.Calls.{takeAt, takeCall, tickAt, tickCall, giveAt, giveCall, consoleHeld, pressAt, pressCall}
-use Rattle.rules.specs.Answers.{Called}
+use Rattle.rules.specs.Answers.{Unrefused}
 use Rattle.rules.specs.Ports.{otherNumber, OtherStays, OnlyOwn, OnlyPhase, OnlyKey}
 use Rattle.rules.proofs.Answers.{by-order}
 
@@ -106,7 +106,7 @@ take-table (Running run) port room byte = refl
 take-table (Replying reply) port room byte = refl
 
 module _ (s : Stick) (l : Lent) (port byte : ℕ) where
-  taken : Called s l port → OnlyOwn port s l (takeAt port s l byte)
+  taken : Unrefused s l port → OnlyOwn port s l (takeAt port s l byte)
   unfolding takeAt
   taken c =
       let t = takePort (portAt port s .phase) (portAt port s) (roomAt port l) byte in
@@ -206,7 +206,7 @@ other-reach : (port : ℕ) (r : Reach) (s : Stick) → otherAt port (withReach p
 other-reach port r s = other-port port (r .port) (withGroups (r .groups) s)
 
 module _ (s : Stick) (l : Lent) (port : ℕ) where
-  moved : Called s l port → OtherStays port s l (tickAt port s l)
+  moved : Unrefused s l port → OtherStays port s l (tickAt port s l)
   unfolding tickAt
   moved c =
       let t = tickPort port (portAt port s .phase) (heldOf (otherAt port s .phase)) (reachAt port s l) in

@@ -32,20 +32,20 @@ use Rattle.cio.specs.Start.{loadOf, errandOf, jobBegun, startOf}
 use Rattle.calls.specs.Port.{Reach, startPlan, Ticked, ticked, readyTick, tickPort}
 use Rattle.calls.specs.Stick.{Outcome, reachAt}
 use Rattle.calls.specs.Calls.{tickAt, tickCall}
-use Rattle.rules.specs.Answers.{Called, PortIs, IsReady, Holds, needAt, Waits, TickDone}
+use Rattle.rules.specs.Answers.{Unrefused, PortIs, IsReady, Holds, needAt, Waits, TickDone}
 use Rattle.rules.proofs.Answers.{never, clash-holds, by-order, tick-answers}
 use Rattle.rules.proofs.Ports.{own-port}
 
 -- "8 tick, ready, group held by the other port", with the message and the request that runs
 pub record WaitsFor (s : Stick) (l : Lent) (port : ℕ) : Type 0 where
-  pub called : Called s l port
+  pub called : Unrefused s l port
   pub header : Header
   pub run : Run
   pub ready : portAt port s .phase ≡ Ready header
   pub running : otherAt port s .phase ≡ Running run
   pub held : groupOf (run .device) ≡ needAt header port s l
 
-module _ (s : Stick) (l : Lent) (port : ℕ) (c : Called s l port) where
+module _ (s : Stick) (l : Lent) (port : ℕ) (c : Unrefused s l port) where
   for-run : (header : Header) → portAt port s .phase ≡ Ready header → (phase : Phase) → otherAt port s .phase ≡ phase → Holds phase (needAt header port s l) → WaitsFor s l port
   for-run header r (Gathering gather) e w = absurd w
   for-run header r (Ready other) e w = absurd w
@@ -120,7 +120,7 @@ module _ (s : Stick) (l : Lent) (port : ℕ) where
 
   module _ (header : Header) (ready : portAt port s .phase ≡ Ready header) where
     -- it waits only while the other port's running request holds the group that it needs
-    pub free-starts : Called s l port → (Holds (otherAt port s .phase) (needAt header port s l) → ⊥) → tickCall s l port .answer ≡ 0
+    pub free-starts : Unrefused s l port → (Holds (otherAt port s .phase) (needAt header port s l) → ⊥) → tickCall s l port .answer ≡ 0
     free-starts c f = tick-answers s l port .done .1 (record { called = c; phase = subst (TickDone s l port) (sym ready) f })
 
     -- ".. need none and never wait"
@@ -131,7 +131,7 @@ module _ (s : Stick) (l : Lent) (port : ℕ) where
       pub none-never-waits : tickCall s l port .answer ≡ 8 → ⊥
       none-never-waits e = none-free (subst (Waits s l port) ready (tick-answers s l port .waits .0 e .phase))
 
-      pub none-starts : Called s l port → tickCall s l port .answer ≡ 0
+      pub none-starts : Unrefused s l port → tickCall s l port .answer ≡ 0
       none-starts c = free-starts c none-free
 
 -- "LOAD, FETCH and refused messages need none"

@@ -34,13 +34,13 @@ pub record Above (s : Stick) (l : Lent) (port : ℕ) : Type 0 where
   pub above : 1 < port
 
 -- "the rest": none of the three
-pub record Called (s : Stick) (l : Lent) (port : ℕ) : Type 0 where
+pub record Unrefused (s : Stick) (l : Lent) (port : ℕ) : Type 0 where
   pub sound : Guarded s l
   pub has : port ≤ 1
 
 -- "the rest" by what the port does: "A port gathers, is ready, runs, replies"
 pub record PortIs (Is : Phase → Type 0) (s : Stick) (l : Lent) (port : ℕ) : Type 0 where
-  pub called : Called s l port
+  pub called : Unrefused s l port
   pub phase : Is (portAt port s .phase)
 
 abbrev pub Gathers : Phase → Type 0

@@ -18,6 +18,11 @@ pub fn take_at(port: u8, byte: u8, state: &mut [u8], area: &[u8], screen: &[u8],
     let past = room + ROOM;
     if ports::phase_number(port, state) == 0 {
         let gather = ports::gather_of(port, state);
+        if wire::goes_on(gather) {
+            let more = wire::value(gather, &mut state[room..past], byte);
+            ports::set_gather(port, more, state);
+            return 0;
+        }
         let next = wire::take(gather, &mut state[room..past], byte);
         ports::set_phase(port, next, state);
         return 0;

@@ -18,7 +18,7 @@ ghost use Rattle.calls.specs.Bytes.{buffers, left, leftOf, stickBy, lentBy};
 ghost use Rattle.calls.specs.Parts.{Called, Rooms, Halves, Going, landOn, advanceOn, planOn, waitsOn, errandOn, jobOn, startOn, readyOn};
 
 // What becomes of a request, into its port's room and phase.
-fn land_at(port: u8, next: Next, state: &mut [u8])
+fn end_at(port: u8, next: Next, state: &mut [u8])
     requires { ⌜ Rooms port (now state) ⌝ }
     ensures { λ _. ⌜ now (state .exit) ≡ landOn port (outOf next) (now (state .entry)) ⌝ }
 {
@@ -26,6 +26,17 @@ fn land_at(port: u8, next: Next, state: &mut [u8])
     let past = room + ROOM;
     let phase = transfer::land(next, &mut state[room..past]);
     ports::set_phase(port, phase, state);
+}
+
+// The same; of one that goes on only the phase changes.
+fn land_at(port: u8, next: Next, state: &mut [u8])
+    requires { ⌜ Rooms port (now state) ⌝ }
+    ensures { λ _. ⌜ now (state .exit) ≡ landOn port (outOf next) (now (state .entry)) ⌝ }
+{
+    match next {
+        Next::On(run) => ports::set_run(port, run, state),
+        Next::Off(status, count, a) => end_at(port, next, state),
+    }
 }
 
 // A running request moves one character.

@@ -8,9 +8,9 @@ use Rattle.blocks.specs.declared.Phase.{Phase}
 use Rattle.blocks.specs.declared.Phase.the-variants.{Gathering, Ready, Running, Replying}
 use Rattle.wire.specs.declared.Message.{Message}
 use Rattle.wire.specs.declared.Message.the-variants as says
-use Rattle.wire.specs.Messages.{roomLength, goodField, Gathered, afterOf, keptOf, takeOf, dataOf, senseOf, badStatus, messageOf}
+use Rattle.wire.specs.Messages.{roomLength, goodField, Gathered, afterOf, keptOf, takeOf, loadData, senseOf, badStatus, messageOf}
 use Rattle.wire.specs.Replies.{callReply, statusReply, bytesAt, fetchStatus, fetchReply}
-use Rattle.wire.specs.Spelling.{takes, begun}
+use Rattle.wire.specs.Spelling.{takes, noneTaken}
 
 -- what a port's bytes say, once they are a whole message
 pub data Heard : Type 0 where
@@ -27,7 +27,7 @@ heard g = from (g .phase)
     from (Replying reply) = nothing
 
 abbrev sent : List ℕ → Gathered
-sent bytes = takes (begun (replicate roomLength 0xAA)) bytes
+sent bytes = takes (noneTaken (replicate roomLength 0xAA)) bytes
 
 -- cases 1 and 2; a FETCH; an unknown tag without value; LOAD of length 2; a message that lacks a byte
 pub messages :
@@ -51,7 +51,7 @@ messages = refl
 
 -- case 1's data in the room; a bad field's value is dropped
 pub rooms :
-    dataOf 3 (sent (0x11 ∷ 5 ∷ 0 ∷ 0 ∷ 0 ∷ 0x45 ∷ 0x3A ∷ 0x9B ∷ []) .room) ∷ take 2 (sent (0x77 ∷ 2 ∷ 0 ∷ 1 ∷ 2 ∷ []) .room) ∷ []
+    loadData 3 (sent (0x11 ∷ 5 ∷ 0 ∷ 0 ∷ 0 ∷ 0x45 ∷ 0x3A ∷ 0x9B ∷ []) .room) ∷ take 2 (sent (0x77 ∷ 2 ∷ 0 ∷ 1 ∷ 2 ∷ []) .room) ∷ []
     ≡ (0x45 ∷ 0x3A ∷ 0x9B ∷ []) ∷ (0xAA ∷ 0xAA ∷ []) ∷ []
 unfolding takeOf afterOf keptOf goodField
 rooms = refl

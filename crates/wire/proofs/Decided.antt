@@ -4,10 +4,18 @@ use mathlib.Core.Path.{refl, sym, _∙_, ap}
 use mathlib.Core.List.{List}
 use Prim.Native.Nat.{ℕ}
 use Rattle.base.specs.Decides.{Decides, Allows}
-use Rattle.wire.specs.Messages.{Gathered}
+use Rattle.blocks.specs.declared.Gather.{Gather}
+use Rattle.blocks.specs.declared.Phase.{Phase}
+use Rattle.blocks.specs.declared.Phase.the-variants.{Gathering, Ready, Running, Replying}
+use Rattle.wire.specs.Messages.{Gathered, gatherOf}
+use Rattle.wire.proofs.Laws.{value-is}
 use Rattle.wire.specs.Replies.{Replied}
 use Rattle.wire.proofs.field_is_good.Kinds as field-is-good-kinds
 use Rattle.wire.proofs.field_is_good.Reads as field-is-good-reads
+use Rattle.wire.proofs.goes_on.Kinds as goes-on-kinds
+use Rattle.wire.proofs.goes_on.Reads as goes-on-reads
+use Rattle.wire.proofs.value.Kinds as value-kinds
+use Rattle.wire.proofs.value.Reads as value-reads
 use Rattle.wire.proofs.take.Kinds as take-kinds
 use Rattle.wire.proofs.take.Reads as take-reads
 use Rattle.wire.proofs.message_of.Kinds as message-of-kinds
@@ -32,6 +40,26 @@ field-is-good-decides κs a z z′ ws ws′ p e e′ = (e ∙ sym e′, refl)
 
 pub field-is-good-allows : Allows 0 field-is-good-kinds.ps field-is-good-kinds.r field-is-good-reads.Pre field-is-good-reads.Learnt
 field-is-good-allows κs a p = (_, (_, refl))
+
+pub goes-on-decides : Decides 0 goes-on-kinds.ps goes-on-kinds.r goes-on-reads.Pre goes-on-reads.Learnt
+goes-on-decides κs a z z′ ws ws′ p e e′ = (e ∙ sym e′, refl)
+
+pub goes-on-allows : Allows 0 goes-on-kinds.ps goes-on-kinds.r goes-on-reads.Pre goes-on-reads.Learnt
+goes-on-allows κs a p = (_, (_, refl))
+
+-- what a gathering phase gathers
+abbrev gathering : Phase → Gather
+gathering (Gathering gather) = gather
+gathering (Ready header) = gatherOf 0 0 0
+gathering (Running run) = gatherOf 0 0 0
+gathering (Replying reply) = gatherOf 0 0 0
+
+pub value-decides : Decides 1 value-kinds.ps value-kinds.r value-reads.Pre value-reads.Learnt
+value-decides κs a z z′ ws ws′ p e e′ =
+    (ap (λ (o : Gathered). gathering (o .phase)) (e ∙ sym e′), ap (λ (o : Gathered). (tt, (o .room, (tt, tt)))) (e ∙ sym e′))
+
+pub value-allows : Allows 1 value-kinds.ps value-kinds.r value-reads.Pre value-reads.Learnt
+value-allows κs a p = (_, (_, value-is _ p _ _ _ refl))
 
 pub take-decides : Decides 1 take-kinds.ps take-kinds.r take-reads.Pre take-reads.Learnt
 take-decides κs a z z′ ws ws′ p e e′ = (ap (λ (o : Gathered). o .phase) (e ∙ sym e′), ap (λ (o : Gathered). (tt, (o .room, (tt, tt)))) (e ∙ sym e′))

@@ -3,20 +3,20 @@
 use mathlib.Core.Path.{_≡_, _∙_}
 use mathlib.Core.Bool.{Bool, true, false}
 use mathlib.Core.List.{List}
-use Prim.Native.Nat.{ℕ, _+_, _-_, _%_, _≤_}
+use Prim.Native.Nat.{ℕ, _+_, _-_, _%_, _≤_, _<_}
 use native.Mathlib.Omega.{arith}
-use borrow.Author.Tests.{eq-eqb, ne-eqb, leb-true}
-use lib.Dec.{leb}
+use borrow.Author.Tests.{eq-eqb, ne-eqb, leb-true, ltb-true, le-leb, lt-leb}
+use lib.Dec.{leb, ltb}
 use lib.ListN.{getD, set}
 use Rattle.base.specs.Choice.{within}
-use Rattle.base.proofs.Choices.{and-left}
+use Rattle.base.proofs.Choices.{and-left, and-right}
 use Rattle.blocks.specs.declared.Gather.{Gather}
 use Rattle.blocks.specs.declared.Phase.{Phase}
 use Rattle.blocks.specs.declared.Phase.the-variants.{Gathering}
 use Rattle.blocks.specs.declared.Header.{Header}
 use Rattle.wire.specs.declared.Call.{Call}
 use Rattle.wire.specs.declared.Message.the-variants as says
-use Rattle.wire.specs.Messages.{wordOf, goodField, gatherOf, gathered, afterOf, keptOf, takeOf, wordAt, callOf, senseOf, badStatus, messageOf}
+use Rattle.wire.specs.Messages.{wordOf, goodField, gatherOf, gathered, afterOf, keptOf, takeOf, goesOn, wordAt, callOf, senseOf, badStatus, messageOf}
 
 module _ (tag length : ℕ) (room : List ℕ) (place byte : ℕ) (good : Bool) (e : good ≡ goodField tag length) where
   pub keep-good : (next : List ℕ) → next ≡ set room place byte → good ≡ true → next ≡ keptOf tag length room place byte
@@ -45,6 +45,37 @@ module _ (gather : Gather) (room : List ℕ) (byte : ℕ) where
       pub take-value : (next : List ℕ) → (gather .taken ≡ 2 → ⊥) → next ≡ keptOf (gather .tag) (gather .length) room (gather .taken - 3) byte → phase ≡ afterOf (gather .tag) (gather .length) (gather .taken + 1) → gathered phase next ≡ takeOf gather room byte
       unfolding takeOf
       take-value next t e f = rw (f, e, ne-eqb (gather .taken) 0 z, ne-eqb (gather .taken) 1 o, ne-eqb (gather .taken) 2 t)
+
+-- a value that goes on
+module _ (gather : Gather) where
+  pub goes-far : 3 ≤ gather .taken → ltb (gather .taken + 1) (3 + gather .length) ≡ goesOn gather
+  goes-far h = rw (le-leb 3 (gather .taken) h)
+
+  pub goes-not : gather .taken < 3 → false ≡ goesOn gather
+  goes-not h = rw (lt-leb 3 (gather .taken) h)
+
+  module _ (e : goesOn gather ≡ true) where
+    pub goes-begun : 3 ≤ gather .taken
+    goes-begun = leb-true 3 (gather .taken) (and-left (leb 3 (gather .taken)) (ltb (gather .taken + 1) (3 + gather .length)) e)
+
+    pub goes-less : gather .taken + 1 < 3 + gather .length
+    goes-less =
+        ltb-true (gather .taken + 1) (3 + gather .length) (and-right (leb 3 (gather .taken)) (ltb (gather .taken + 1) (3 + gather .length)) e)
+
+    pub goes-small : gather .length < 65536 → gather .taken + 1 < 4294967296
+    goes-small h = omega (arith, goes-less)
+
+    pub value-is : (room next : List ℕ) (byte : ℕ) → next ≡ keptOf (gather .tag) (gather .length) room (gather .taken - 3) byte
+        → gathered (Gathering (gatherOf (gather .tag) (gather .length) (gather .taken + 1))) next ≡ takeOf gather room byte
+    unfolding takeOf afterOf
+    value-is room next byte q =
+        rw (
+          q,
+          ne-eqb (gather .taken) 0 (λ z. omega (arith, goes-begun)),
+          ne-eqb (gather .taken) 1 (λ z. omega (arith, goes-begun)),
+          ne-eqb (gather .taken) 2 (λ z. omega (arith, goes-begun)),
+          lt-leb (3 + gather .length) (gather .taken + 1) goes-less,
+        )
 
 pub call-read : (room : List ℕ) (iocb command address length aux1 aux2 a : ℕ)
     → iocb ≡ getD room 0 0 → command ≡ getD room 1 0 → address ≡ wordAt room 2 → length ≡ wordAt room 4

@@ -16,9 +16,9 @@ use Rattle.base.proofs.Choices.{pick-go, pick-eq, and-left, and-right}
 use Rattle.blocks.specs.declared.Phase.{Phase}
 use Rattle.blocks.specs.declared.Phase.the-variants.{Gathering, Ready}
 use Rattle.wire.specs.declared.Message.the-variants as says
-use Rattle.wire.specs.Messages.{roomLength, wordOf, goodField, gatherOf, headerOf, Gathered, gathered, afterOf, keptOf, takeOf, wordAt, callOf, dataOf, senseOf, messageOf}
+use Rattle.wire.specs.Messages.{roomLength, wordOf, goodField, gatherOf, headerOf, Gathered, gathered, afterOf, keptOf, takeOf, wordAt, callOf, loadData, senseOf, messageOf}
 use Rattle.wire.specs.Replies.{replyInto}
-use Rattle.wire.specs.Spelling.{offered, takes, begun, valued}
+use Rattle.wire.specs.Spelling.{offered, takes, noneTaken, valued}
 use Rattle.wire.proofs.Keeps.{reply-first, reply-byte}
 
 -- the phase with n bytes of the value taken
@@ -63,31 +63,31 @@ value-taken tag size n room (byte ∷ value) h =
     ∙ rw (s, valued-more tag size room n byte value)
 
 -- the header, byte by byte
-pub tag-taken : (room : List ℕ) (tag : ℕ) → takes (begun room) (tag ∷ []) ≡ gathered (Gathering (gatherOf tag 0 1)) room
+pub tag-taken : (room : List ℕ) (tag : ℕ) → takes (noneTaken room) (tag ∷ []) ≡ gathered (Gathering (gatherOf tag 0 1)) room
 unfolding takeOf
 tag-taken room tag = refl
 
-pub low-taken : (room : List ℕ) (tag low : ℕ) → takes (begun room) (tag ∷ low ∷ []) ≡ gathered (Gathering (gatherOf tag low 2)) room
+pub low-taken : (room : List ℕ) (tag low : ℕ) → takes (noneTaken room) (tag ∷ low ∷ []) ≡ gathered (Gathering (gatherOf tag low 2)) room
 unfolding takeOf
 low-taken room tag low = refl
 
 module _ (room : List ℕ) (tag low high : ℕ) (h : low < 256) where
-  header-taken : takes (begun room) (tag ∷ low ∷ high ∷ []) ≡ gathered (afterOf tag (wordOf low high) 3) room
+  header-taken : takes (noneTaken room) (tag ∷ low ∷ high ∷ []) ≡ gathered (afterOf tag (wordOf low high) 3) room
   unfolding takeOf
   header-taken = rw (mod-eq-of-lt h)
 
   message-taken : (value : List ℕ) → length value ≤ wordOf low high
-      → takes (begun room) (tag ∷ low ∷ high ∷ value) ≡ gathered (afterOf tag (wordOf low high) (3 + length value)) (valued tag (wordOf low high) room 0 value)
+      → takes (noneTaken room) (tag ∷ low ∷ high ∷ value) ≡ gathered (afterOf tag (wordOf low high) (3 + length value)) (valued tag (wordOf low high) room 0 value)
   message-taken value l = ap (λ (g : Gathered). takes g value) header-taken ∙ value-taken tag (wordOf low high) 0 room value (omega arith) ∙ ap (λ (n : ℕ). gathered (afterOf tag (wordOf low high) (3 + n)) (valued tag (wordOf low high) room 0 value)) (omega arith)
 
   -- "It is ready when its last byte is taken", and not before
   pub message-ready : (value : List ℕ) → length value ≡ wordOf low high
-      → takes (begun room) (tag ∷ low ∷ high ∷ value) ≡ gathered (Ready (headerOf tag (wordOf low high))) (valued tag (wordOf low high) room 0 value)
+      → takes (noneTaken room) (tag ∷ low ∷ high ∷ value) ≡ gathered (Ready (headerOf tag (wordOf low high))) (valued tag (wordOf low high) room 0 value)
   message-ready value e =
       message-taken value (omega arith) ∙ ap (λ (phase : Phase). gathered phase (valued tag (wordOf low high) room 0 value)) (whole tag (wordOf low high) (length value) (omega arith))
 
   pub message-gathers : (value : List ℕ) → length value < wordOf low high
-      → takes (begun room) (tag ∷ low ∷ high ∷ value) ≡ gathered (Gathering (gatherOf tag (wordOf low high) (3 + length value))) (valued tag (wordOf low high) room 0 value)
+      → takes (noneTaken room) (tag ∷ low ∷ high ∷ value) ≡ gathered (Gathering (gatherOf tag (wordOf low high) (3 + length value))) (valued tag (wordOf low high) room 0 value)
   message-gathers value l =
       message-taken value (omega arith) ∙ ap (λ (phase : Phase). gathered phase (valued tag (wordOf low high) room 0 value)) (partial tag (wordOf low high) (length value) l)
 
@@ -160,7 +160,7 @@ module _ (tag : ℕ) (room value : List ℕ) (r : length room ≡ roomLength) wh
     room-value = rw room-is (reply-first room value fits)
 
     -- "$11 LOAD: address (2), data"
-    pub room-data : 2 ≤ length value → dataOf (length value - 2) (valued tag (length value) room 0 value) ≡ drop 2 value
+    pub room-data : 2 ≤ length value → loadData (length value - 2) (valued tag (length value) room 0 value) ≡ drop 2 value
     room-data h =
         rw (room-is, sets-eq value room 0 (omega (arith, fits)), drop-append-le 2 value (drop (0 + length value) room) h)
         (take-at (drop 2 value) (drop (0 + length value) room) (length value - 2) (length-drop 2 value))

@@ -3,9 +3,9 @@
 use mathlib.Core.Bool.{Bool, false}
 use mathlib.Core.List.{List}
 use Prim.Native.Nat.{ℕ, _+_, _-_, _*_, _%_}
-use lib.Dec.{eqb, leb}
+use lib.Dec.{eqb, leb, ltb}
 use lib.ListN.{getD, set, take, drop}
-use Rattle.base.specs.Choice.{pick, within}
+use Rattle.base.specs.Choice.{pick, and, within}
 use Rattle.blocks.specs.declared.Gather.{Gather}
 use Rattle.blocks.specs.declared.Header.{Header}
 use Rattle.blocks.specs.declared.Phase.{Phase}
@@ -63,6 +63,10 @@ takeOf gather room byte =
     (afterOf (gather .tag) (gather .length) (gather .taken + 1))
     (keptOf (gather .tag) (gather .length) room (gather .taken - 3) byte))))
 
+-- the next byte is one of the value, and not its last
+abbrev pub goesOn : Gather → Bool
+goesOn gather = and (leb 3 (gather .taken)) (ltb (gather .taken + 1) (3 + gather .length))
+
 abbrev pub wordAt : List ℕ → ℕ → ℕ
 wordAt room place = wordOf (getD room place 0) (getD room (place + 1) 0)
 
@@ -79,8 +83,8 @@ callOf room = record {
 }
 
 -- "$11 LOAD: address (2), data"
-abbrev pub dataOf : ℕ → List ℕ → List ℕ
-dataOf size room = take size (drop 2 room)
+abbrev pub loadData : ℕ → List ℕ → List ℕ
+loadData size room = take size (drop 2 room)
 
 -- what a good field says; of LOAD's data only the size, the bytes stay in the room
 unfoldable pub senseOf : ℕ → ℕ → List ℕ → Message

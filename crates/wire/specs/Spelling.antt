@@ -22,8 +22,8 @@ takes g [] = g
 takes g (byte ∷ bytes) = takes (offered (g .phase) (g .room) byte) bytes
 
 -- a port that has taken no byte
-abbrev pub begun : List ℕ → Gathered
-begun room = gathered (Gathering freshGather) room
+abbrev pub noneTaken : List ℕ → Gathered
+noneTaken room = gathered (Gathering freshGather) room
 
 -- the room with a good field's value from this place on; a bad field's is dropped
 unfoldable pub valued : ℕ → ℕ → List ℕ → ℕ → List ℕ → List ℕ

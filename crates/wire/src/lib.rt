@@ -1,10 +1,11 @@
 // A port's wire: gathering one message byte by byte, what a ready message says, and replies, made and given. The port lends its
 // room: while it gathers, the room keeps the value's bytes from 0 on, and while it replies, the reply's.
+ghost use mathlib.Core.Bool.{true};
 ghost use mathlib.Core.Path.{_≡_};
 ghost use Prim.Native.Nat.{_/_, _%_};
 ghost use mathlib.Core.List.{[], _∷_};
 ghost use lib.Seq.{sets};
-ghost use Rattle.wire.specs.Messages.{wordOf, goodField, gathered, afterOf, keptOf, takeOf, wordAt, callOf, badStatus, messageOf};
+ghost use Rattle.wire.specs.Messages.{wordOf, goodField, gathered, afterOf, keptOf, takeOf, goesOn, wordAt, callOf, badStatus, messageOf};
 ghost use Rattle.wire.specs.Fits.{gatherFits, replyFits};
 ghost use Rattle.wire.specs.Replies.{callReply, statusReply, bytesAt, fetchReply, replied, repliedOf, giveOf};
 use blocks::Gather;
@@ -95,6 +96,29 @@ fn keep(tag: u8, length: u16, room: &mut [u8], place: u32, byte: u8)
 {
     if field_is_good(tag, length) {
         base::set_byte(room, place as usize, byte);
+    }
+}
+
+// The next byte is one of the value, and not its last.
+pub fn goes_on(gather: Gather) -> bool
+    ensures { λ r. ⌜ r ≡ goesOn gather ⌝ }
+{
+    if 3 <= gather.taken {
+        return gather.taken as u64 + 1 < 3 + gather.length as u64;
+    }
+    false
+}
+
+// Such a byte: the message is gathered on.
+pub fn value(gather: Gather, room: &mut [u8], byte: u8) -> Gather
+    requires { ⌜ goesOn gather ≡ true ⌝ }
+    ensures { λ r. ⌜ gathered (Phase.Gathering r) (now (room .exit)) ≡ takeOf gather (now (room .entry)) byte ⌝ }
+{
+    keep(gather.tag, gather.length, room, gather.taken - 3, byte);
+    Gather {
+        tag: gather.tag,
+        length: gather.length,
+        taken: gather.taken + 1,
     }
 }
 

@@ -6,6 +6,10 @@ use Prim.Native.Nat.{ℕ}
 use Rattle.base.specs.Decides.{Decides, Allows}
 use Rattle.writing.proofs.block.Kinds as block-kinds
 use Rattle.writing.proofs.block.Reads as block-reads
+use Rattle.writing.proofs.gather.Kinds as gather-kinds
+use Rattle.writing.proofs.gather.Reads as gather-reads
+use Rattle.writing.proofs.run.Kinds as run-kinds
+use Rattle.writing.proofs.run.Reads as run-reads
 use Rattle.writing.proofs.phase.Kinds as phase-kinds
 use Rattle.writing.proofs.phase.Reads as phase-reads
 use Rattle.writing.proofs.port.Kinds as port-kinds
@@ -20,6 +24,18 @@ block-decides κs a z z′ ws ws′ p e e′ = (refl, ap (λ (l : List ℕ). (l,
 
 pub block-allows : Allows 1 block-kinds.ps block-kinds.r block-reads.Pre block-reads.Learnt
 block-allows κs a p = (_, (_, refl))
+
+pub gather-decides : Decides 1 gather-kinds.ps gather-kinds.r gather-reads.Pre gather-reads.Learnt
+gather-decides κs a z z′ ws ws′ p e e′ = (refl, ap (λ (l : List ℕ). (l, (tt, tt))) (e ∙ sym e′))
+
+pub gather-allows : Allows 1 gather-kinds.ps gather-kinds.r gather-reads.Pre gather-reads.Learnt
+gather-allows κs a p = (_, (_, refl))
+
+pub run-decides : Decides 1 run-kinds.ps run-kinds.r run-reads.Pre run-reads.Learnt
+run-decides κs a z z′ ws ws′ p e e′ = (refl, ap (λ (l : List ℕ). (l, (tt, tt))) (e ∙ sym e′))
+
+pub run-allows : Allows 1 run-kinds.ps run-kinds.r run-reads.Pre run-reads.Learnt
+run-allows κs a p = (_, (_, refl))
 
 pub phase-decides : Decides 1 phase-kinds.ps phase-kinds.r phase-reads.Pre phase-reads.Learnt
 phase-decides κs a z z′ ws ws′ p e e′ = (refl, ap (λ (l : List ℕ). (l, (tt, tt))) (e ∙ sym e′))

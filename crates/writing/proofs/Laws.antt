@@ -7,7 +7,7 @@ use native.Mathlib.Nat.{add-zero, add-suc, suc-add}
 use native.Mathlib.Numerals.{add-one}
 use native.Mathlib.Omega.{arith}
 use lib.ListN.{length, take, drop, set}
-use lib.Seq.{sets}
+use lib.Seq.{sets, set-comm}
 use Rattle.base.specs.Choice.{pick}
 use Rattle.base.specs.Parts.{part}
 use Rattle.base.proofs.Parts.{sets-more, lent-first}
@@ -26,6 +26,15 @@ use Rattle.console.specs.declared.state.Console.{Console}
 use Rattle.layout.specs.Places.{phaseLength, blockLength, tableLength, portLength}
 use Rattle.layout.specs.Layout.{lowByte, highByte, deviceNumber, kindNumber, blockBytes, blocksBytes, tableBytes, phaseBytes, portBytes, readingByte, consoleBytes}
 use Rattle.layout.proofs.Lengths.{phase-length, blocks-length, table-length}
+
+-- a phase's seventh byte may be written after its last four
+pub high-last : (l : List ℕ) (high : ℕ)
+    → set (set (set (set (set l 7 0) 8 0) 9 0) 10 0) 6 high ≡ set (set (set (set (set l 6 high) 7 0) 8 0) 9 0) 10 0
+high-last l high =
+    set-comm (set (set (set l 7 0) 8 0) 9 0) 10 6 0 high (λ e. omega arith)
+    ∙ ap (λ (m : List ℕ). set m 10 0) (set-comm (set (set l 7 0) 8 0) 9 6 0 high (λ e. omega arith))
+    ∙ ap (λ (m : List ℕ). set (set m 9 0) 10 0) (set-comm (set l 7 0) 8 6 0 high (λ e. omega arith))
+    ∙ ap (λ (m : List ℕ). set (set (set m 8 0) 9 0) 10 0) (set-comm l 7 6 0 high (λ e. omega arith))
 
 -- three bytes at a place
 pub three-set : (l : List ℕ) (place a b c : ℕ) → set (set (set l place a) (place + 1) b) (place + 2) c ≡ sets l place (a ∷ b ∷ c ∷ [])

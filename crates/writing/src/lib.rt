@@ -100,7 +100,8 @@ fn table(bytes: &mut [u8], table: Table)
     }
 }
 
-fn gather(bytes: &mut [u8], gather: Gather)
+// The count's high byte goes last, and its low two together: they are read again together.
+pub fn gather(bytes: &mut [u8], gather: Gather)
     requires { ⌜ phaseLength ≤ length (now bytes) ⌝ }
     ensures { λ _. ⌜ now (bytes .exit) ≡ sets (now (bytes .entry)) 0 (phaseBytes (Phase.Gathering gather)) ⌝ }
 {
@@ -110,11 +111,11 @@ fn gather(bytes: &mut [u8], gather: Gather)
     bytes[3] = (gather.length / 256) as u8;
     bytes[4] = (gather.taken % 256) as u8;
     bytes[5] = (gather.taken / 256 % 256) as u8;
-    bytes[6] = (gather.taken / 65536 % 256) as u8;
     bytes[7] = 0;
     bytes[8] = 0;
     bytes[9] = 0;
     bytes[10] = 0;
+    bytes[6] = (gather.taken / 65536 % 256) as u8;
 }
 
 fn header(bytes: &mut [u8], header: Header)
@@ -134,7 +135,7 @@ fn header(bytes: &mut [u8], header: Header)
     bytes[10] = 0;
 }
 
-fn run(bytes: &mut [u8], run: Run)
+pub fn run(bytes: &mut [u8], run: Run)
     requires { ⌜ phaseLength ≤ length (now bytes) ⌝ }
     ensures { λ _. ⌜ now (bytes .exit) ≡ sets (now (bytes .entry)) 0 (phaseBytes (Phase.Running run)) ⌝ }
 {

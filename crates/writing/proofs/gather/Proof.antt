@@ -1,6 +1,6 @@
--- `gather` meets its contract: by its own tests and what its callees ensure.
+-- `gather` meets its contract, by `high-last`.
 -- Assumes nothing.
-use mathlib.Core.Path.{refl}
+use Rattle.writing.proofs.Laws.{high-last}
 use Rattle.layout.specs.Layout.{phaseBytes}
 use lib.ListN.{length-set}
 use native.Mathlib.Omega.{arith}
@@ -38,9 +38,6 @@ cast-bytes-4 c = search needs
 slice-write-bytes-6 : tie.Need-slice-write-bytes-6
 slice-write-bytes-6 c = simp length-set (omega arith)
 
-cast-bytes-5 : tie.Need-cast-bytes-5
-cast-bytes-5 c = search needs
-
 slice-write-bytes-7 : tie.Need-slice-write-bytes-7
 slice-write-bytes-7 c = simp length-set (omega arith)
 
@@ -53,6 +50,9 @@ slice-write-bytes-9 c = simp length-set (omega arith)
 slice-write-bytes-10 : tie.Need-slice-write-bytes-10
 slice-write-bytes-10 c = simp length-set (omega arith)
 
+cast-bytes-5 : tie.Need-cast-bytes-5
+cast-bytes-5 c = search needs
+
 slice-write-bytes-11 : tie.Need-slice-write-bytes-11
 slice-write-bytes-11 c = simp length-set (omega arith)
 
@@ -61,7 +61,7 @@ same-length c = simp length-set
 
 returns : tie.Need-returns
 unfolding phaseBytes
-returns c = refl
+returns c = search high-last
 
 pub gather-spec : {M : Type 1} → statement M
 gather-spec =
@@ -77,11 +77,11 @@ gather-spec =
     slice-write-bytes-5
     cast-bytes-4
     slice-write-bytes-6
-    cast-bytes-5
     slice-write-bytes-7
     slice-write-bytes-8
     slice-write-bytes-9
     slice-write-bytes-10
+    cast-bytes-5
     slice-write-bytes-11
     same-length
     returns)

@@ -2,14 +2,14 @@
 -- Assumes nothing.
 use mathlib.Core.Path.{_≡_, refl}
 use Prim.Native.Nat.{_≤_, _+_, _*_}
-use Rattle.editor.specs.Get.{heldOf}
+use Rattle.editor.specs.Get.{cellsHeld}
 use Rattle.editor.proofs.Ends.{end-found, end-blank, end-none}
 use borrow.Author.Needs.{needs}
 use Rattle.editor.proofs.line.end.Statement.{statement}
 use Rattle.editor.proofs.line.end.Tie as tie
 
 abbrev Inv-loop : tie.InvT-loop
-Inv-loop screen row first n₀ n = (n ≤ 38) × (heldOf screen (row * 40 + 2) 38 ≡ heldOf screen (row * 40 + 2) n)
+Inv-loop screen row first n₀ n = (n ≤ 38) × (cellsHeld screen (row * 40 + 2) 38 ≡ cellsHeld screen (row * 40 + 2) n)
 
 abbrev μ-loop : tie.MeasureT-loop
 μ-loop screen row first n₀ n = n
