@@ -21,8 +21,8 @@ use Rattle.blocks.proofs.Keeps.{block-back}
 use Rattle.wire.specs.declared.Call.{Call}
 use Rattle.wire.specs.declared.Message.{Message}
 use Rattle.wire.specs.declared.Message.the-variants as message
-use Rattle.wire.specs.Replies.{callReply, bytesAt}
-use Rattle.wire.proofs.Stores.{bytes-length}
+use Rattle.replies.specs.Replies.{callReply, bytesAt}
+use Rattle.replies.proofs.Stores.{bytes-length}
 use Rattle.transfer.specs.Transfer.{Out}
 use Rattle.transfer.specs.Spans.{Spans, wayIn}
 use Rattle.devices.specs.declared.Owner.{Owner}

@@ -30,7 +30,7 @@ use Rattle.blocks.specs.declared.Kind.the-variants.{Get}
 use Rattle.blocks.specs.declared.Way.the-variants.{Record}
 use Rattle.blocks.specs.Opening.{areaLength}
 use Rattle.wire.specs.declared.Call.{Call}
-use Rattle.wire.specs.Replies.{callReply}
+use Rattle.replies.specs.Replies.{callReply}
 use Rattle.transfer.specs.Transfer.{eol, ends}
 use Rattle.devices.specs.declared.Owner.the-variants as owner
 use Rattle.devices.specs.Groups.{ownActs}
@@ -58,14 +58,14 @@ Heard m (got.Refused status) mode = (status ≡ 0x8D) × (m ≡ 0)
 abbrev leftPicture : Graphics → ℕ
 leftPicture g = (shapeOf (g .mode) .rows - g .row) * shapeOf (g .mode) .columns - g .column
 
-cell-small : (g : Graphics) (cells : List ℕ) → g .mode ≡ 8 → cellOf (g .mode) (g .row) (g .column) cells ≡ eol → ⊥
+cell-small : (g : Graphics) (cells : List ℕ) → g .mode ≡ 8 → cellOf (shapeOf (g .mode)) (g .row) (g .column) cells ≡ eol → ⊥
 unfolding cellOf
 cell-small g cells e q =
     let c = two (g .mode) e in
-    let h : cellOf (g .mode) (g .row) (g .column) cells < shapeOf (g .mode) .colours = mod-lt (getD cells (placeOf (shapeOf (g .mode)) (g .row) (g .column)) 0) (omega arith) in
+    let h : cellOf (shapeOf (g .mode)) (g .row) (g .column) cells < shapeOf (g .mode) .colours = mod-lt (getD cells (placeOf (shapeOf (g .mode)) (g .row) (g .column)) 0) (omega arith) in
     omega arith
 
-onward-mode : (g : Graphics) → g .mode ≡ 8 → onward g .mode ≡ 8
+onward-mode : (g : Graphics) → g .mode ≡ 8 → onward (shapeOf (g .mode)) g .mode ≡ 8
 unfolding onward
 onward-mode g e = pick-lt (λ (y : Graphics). y .mode ≡ 8) (g .column + 1) (shapeOf (g .mode) .columns) (placed (g .row) (g .column + 1) g) (placed (g .row + 1) 0 g) (λ h. e) (λ h. e)
 

@@ -9,8 +9,9 @@ use Rattle.keys.specs.Translation as keys-to
 use Rattle.keys.specs.Keyboard as keyboard
 use Rattle.cells.specs.Modes.{modes, rowOf, shapeOf, countOf}
 use Rattle.cells.specs.Cells.{cellOf, withCell, filled, reduced, scrolled}
-use Rattle.editor.specs.Decide as editor-acts
+use Rattle.controls.specs.Decide as controls-acts
 use Rattle.editor.specs.Text as editor
+use Rattle.controls.specs.Put as controls
 use Rattle.editor.specs.Get as editor-get
 use Rattle.graphics.specs.Picture as graphics
 use Rattle.printer.specs.Printer.{printerGroup}
@@ -18,7 +19,7 @@ use Rattle.console.specs.Group.{group, freshGroup, pressedOf}
 use Rattle.console.specs.Handlers.{openE, openS, openOf, prepareE, prepareS, prepareOf, readE, readS, readK, readOf, writeE, writeS, writeOf}
 use Rattle.blocks.specs.Blocks.{closedTable}
 use Rattle.blocks.specs.Opening.{deviceOf, numberOf, namedOf, specificationOf, offersOf, areaLength}
-use Rattle.wire.specs.Replies.{bytesAt, fetchStatus, fetchReply}
+use Rattle.replies.specs.Replies.{bytesAt, fetchStatus, fetchReply}
 use Rattle.devices.specs.Groups.{Groups}
 use Rattle.plan.specs.Plan.{commandOf, wayOf, areaPlan, transferPlan, blockPlan, callPlan, planOf, nameOf, planIn}
 use Rattle.cio.specs.Start.{loadStatus, openedOf, thenOf}
@@ -115,5 +116,5 @@ pub cases : map fresh scripts ≡
     heard (opened ++ (calls 0x01 0 0x41 ∷ calls 0x88 0 0 ∷ calls 0x01 0 0x61 ∷ [])) (0 ∷ 2 ∷ []) blank ∷
     heard (opened ++ (calls 0x01 0 0x01 ∷ calls 0x88 0 0 ∷ [])) (0 ∷ 2 ∷ []) blank ∷
     heard (opened ++ (calls 0x01 0 5 ∷ [])) (0 ∷ 1 ∷ []) (1 ∷ 0 ∷ 0 ∷ []) ∷ []
-unfolding modes rowOf shapeOf countOf cellOf withCell filled reduced scrolled keys.keys keys-to.entryOf keys-to.keyAnswer keys-to.translateOf keyboard.obeyed keyboard.struckBy keyboard.getOf editor-acts.plainOf editor-acts.actOf editor.newRow editor.openOf editor.lessOf editor.moreOf editor.clearOf editor.backOf editor.onward editor.dataOf editor.doing editor.putOf editor-get.cellsHeld editor-get.endOf editor-get.getAt editor-get.getOf graphics.onward graphics.cellsOpened graphics.openOf graphics.getOf graphics.clearOf graphics.dataOf graphics.putOf openE openS openOf prepareE prepareS prepareOf readE readS readK readOf writeE writeS writeOf deviceOf numberOf namedOf specificationOf offersOf bytesAt fetchStatus fetchReply commandOf wayOf areaPlan transferPlan blockPlan nameOf callPlan planIn planOf loadStatus getOne putOne getCharacters dropLine getRecord putCharacters putRecord getting putting transferred leftE leftS leftK consoleLeft thenOf openedOf aloneOpening aloneTransfer aloneWork loaded aloneErrand alonePlan aloneOf
+unfolding modes rowOf shapeOf countOf cellOf withCell filled reduced scrolled keys.keys keys-to.entryOf keys-to.keyAnswer keys-to.translateOf keyboard.obeyed keyboard.struckBy keyboard.getOf controls-acts.plainOf controls-acts.actOf editor.newRow editor.openOf controls.lessOf controls.moreOf controls.clearOf controls.backOf controls.onward controls.dataOf controls.doing controls.putOf editor-get.cellsHeld editor-get.endOf editor-get.getAt editor-get.getOf graphics.onward graphics.cellsOpened graphics.openOf graphics.getOf graphics.clearOf graphics.dataOf graphics.putOf openE openS openOf prepareE prepareS prepareOf readE readS readK readOf writeE writeS writeOf deviceOf numberOf namedOf specificationOf offersOf bytesAt fetchStatus fetchReply commandOf wayOf areaPlan transferPlan blockPlan nameOf callPlan planIn planOf loadStatus getOne putOne getCharacters dropLine getRecord putCharacters putRecord getting putting transferred leftE leftS leftK consoleLeft thenOf openedOf aloneOpening aloneTransfer aloneWork loaded aloneErrand alonePlan aloneOf
 cases = refl

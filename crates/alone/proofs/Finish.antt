@@ -10,7 +10,7 @@ use Rattle.handler.specs.Acts.{Acts, asksOn}
 use Rattle.blocks.specs.declared.Kind.{Kind}
 use Rattle.blocks.specs.declared.Kind.the-variants.{Get, Put}
 use Rattle.blocks.specs.declared.Run.{Run}
-use Rattle.wire.specs.Replies.{callReply}
+use Rattle.replies.specs.Replies.{callReply}
 use Rattle.transfer.specs.declared.Next.{Next}
 use Rattle.transfer.specs.declared.Next.the-variants.{On, Off}
 use Rattle.transfer.specs.Transfer.{sentByte, goes, ends, outOf}

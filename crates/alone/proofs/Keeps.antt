@@ -26,7 +26,7 @@ use Rattle.blocks.specs.Opening.{offersOf}
 use Rattle.blocks.specs.Made.{splits, madeOf}
 use Rattle.blocks.proofs.Keeps.{with-length, with-made, open-is-made, block-made}
 use Rattle.wire.specs.declared.Call.{Call}
-use Rattle.wire.specs.Replies.{replyOf}
+use Rattle.replies.specs.Replies.{replyOf}
 use Rattle.wire.specs.Fits.{replyFits}
 use Rattle.wire.proofs.Keeps.{call-reply-fits, status-reply-fits, fetch-reply-fits}
 use Rattle.transfer.specs.declared.Next.{Next}

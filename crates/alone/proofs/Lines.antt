@@ -97,7 +97,7 @@ left-down R r C c h k =
 abbrev leftPicture : Graphics → ℕ
 leftPicture g = (shapeOf (g .mode) .rows - g .row) * shapeOf (g .mode) .columns - g .column
 
-onward-falls : (g : Graphics) → g .row < shapeOf (g .mode) .rows → g .column < shapeOf (g .mode) .columns → leftPicture g ≡ leftPicture (onward g) + 1
+onward-falls : (g : Graphics) → g .row < shapeOf (g .mode) .rows → g .column < shapeOf (g .mode) .columns → leftPicture g ≡ leftPicture (onward (shapeOf (g .mode)) g) + 1
 unfolding onward
 onward-falls g h k =
     pick-lt (λ (y : Graphics). leftPicture g ≡ leftPicture y + 1) (g .column + 1) (shapeOf (g .mode) .columns) (placed (g .row) (g .column + 1) g) (placed (g .row + 1) 0 g)

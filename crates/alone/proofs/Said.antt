@@ -12,10 +12,10 @@ use Rattle.base.proofs.Choices.{pick-go, by-lt}
 use Rattle.wire.specs.declared.Message.{Message}
 use Rattle.wire.specs.declared.Message.the-variants as message
 use Rattle.wire.specs.Messages.{roomLength, goodField, headerOf, wordAt, senseOf, messageOf}
-use Rattle.wire.specs.Replies.{bytesAt}
+use Rattle.replies.specs.Replies.{bytesAt}
 use Rattle.wire.specs.Spelling.{valued}
-use Rattle.wire.proofs.Keeps.{bytes-part}
-use Rattle.wire.proofs.Stores.{bytes-length}
+use Rattle.replies.proofs.Keeps.{bytes-part}
+use Rattle.replies.proofs.Stores.{bytes-length}
 use Rattle.wire.proofs.Spelling.{good-length, room-data, message-says}
 use Rattle.alone.specs.Alone.{load, saidOf, askedOf}
 

@@ -19,7 +19,7 @@ use Rattle.blocks.specs.Opening.{offersOf}
 use Rattle.wire.specs.declared.Call.{Call}
 use Rattle.wire.specs.declared.Message.{Message}
 use Rattle.wire.specs.declared.Message.the-variants as message
-use Rattle.wire.specs.Replies.{callReply, statusReply, fetchReply, bytesAt}
+use Rattle.replies.specs.Replies.{callReply, statusReply, fetchReply, bytesAt}
 use Rattle.devices.specs.declared.Group.{Group}
 use Rattle.devices.specs.Groups.{Groups, Part, getGroup, putGroup, groupOf, deviceActs}
 use Rattle.plan.specs.declared.After.{After}

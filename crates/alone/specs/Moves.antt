@@ -13,7 +13,7 @@ use Rattle.blocks.specs.declared.Device.{Device}
 use Rattle.blocks.specs.declared.Run.{Run}
 use Rattle.blocks.specs.Blocks.{blockAt, withBlock}
 use Rattle.blocks.specs.Made.{splits}
-use Rattle.wire.specs.Replies.{callReply}
+use Rattle.replies.specs.Replies.{callReply}
 use Rattle.transfer.specs.Transfer.{eol, Out, goes, ends}
 use Rattle.devices.specs.Groups.{Groups, getGroup, groupOf, deviceActs}
 use Rattle.plan.specs.declared.Job.{Job}

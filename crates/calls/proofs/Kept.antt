@@ -16,7 +16,7 @@ use Rattle.blocks.specs.declared.Way.the-variants.{One, Characters, Record}
 use Rattle.blocks.specs.declared.Kind.{Kind}
 use Rattle.blocks.specs.declared.Kind.the-variants.{Get, Put}
 use Rattle.blocks.specs.declared.Run.{Run}
-use Rattle.wire.specs.Replies.{bytesAt, callReply, statusReply, fetchReply}
+use Rattle.replies.specs.Replies.{bytesAt, callReply, statusReply, fetchReply}
 use Rattle.plan.specs.declared.Errand.{Errand}
 use Rattle.plan.specs.declared.Errand.the-variants as errand
 use Rattle.transfer.specs.Transfer.{Progress, gotCharacter, gotOf, Out, goes, ends, landed}

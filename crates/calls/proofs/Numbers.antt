@@ -19,7 +19,7 @@ use Rattle.blocks.specs.declared.Phase.the-variants.{Gathering, Ready, Running,
 use Rattle.wire.specs.declared.Given.{Given}
 use Rattle.wire.specs.Messages.{gathered, roomLength}
 use Rattle.wire.specs.Messages as messages
-use Rattle.wire.specs.Replies as replies
+use Rattle.wire.specs.Giving as replies
 use Rattle.layout.specs.Places.{phasePlace, roomPlace}
 use Rattle.layout.specs.Layout.{phaseBytes, byteAt, gatherIn, headerIn, runIn, replyIn, phaseIn}
 use Rattle.devices.specs.declared.Group.{Group}

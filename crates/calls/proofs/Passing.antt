@@ -35,7 +35,7 @@ use Rattle.devices.specs.Lent.{DevicesLent, devicesLent, lentOf, freshGroups, F
 use Rattle.damage.specs.Fits.{stickFits}
 use Rattle.calls.specs.Stick.{Outcome, outcome, refused, screenLength, paperLength, lengthsFit, refusalOf}
 use Rattle.calls.specs.Calls.{freshLent, freshCall, guarded, takeAt, takeCall, tickAt, tickCall, giveAt, giveCall, pressAt, pressCall}
-use Rattle.calls.specs.Bytes.{Buffers, buffers, Left, left, leftAlone, buffersFit, stickBy, lentBy, undamagedIn, leftOf, bytesRefusal, overBytes, freshBytes, takeBytes, tickBytes, giveBytes, pressBytes}
+use Rattle.calls.specs.Bytes.{Buffers, buffers, Left, left, leftAlone, fourFit, buffersFit, stickBy, lentBy, undamagedIn, leftOf, bytesRefusal, overBytes, freshBytes, takeBytes, tickBytes, giveBytes, pressBytes}
 use Rattle.calls.specs.Parts.{Called, Lengths, Long, portsFresh, freshOn}
 
 -- what is known of a lent slice of bytes: each element is a byte
@@ -46,32 +46,33 @@ pub bytes-of : (xs : List ℕ) → Known xs → Bytes xs
 bytes-of xs k i = omega (arith, k i)
 
 -- the lengths, one after the other
+module _ (state area screen paper : ℕ) where
+  pub lengths-state : (state ≡ stateLength → ⊥) → false ≡ fourFit state area screen paper
+  unfolding fourFit
+  lengths-state h = rw (ne-eqb state stateLength h)
+
+  module _ (p : state ≡ stateLength) where
+    pub lengths-area : (area ≡ 2 * areaLength → ⊥) → false ≡ fourFit state area screen paper
+    unfolding fourFit
+    lengths-area h = rw (eq-eqb state stateLength p, ne-eqb area (2 * areaLength) h)
+
+    module _ (q : area ≡ 2 * areaLength) where
+      pub lengths-screen : (screen ≡ screenLength → ⊥) → false ≡ fourFit state area screen paper
+      unfolding fourFit
+      lengths-screen h = rw (eq-eqb state stateLength p, eq-eqb area (2 * areaLength) q, ne-eqb screen screenLength h)
+
+      module _ (r : screen ≡ screenLength) where
+        pub lengths-paper : (paper ≡ paperLength → ⊥) → false ≡ fourFit state area screen paper
+        unfolding fourFit
+        lengths-paper h = rw (eq-eqb state stateLength p, eq-eqb area (2 * areaLength) q, eq-eqb screen screenLength r, ne-eqb paper paperLength h)
+
+        pub lengths-all : paper ≡ paperLength → true ≡ fourFit state area screen paper
+        unfolding fourFit
+        lengths-all h = rw (eq-eqb state stateLength p, eq-eqb area (2 * areaLength) q, eq-eqb screen screenLength r, eq-eqb paper paperLength h)
+
 module _ (b : Buffers) where
-  pub lengths-state : (length (b .state) ≡ stateLength → ⊥) → false ≡ buffersFit b
-  unfolding buffersFit
-  lengths-state h = rw (ne-eqb (length (b .state)) stateLength h)
-
-  module _ (p : length (b .state) ≡ stateLength) where
-    pub lengths-area : (length (b .area) ≡ 2 * areaLength → ⊥) → false ≡ buffersFit b
-    unfolding buffersFit
-    lengths-area h = rw (eq-eqb (length (b .state)) stateLength p, ne-eqb (length (b .area)) (2 * areaLength) h)
-
-    module _ (q : length (b .area) ≡ 2 * areaLength) where
-      pub lengths-screen : (length (b .screen) ≡ screenLength → ⊥) → false ≡ buffersFit b
-      unfolding buffersFit
-      lengths-screen h = rw (eq-eqb (length (b .state)) stateLength p, eq-eqb (length (b .area)) (2 * areaLength) q, ne-eqb (length (b .screen)) screenLength h)
-
-      module _ (r : length (b .screen) ≡ screenLength) where
-        pub lengths-paper : (length (b .paper) ≡ paperLength → ⊥) → false ≡ buffersFit b
-        unfolding buffersFit
-        lengths-paper h = rw (eq-eqb (length (b .state)) stateLength p, eq-eqb (length (b .area)) (2 * areaLength) q, eq-eqb (length (b .screen)) screenLength r, ne-eqb (length (b .paper)) paperLength h)
-
-        pub lengths-all : length (b .paper) ≡ paperLength → true ≡ buffersFit b
-        unfolding buffersFit
-        lengths-all h = rw (eq-eqb (length (b .state)) stateLength p, eq-eqb (length (b .area)) (2 * areaLength) q, eq-eqb (length (b .screen)) screenLength r, eq-eqb (length (b .paper)) paperLength h)
-
   pub lengths-of : buffersFit b ≡ true → Lengths b
-  unfolding buffersFit
+  unfolding fourFit
   lengths-of e =
       let s = eqb (length (b .state)) stateLength in
       let a = eqb (length (b .area)) (2 * areaLength) in

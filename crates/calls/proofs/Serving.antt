@@ -21,7 +21,7 @@ use Rattle.blocks.specs.declared.Phase.the-variants.{Gathering, Ready, Running,
 use Rattle.wire.specs.declared.Given.{Given}
 use Rattle.wire.specs.Messages.{Gathered, gathered, roomLength}
 use Rattle.wire.specs.Messages as messages
-use Rattle.wire.specs.Replies as replies
+use Rattle.wire.specs.Giving as replies
 use Rattle.layout.specs.Places.{phasePlace, devicesPlace, devicesLength, consolePlace, roomPlace, roomsPlace}
 use Rattle.layout.specs.Stick.{Stick, Lent, lent, portAt, withPort, withPhase, withConsole, withPart}
 use Rattle.layout.specs.Layout.{headOf, phaseBytes, consoleBytes, phaseIn, consoleIn}

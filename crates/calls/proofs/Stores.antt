@@ -30,9 +30,10 @@ use Rattle.plan.specs.declared.Job.{Job}
 use Rattle.plan.specs.declared.Plan.{Plan}
 use Rattle.plan.specs.declared.Plan.the-variants as plan
 use Rattle.plan.specs.Plan.{planIn, iocbOf, groupNeeded}
-use Rattle.transfer.specs.declared.Next.{Next}
-use Rattle.transfer.specs.declared.Next.the-variants.{On}
-use Rattle.transfer.specs.Transfer.{Out, outOf, InPort, inPort, landed}
+use Rattle.transfer.specs.declared.Carried.{Carried}
+use Rattle.transfer.specs.declared.Carried.the-variants as carried
+use Rattle.transfer.specs.declared.Next.the-variants.{Off}
+use Rattle.transfer.specs.Transfer.{nextOf, Out, outOf, InPort, inPort, landed}
 use Rattle.cio.specs.Start.{Begun, begun, Freed, freed, errandOf, jobBegun}
 use Rattle.cio.specs.Move.{Went, went, advanceOf}
 use Rattle.calls.specs.Bytes.{Buffers, buffers, Left, left, leftAlone}
@@ -64,14 +65,18 @@ module _ (port : ℕ) (state : List ℕ) (r : Rooms port state) where
       ∙ take-append-drop (roomPlace port) state
 
   -- of a request that goes on only the phase changes
-  pub land-goes : (next : Next) (run : Run) (state′ : List ℕ) → next ≡ On run → state′ ≡ sets state (phasePlace port) (phaseBytes (Running run)) → state′ ≡ landOn port (outOf next) state
-  unfolding landOn
-  land-goes next run state′ e q =
-      q ∙ ap (λ (m : List ℕ). sets m (phasePlace port) (phaseBytes (Running run))) (sym room-kept)
-      ∙ ap (λ (x : Next). withInPort port (landed (outOf x) (roomIn port state)) state) (sym e)
+  module _ (run : Run) (c : Carried) (state′ : List ℕ) where
+    pub carried-on : (left place count a : ℕ) → c ≡ carried.On left place count a
+        → state′ ≡ sets state (phasePlace port) (phaseBytes (Running (record { kind = run .kind; device = run .device; iocb = run .iocb; left = left; place = place; count = count; a = a })))
+        → state′ ≡ landOn port (outOf (nextOf run c)) state
+    unfolding landOn
+    carried-on left place count a e q =
+        let more : Run = record { kind = run .kind; device = run .device; iocb = run .iocb; left = left; place = place; count = count; a = a } in
+        q ∙ ap (λ (m : List ℕ). sets m (phasePlace port) (phaseBytes (Running more))) (sym room-kept)
+        ∙ ap (λ (x : Carried). withInPort port (landed (outOf (nextOf run x)) (roomIn port state)) state) (sym e)
 
-  pub land-ends : (next off : Next) (state′ : List ℕ) → next ≡ off → state′ ≡ landOn port (outOf off) state → state′ ≡ landOn port (outOf next) state
-  land-ends next off state′ e q = q ∙ ap (λ (x : Next). landOn port (outOf x) state) (sym e)
+    pub carried-off : (status count a : ℕ) → c ≡ carried.Off status count a → state′ ≡ landOn port (outOf (Off status count a)) state → state′ ≡ landOn port (outOf (nextOf run c)) state
+    carried-off status count a e q = q ∙ ap (λ (x : Carried). landOn port (outOf (nextOf run x)) state) (sym e)
 
   pub waits-law : (p : Plan) (other : Phase) (g h : Group) (t : Bool) → other ≡ phaseIn (drop (phasePlace (1 - port)) state) → g ≡ groupNeeded p → h ≡ heldOf other → t ≡ clash g h → t ≡ waitsOn port p state
   unfolding waitsOn

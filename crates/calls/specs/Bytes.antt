@@ -40,12 +40,12 @@ abbrev pub leftAlone : ℕ → Buffers → Left
 leftAlone answer b = left answer 0 b
 
 -- "2 a lent buffer has another length", the state too
-unfoldable pub buffersFit : Buffers → Bool
-buffersFit b =
-    and (eqb (length (b .state)) stateLength)
-    (and (eqb (length (b .area)) (2 * areaLength))
-    (and (eqb (length (b .screen)) screenLength)
-    (eqb (length (b .paper)) paperLength)))
+unfoldable pub fourFit : (state area screen paper : ℕ) → Bool
+fourFit state area screen paper =
+    and (eqb state stateLength) (and (eqb area (2 * areaLength)) (and (eqb screen screenLength) (eqb paper paperLength)))
+
+abbrev pub buffersFit : Buffers → Bool
+buffersFit b = fourFit (length (b .state)) (length (b .area)) (length (b .screen)) (length (b .paper))
 
 -- the rooms and the other lent buffers, as a call of the stick is lent them
 abbrev pub lentBy : Buffers → Lent

@@ -12,7 +12,7 @@ use Rattle.blocks.specs.declared.Phase.the-variants.{Gathering, Ready, Running,
 use Rattle.blocks.specs.declared.Port.{Port}
 use Rattle.wire.specs.Messages.{messageOf}
 use Rattle.wire.specs.Messages as messages
-use Rattle.wire.specs.Replies as replies
+use Rattle.wire.specs.Giving as replies
 use Rattle.layout.specs.Stick.{withPhase}
 use Rattle.devices.specs.declared.Group.{Group}
 use Rattle.devices.specs.Groups.{Groups, getGroup, putGroup, clash, groupOf, deviceActs}

@@ -2,7 +2,9 @@
 -- Assumes nothing.
 use mathlib.Core.Path.{_≡_, _∙_, refl, sym, ap, subst}
 use mathlib.Core.Bool.{Bool, true, false}
-use Rattle.base.proofs.Choices.{by-lt}
+use borrow.Author.Tests.{lt-leb, ne-eqb}
+use Rattle.base.specs.Choice.{within}
+use Rattle.base.proofs.Choices.{by-lt, and-false}
 use Rattle.base.proofs.Lists.{default-any}
 use mathlib.Core.List.{List, [], _∷_}
 use Prim.Native.Nat.{ℕ, zero, suc, _+_, _*_, _%_, _<_, _≤_, _^_}
@@ -75,15 +77,24 @@ module _ (byte colours : ℕ) where
   pub colour-byte : Colours colours → Fits w8 (byte % colours)
   colour-byte c = record { fits = cell-byte byte colours c }
 
--- a row of the table, and what is past it
-module _ (mode row : ℕ) (e : row ≡ rowOf mode) where
-  pub shape-row : row < 7 → getD modes row (shaped 0 0 0) ≡ shapeOf mode
-  unfolding shapeOf modes
-  shape-row h = default-any modes row (shaped 0 0 0) (shaped 0 0 1) h ∙ ap (λ (k : ℕ). getD modes k (shaped 0 0 1)) e
+-- a mode by its number, and what is no mode
+pub shape-by : (mode number : ℕ) → mode ≡ number → shapeOf number ≡ shapeOf mode
+shape-by mode number e = rw e
 
-  pub shape-none : 7 ≤ row → shaped 0 0 1 ≡ shapeOf mode
-  unfolding shapeOf modes
-  shape-none h = sym (List·getD-eq-default modes (shaped 0 0 1) h) ∙ ap (λ (k : ℕ). getD modes k (shaped 0 0 1)) e
+-- none of three numbers is left
+none-of : (n low : ℕ) → low ≤ n → n < low + 3 → (n ≡ low → ⊥) → (n ≡ low + 1 → ⊥) → (n ≡ low + 2 → ⊥) → ⊥
+none-of n low h k a b c = absurd (omega arith)
+
+module _ (mode : ℕ) (zero : mode ≡ 0 → ⊥) where
+  outside : within 3 8 mode ≡ false → shaped 0 0 1 ≡ shapeOf mode
+  unfolding shapeOf rowOf modes
+  outside e = simp (ne-eqb mode 0 zero, e)
+
+  pub shape-none : (mode ≡ 3 → ⊥) → (mode ≡ 4 → ⊥) → (mode ≡ 5 → ⊥) → (mode ≡ 6 → ⊥) → (mode ≡ 7 → ⊥) → (mode ≡ 8 → ⊥) → shaped 0 0 1 ≡ shapeOf mode
+  shape-none a b c d e f =
+      by-lt mode 3 (λ h. outside (simp (lt-leb 3 mode h))) (λ h.
+      by-lt mode 6 (λ k. absurd (none-of mode 3 h k a b c)) (λ k.
+      by-lt mode 9 (λ l. absurd (none-of mode 6 k l d e f)) (λ l. outside (simp (lt-leb mode 8 l, and-false)))))
 
 -- a shape that `shape_of` gave
 module _ (mode : ℕ) (shape : Shape) (e : shape ≡ shapeOf mode) where
@@ -106,11 +117,12 @@ module _ (mode : ℕ) (shape : Shape) (e : shape ≡ shapeOf mode) where
   pub count-bound : Fits w64 (shape .columns * shape .rows)
   count-bound = record { fits = omega (arith, good-shape .fit) }
 
-  module _ (row column place : ℕ) (cells : List ℕ) (p : place ≡ placeOf shape row column) where
-    pub read-law : (byte cell : ℕ) → byte ≡ getD cells place 0 → cell ≡ byte % shape .colours → cell ≡ cellOf mode row column cells
-    unfolding cellOf
-    read-law byte cell q r = r ∙ rw (q, p, e)
+-- a cell of a shape
+module _ (shape : Shape) (row column place : ℕ) (cells : List ℕ) (p : place ≡ placeOf shape row column) where
+  pub read-law : (byte cell : ℕ) → byte ≡ getD cells place 0 → cell ≡ byte % shape .colours → cell ≡ cellOf shape row column cells
+  unfolding cellOf
+  read-law byte cell q r = r ∙ rw (q, p)
 
-    pub write-law : (byte cell : ℕ) (after : List ℕ) → cell ≡ byte % shape .colours → after ≡ set cells place cell → after ≡ withCell mode row column byte cells
-    unfolding withCell
-    write-law byte cell after r q = q ∙ rw (r, p, e)
+  pub write-law : (byte cell : ℕ) (after : List ℕ) → cell ≡ byte % shape .colours → after ≡ set cells place cell → after ≡ withCell shape row column byte cells
+  unfolding withCell
+  write-law byte cell after r q = q ∙ rw (r, p)

@@ -21,12 +21,12 @@ abbrev pub placeOf : Shape → ℕ → ℕ → ℕ
 placeOf shape row column = row * shape .columns + column
 
 -- "cell modulo colours"
-unfoldable pub cellOf : (mode row column : ℕ) → List ℕ → ℕ
-cellOf mode row column cells = getD cells (placeOf (shapeOf mode) row column) 0 % shapeOf mode .colours
+unfoldable pub cellOf : Shape → (row column : ℕ) → List ℕ → ℕ
+cellOf shape row column cells = getD cells (placeOf shape row column) 0 % shape .colours
 
 -- "cell = byte modulo colours"
-unfoldable pub withCell : (mode row column byte : ℕ) → List ℕ → List ℕ
-withCell mode row column byte cells = set cells (placeOf (shapeOf mode) row column) (byte % shapeOf mode .colours)
+unfoldable pub withCell : Shape → (row column byte : ℕ) → List ℕ → List ℕ
+withCell shape row column byte cells = set cells (placeOf shape row column) (byte % shape .colours)
 
 -- the mode's cells are all this byte
 unfoldable pub filled : (mode byte : ℕ) → List ℕ → List ℕ

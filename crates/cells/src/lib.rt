@@ -5,7 +5,7 @@ pub mod part;
 ghost use mathlib.Core.Path.{_≡_};
 ghost use Prim.Native.Nat.{_%_};
 ghost use Prim.Native.Nat.{_<_, _≤_};
-ghost use Rattle.cells.specs.Modes.{isMode, rowOf, shapeOf, countOf};
+ghost use Rattle.cells.specs.Modes.{isMode, shapeOf, countOf};
 ghost use Rattle.cells.specs.Cells.{Colours, Whole, placeOf, cellOf, withCell, filled, reduced, scrolled};
 
 pub struct Shape {
@@ -65,27 +65,32 @@ pub fn is_mode(mode: u8) -> bool
     mode <= 8
 }
 
-fn row_of(mode: u8) -> usize
-    ensures { λ r. ⌜ r ≡ rowOf mode ⌝ }
-{
-    if mode == 0 {
-        return 0;
-    }
-    if 3 <= mode {
-        if mode <= 8 {
-            return (mode - 2) as usize;
-        }
-    }
-    7
-}
-
-// A mode's row of the table; a number that is no mode has no cells.
+// A mode's row of the table, each by its own number, so that nothing of the table is left to be looked up when the code runs; a
+// number that is no mode has no cells.
 pub fn shape_of(mode: u8) -> Shape
     ensures { λ r. ⌜ r ≡ shapeOf mode ⌝ }
 {
-    let row = row_of(mode);
-    if row < 7 {
-        return MODES[row];
+    let modes = MODES;
+    if mode == 0 {
+        return modes[0];
+    }
+    if mode == 3 {
+        return modes[1];
+    }
+    if mode == 4 {
+        return modes[2];
+    }
+    if mode == 5 {
+        return modes[3];
+    }
+    if mode == 6 {
+        return modes[4];
+    }
+    if mode == 7 {
+        return modes[5];
+    }
+    if mode == 8 {
+        return modes[6];
     }
     Shape {
         columns: 0,
@@ -123,20 +128,27 @@ fn colour(byte: u8, colours: u16) -> u8
     (byte as u16 % colours) as u8
 }
 
-// A cell of a mode, modulo the mode's colours.
-pub fn read(screen: &[u8], mode: u8, row: u16, column: u16) -> u8
-    ensures { λ r. ⌜ r ≡ cellOf mode row column (now (screen .entry)) ⌝ }
+// A cell of a mode of this shape, modulo the mode's colours.
+pub fn read(screen: &[u8], shape: Shape, row: u16, column: u16) -> u8
+    requires { ⌜ Colours (shape .colours) ⌝ }
+    ensures { λ r. ⌜ r ≡ cellOf shape row column (now (screen .entry)) ⌝ }
 {
-    let s = shape_of(mode);
-    colour(base::byte_at(screen, place(s, row, column)), s.colours)
+    colour(
+        base::byte_at(screen, place(shape, row, column)),
+        shape.colours,
+    )
 }
 
-// A cell of a mode becomes a byte modulo the mode's colours.
-pub fn write(screen: &mut [u8], mode: u8, row: u16, column: u16, byte: u8)
-    ensures { λ _. ⌜ now (screen .exit) ≡ withCell mode row column byte (now (screen .entry)) ⌝ }
+// A cell of a mode of this shape becomes a byte modulo the mode's colours.
+pub fn write(screen: &mut [u8], shape: Shape, row: u16, column: u16, byte: u8)
+    requires { ⌜ Colours (shape .colours) ⌝ }
+    ensures { λ _. ⌜ now (screen .exit) ≡ withCell shape row column byte (now (screen .entry)) ⌝ }
 {
-    let s = shape_of(mode);
-    base::set_byte(screen, place(s, row, column), colour(byte, s.colours));
+    base::set_byte(
+        screen,
+        place(shape, row, column),
+        colour(byte, shape.colours),
+    );
 }
 
 // All cells of a mode become one byte.

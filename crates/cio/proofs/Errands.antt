@@ -9,7 +9,7 @@ use Rattle.blocks.specs.declared.Reply.{Reply}
 use Rattle.blocks.specs.declared.Phase.{Phase}
 use Rattle.blocks.specs.declared.Phase.the-variants.{Running, Replying}
 use Rattle.blocks.specs.Opening.{areaLength}
-use Rattle.wire.specs.Replies.{callReply, statusReply, fetchReply, bytesAt, Replied, replied, repliedOf}
+use Rattle.replies.specs.Replies.{callReply, statusReply, fetchReply, bytesAt, Replied, replied, repliedOf}
 use Rattle.plan.specs.declared.Errand.{Errand}
 use Rattle.plan.specs.declared.Errand.the-variants as errand
 use Rattle.transfer.specs.Transfer.{ends, InPort, inPort, landed}

@@ -1,6 +1,6 @@
 -- What becomes of a request is always what an answer stands for, so that a move's promise and a start's allow an outcome.
 -- Assumes nothing.
-use mathlib.Core.Path.{_≡_, ap}
+use mathlib.Core.Path.{_≡_, _∙_, ap}
 use mathlib.Core.List.{List}
 use Prim.Native.Nat.{ℕ}
 use Rattle.base.proofs.Choices.{choose-go}
@@ -19,9 +19,10 @@ use Rattle.wire.specs.declared.Call.{Call}
 use Rattle.plan.specs.declared.Work.{Work}
 use Rattle.plan.specs.declared.Work.the-variants as work
 use Rattle.plan.specs.declared.Job.{Job}
+use Rattle.transfer.specs.declared.Next.{Next}
 use Rattle.transfer.specs.declared.Next.the-variants.{On, Off}
-use Rattle.transfer.specs.Transfer.{Out, outOf, gotOf, sentByte, sentOf}
-use Rattle.transfer.proofs.Outs.{nextIn, next-out}
+use Rattle.transfer.specs.Transfer.{nextOf, Out, outOf, gotOf, sentByte, sentOf}
+use Rattle.transfer.proofs.Outs.{nextIn, next-in, next-out, carriedIn, got-same, sent-same}
 use Rattle.cio.specs.Move.{went, goOf, getOf, putOf, advanceOf}
 use Rattle.cio.specs.Start.{Begun, begun, runOf, preparedOut, openedOf, openingOf, transferOf, workOf, jobBegun}
 
@@ -29,16 +30,28 @@ use Rattle.cio.specs.Start.{Begun, begun, runOf, preparedOut, openedOf, 
 abbrev pub Stands : Out → Type 0
 Stands out = outOf (nextIn out) ≡ out
 
-go-stands : {D : Type 0} (A : Acts D) (kind : Kind) (run : Run) (area : List ℕ) (x : D) → Stands (goOf A kind run area x .out)
+-- of one character: what the code carried stands for it
+abbrev carriedOut : Run → Out → Out
+carriedOut run out = outOf (nextOf run (carriedIn (nextIn out)))
+
+carried-out : (run : Run) (next : Next) → nextOf run (carriedIn next) ≡ next → carriedOut run (outOf next) ≡ outOf next
+carried-out run next same = ap (λ (n : Next). outOf (nextOf run (carriedIn n))) (next-in next) ∙ ap outOf same
+
+go-stands : {D : Type 0} (A : Acts D) (kind : Kind) (run : Run) (area : List ℕ) (x : D)
+    → let out = goOf A kind run area x .out in
+    carriedOut run out ≡ out
 unfolding goOf getOf putOf
-go-stands A (Get way) run area x = next-out (gotOf way run (A .reads x .says) area .next)
+go-stands A (Get way) run area x =
+    let says = A .reads x .says in
+    carried-out run (gotOf way run says area .next) (got-same run way says area)
 go-stands A (Put way) run area x =
     let byte = sentByte way run area in
-    next-out (sentOf way run byte (A .writes byte x .says))
+    let says = A .writes byte x .says in
+    carried-out run (sentOf way run byte says) (sent-same run way byte says)
 
 pub advance-allowed : {D : Type 0} (H : Asked → Acts D) (port : ℕ) (run : Run) (area : List ℕ) (x : D)
     → let w = advanceOf H port run area x in
-    went (w .area) (w .device) (outOf (nextIn (w .out))) ≡ w
+    went (w .area) (w .device) (outOf (nextOf run (carriedIn (nextIn (w .out))))) ≡ w
 unfolding advanceOf
 advance-allowed H port run area x =
     let w = advanceOf H port run area x in

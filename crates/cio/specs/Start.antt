@@ -19,7 +19,7 @@ use Rattle.blocks.specs.declared.Table.{Table}
 use Rattle.blocks.specs.Blocks.{closedBlock, openBlock, blockAt, withBlock}
 use Rattle.blocks.specs.Opening.{areaLength, offersOf}
 use Rattle.wire.specs.declared.Call.{Call}
-use Rattle.wire.specs.Replies.{callReply, statusReply, fetchReply, bytesAt}
+use Rattle.replies.specs.Replies.{callReply, statusReply, fetchReply, bytesAt}
 use Rattle.plan.specs.declared.After.{After}
 use Rattle.plan.specs.declared.After.the-variants as after
 use Rattle.plan.specs.declared.Work.the-variants as work

@@ -10,11 +10,11 @@ pub fn load(address: u16, size: u16, half: &mut [u8], room: &mut [u8]) -> Phase
     ensures { λ r. ⌜ freed (inPort r (now (room .exit))) (now (half .exit)) ≡ loadOf address size (now (room .entry)) (now (half .entry)) ⌝ }
 {
     if address as usize + size as usize <= blocks::AREA {
-        wire::copy_bytes(half, address, room, 2, size);
-        let reply = wire::status_reply(room, 0x91, 0x01);
+        replies::copy_bytes(half, address, room, 2, size);
+        let reply = replies::status_reply(room, 0x91, 0x01);
         return Phase::Replying(reply);
     }
-    let reply = wire::status_reply(room, 0x91, 0xB0);
+    let reply = replies::status_reply(room, 0x91, 0xB0);
     Phase::Replying(reply)
 }
 
@@ -24,16 +24,16 @@ pub fn run_errand(errand: Errand, half: &mut [u8], room: &mut [u8]) -> Phase
 {
     match errand {
         Errand::Status(status, a) => {
-            let reply = wire::call_reply(room, status, 0, a);
+            let reply = replies::call_reply(room, status, 0, a);
             Phase::Replying(reply)
         }
         Errand::Load { address, size } => load(address, size, half, room),
         Errand::Fetch { address, count } => {
-            let reply = wire::fetch_reply(room, half, address, count);
+            let reply = replies::fetch_reply(room, half, address, count);
             Phase::Replying(reply)
         }
         Errand::Bad(status) => {
-            let reply = wire::status_reply(room, 0xFF, status);
+            let reply = replies::status_reply(room, 0xFF, status);
             Phase::Replying(reply)
         }
     }

@@ -3,10 +3,10 @@ use blocks::Kind;
 use blocks::Run;
 use blocks::Way;
 use handler::Asked;
-use transfer::Next;
+use transfer::Carried;
 ghost use mathlib.Core.Path.{_≡_};
 ghost use Rattle.handler.specs.Acts.{asksOn};
-ghost use Rattle.transfer.specs.Transfer.{outOf};
+ghost use Rattle.transfer.specs.Transfer.{nextOf, outOf};
 ghost use Rattle.devices.specs.Lent.{devicesLent, lentActs};
 ghost use Rattle.cio.specs.Move.{went, getOf, putOf, advanceOf};
 ghost use Rattle.cio.specs.Lends.{Moves, Goes};
@@ -32,9 +32,9 @@ fn get(
     numbers: &mut [u8],
     screen: &mut [u8],
     paper: &mut [u8],
-) -> Next
+) -> Carried
     requires { ⌜ Moves way run (now numbers) (now screen) ⌝ }
-    ensures { λ r. ⌜ went (now (half .exit)) (devicesLent (now (numbers .exit)) (now (screen .exit)) (now (paper .exit))) (outOf r) ≡ getOf (lentActs (run .device) asked) way run (now (half .entry)) (devicesLent (now (numbers .entry)) (now (screen .entry)) (now (paper .entry))) ⌝ }
+    ensures { λ r. ⌜ went (now (half .exit)) (devicesLent (now (numbers .exit)) (now (screen .exit)) (now (paper .exit))) (outOf (nextOf run r)) ≡ getOf (lentActs (run .device) asked) way run (now (half .entry)) (devicesLent (now (numbers .entry)) (now (screen .entry)) (now (paper .entry))) ⌝ }
 {
     let device = run.device;
     let got = devices::read(device, asked, numbers, screen, paper);
@@ -49,9 +49,9 @@ fn put(
     numbers: &mut [u8],
     screen: &mut [u8],
     paper: &mut [u8],
-) -> Next
+) -> Carried
     requires { ⌜ Moves way run (now numbers) (now screen) ⌝ }
-    ensures { λ r. ⌜ went (now (half .entry)) (devicesLent (now (numbers .exit)) (now (screen .exit)) (now (paper .exit))) (outOf r) ≡ putOf (lentActs (run .device) asked) way run (now (half .entry)) (devicesLent (now (numbers .entry)) (now (screen .entry)) (now (paper .entry))) ⌝ }
+    ensures { λ r. ⌜ went (now (half .entry)) (devicesLent (now (numbers .exit)) (now (screen .exit)) (now (paper .exit))) (outOf (nextOf run r)) ≡ putOf (lentActs (run .device) asked) way run (now (half .entry)) (devicesLent (now (numbers .entry)) (now (screen .entry)) (now (paper .entry))) ⌝ }
 {
     let device = run.device;
     let byte = transfer::byte_to_send(way, run, half);
@@ -67,9 +67,9 @@ pub fn advance(
     numbers: &mut [u8],
     screen: &mut [u8],
     paper: &mut [u8],
-) -> Next
+) -> Carried
     requires { ⌜ Goes run (now numbers) (now screen) ⌝ }
-    ensures { λ r. ⌜ went (now (half .exit)) (devicesLent (now (numbers .exit)) (now (screen .exit)) (now (paper .exit))) (outOf r) ≡ advanceOf (lentActs (run .device)) port run (now (half .entry)) (devicesLent (now (numbers .entry)) (now (screen .entry)) (now (paper .entry))) ⌝ }
+    ensures { λ r. ⌜ went (now (half .exit)) (devicesLent (now (numbers .exit)) (now (screen .exit)) (now (paper .exit))) (outOf (nextOf run r)) ≡ advanceOf (lentActs (run .device)) port run (now (half .entry)) (devicesLent (now (numbers .entry)) (now (screen .entry)) (now (paper .entry))) ⌝ }
 {
     let kind = run.kind;
     let asked = on_block(port, run.iocb);

@@ -16,8 +16,9 @@ use Rattle.keys.specs.Table as keys
 use Rattle.keys.specs.Translation as keys-to
 use Rattle.keys.specs.Keyboard as keyboard
 use Rattle.keys.specs.declared.keyboard.Keyboard.{Keyboard}
-use Rattle.editor.specs.Decide as editor-acts
+use Rattle.controls.specs.Decide as controls-acts
 use Rattle.editor.specs.Text as editor
+use Rattle.controls.specs.Put as controls
 use Rattle.editor.specs.Get as editor-get
 use Rattle.editor.specs.declared.ReadColumn.the-variants.{Dropped}
 use Rattle.graphics.specs.Picture as graphics
@@ -90,5 +91,5 @@ pub cases : map (λ (s : List Step). steps s freshGroup) scripts ≡
     record { heard = character 0x01 ∷ []; left = left 0 0 2 0 1 (freshGroup .screen) } ∷
     record { heard = none ∷ []; left = left 0 0 2 0 1 (freshGroup .screen) } ∷
     record { heard = did Success ∷ did Success ∷ []; left = left 3 0 1 5 1 (set zeros 0 1) } ∷ []
-unfolding modes rowOf shapeOf countOf cellOf withCell filled reduced scrolled keys.keys keys-to.entryOf keys-to.keyAnswer keys-to.translateOf keyboard.obeyed keyboard.struckBy keyboard.getOf editor-acts.plainOf editor-acts.actOf editor.newRow editor.openOf editor.lessOf editor.moreOf editor.clearOf editor.backOf editor.onward editor.dataOf editor.doing editor.putOf editor-get.cellsHeld editor-get.endOf editor-get.getAt editor-get.getOf graphics.onward graphics.cellsOpened graphics.openOf graphics.getOf graphics.clearOf graphics.dataOf graphics.putOf openE openS openOf readE readS readK readOf writeE writeS writeOf
+unfolding modes rowOf shapeOf countOf cellOf withCell filled reduced scrolled keys.keys keys-to.entryOf keys-to.keyAnswer keys-to.translateOf keyboard.obeyed keyboard.struckBy keyboard.getOf controls-acts.plainOf controls-acts.actOf editor.newRow editor.openOf controls.lessOf controls.moreOf controls.clearOf controls.backOf controls.onward controls.dataOf controls.doing controls.putOf editor-get.cellsHeld editor-get.endOf editor-get.getAt editor-get.getOf graphics.onward graphics.cellsOpened graphics.openOf graphics.getOf graphics.clearOf graphics.dataOf graphics.putOf openE openS openOf readE readS readK readOf writeE writeS writeOf
 cases = refl

@@ -17,34 +17,16 @@ use Rattle.console.proofs.state.Console.editor.Kinds as editor-kinds
 use Rattle.console.proofs.state.Console.editor.Reads as editor-reads
 use Rattle.console.proofs.state.Console.with_editor.Kinds as with-editor-kinds
 use Rattle.console.proofs.state.Console.with_editor.Reads as with-editor-reads
-use Rattle.console.proofs.state.Console.with_mode.Kinds as with-mode-kinds
-use Rattle.console.proofs.state.Console.with_mode.Reads as with-mode-reads
 use Rattle.console.proofs.state.Console.graphics.Kinds as graphics-kinds
 use Rattle.console.proofs.state.Console.graphics.Reads as graphics-reads
 use Rattle.console.proofs.state.Console.with_graphics.Kinds as with-graphics-kinds
 use Rattle.console.proofs.state.Console.with_graphics.Reads as with-graphics-reads
-use Rattle.console.proofs.state.Console.with_keyboard.Kinds as with-keyboard-kinds
-use Rattle.console.proofs.state.Console.with_keyboard.Reads as with-keyboard-reads
 use Rattle.console.proofs.state.Console.press.Kinds as press-kinds
 use Rattle.console.proofs.state.Console.press.Reads as press-reads
-use Rattle.console.proofs.fresh.Kinds as fresh-kinds
-use Rattle.console.proofs.fresh.Reads as fresh-reads
-use Rattle.console.proofs.open.Kinds as open-kinds
-use Rattle.console.proofs.open.Reads as open-reads
-use Rattle.console.proofs.prepare.Kinds as prepare-kinds
-use Rattle.console.proofs.prepare.Reads as prepare-reads
-use Rattle.console.proofs.read.Kinds as read-kinds
-use Rattle.console.proofs.read.Reads as read-reads
-use Rattle.console.proofs.write.Kinds as write-kinds
-use Rattle.console.proofs.write.Reads as write-reads
 use Rattle.console.proofs.each.open_editor.Kinds as open-editor-kinds
 use Rattle.console.proofs.each.open_editor.Reads as open-editor-reads
 use Rattle.console.proofs.each.open_screen.Kinds as open-screen-kinds
 use Rattle.console.proofs.each.open_screen.Reads as open-screen-reads
-use Rattle.console.proofs.each.prepare_editor.Kinds as prepare-editor-kinds
-use Rattle.console.proofs.each.prepare_editor.Reads as prepare-editor-reads
-use Rattle.console.proofs.each.prepare_screen.Kinds as prepare-screen-kinds
-use Rattle.console.proofs.each.prepare_screen.Reads as prepare-screen-reads
 use Rattle.console.proofs.each.read_editor.Kinds as read-editor-kinds
 use Rattle.console.proofs.each.read_editor.Reads as read-editor-reads
 use Rattle.console.proofs.each.read_screen.Kinds as read-screen-kinds
@@ -74,12 +56,6 @@ with-editor-decides κs a z z′ ws ws′ p e e′ = (e ∙ sym e′, refl)
 pub with-editor-allows : Allows 0 with-editor-kinds.ps with-editor-kinds.r with-editor-reads.Pre with-editor-reads.Learnt
 with-editor-allows κs a p = (_, (_, refl))
 
-pub with-mode-decides : Decides 0 with-mode-kinds.ps with-mode-kinds.r with-mode-reads.Pre with-mode-reads.Learnt
-with-mode-decides κs a z z′ ws ws′ p e e′ = (e ∙ sym e′, refl)
-
-pub with-mode-allows : Allows 0 with-mode-kinds.ps with-mode-kinds.r with-mode-reads.Pre with-mode-reads.Learnt
-with-mode-allows κs a p = (_, (_, refl))
-
 pub graphics-decides : Decides 0 graphics-kinds.ps graphics-kinds.r graphics-reads.Pre graphics-reads.Learnt
 graphics-decides κs a z z′ ws ws′ p e e′ = (e ∙ sym e′, refl)
 
@@ -92,47 +68,11 @@ with-graphics-decides κs a z z′ ws ws′ p e e′ = (e ∙ sym e′, refl)
 pub with-graphics-allows : Allows 0 with-graphics-kinds.ps with-graphics-kinds.r with-graphics-reads.Pre with-graphics-reads.Learnt
 with-graphics-allows κs a p = (_, (_, refl))
 
-pub with-keyboard-decides : Decides 0 with-keyboard-kinds.ps with-keyboard-kinds.r with-keyboard-reads.Pre with-keyboard-reads.Learnt
-with-keyboard-decides κs a z z′ ws ws′ p e e′ = (e ∙ sym e′, refl)
-
-pub with-keyboard-allows : Allows 0 with-keyboard-kinds.ps with-keyboard-kinds.r with-keyboard-reads.Pre with-keyboard-reads.Learnt
-with-keyboard-allows κs a p = (_, (_, refl))
-
 pub press-decides : Decides 0 press-kinds.ps press-kinds.r press-reads.Pre press-reads.Learnt
 press-decides κs a z z′ ws ws′ p e e′ = (e ∙ sym e′, refl)
 
 pub press-allows : Allows 0 press-kinds.ps press-kinds.r press-reads.Pre press-reads.Learnt
 press-allows κs a p = (_, (_, refl))
-
-pub fresh-decides : Decides 1 fresh-kinds.ps fresh-kinds.r fresh-reads.Pre fresh-reads.Learnt
-fresh-decides κs a z z′ ws ws′ p e e′ = let q = e ∙ sym e′ in (ap (λ (w : ConsoleGroup). w .console) q, ap (λ (w : ConsoleGroup). (w .screen, tt)) q)
-
-pub fresh-allows : Allows 1 fresh-kinds.ps fresh-kinds.r fresh-reads.Pre fresh-reads.Learnt
-fresh-allows κs a p = (_, (_, refl))
-
-pub open-decides : Decides 1 open-kinds.ps open-kinds.r open-reads.Pre open-reads.Learnt
-open-decides κs a z z′ ws ws′ p e e′ = let q = e ∙ sym e′ in (ap (λ (w : Answer Done ConsoleGroup). record { console = w .leaves .console; done = w .says }) q, ap (λ (w : Answer Done ConsoleGroup). (tt, (tt, (w .leaves .screen, (tt, (tt, tt)))))) q)
-
-pub open-allows : Allows 1 open-kinds.ps open-kinds.r open-reads.Pre open-reads.Learnt
-open-allows κs a p = (_, (_, refl))
-
-pub prepare-decides : Decides 1 prepare-kinds.ps prepare-kinds.r prepare-reads.Pre prepare-reads.Learnt
-prepare-decides κs a z z′ ws ws′ p e e′ = let q = e ∙ sym e′ in (ap (λ (w : Answer Done ConsoleGroup). record { console = w .leaves .console; done = w .says }) q, ap (λ (w : Answer Done ConsoleGroup). (tt, (tt, (w .leaves .screen, tt)))) q)
-
-pub prepare-allows : Allows 1 prepare-kinds.ps prepare-kinds.r prepare-reads.Pre prepare-reads.Learnt
-prepare-allows κs a p = (_, (_, refl))
-
-pub read-decides : Decides 1 read-kinds.ps read-kinds.r read-reads.Pre read-reads.Learnt
-read-decides κs a z z′ ws ws′ p e e′ = let q = e ∙ sym e′ in (ap (λ (w : Answer Got ConsoleGroup). record { console = w .leaves .console; got = w .says }) q, ap (λ (w : Answer Got ConsoleGroup). (tt, (tt, (w .leaves .screen, tt)))) q)
-
-pub read-allows : Allows 1 read-kinds.ps read-kinds.r read-reads.Pre read-reads.Learnt
-read-allows κs a p = (_, (_, refl))
-
-pub write-decides : Decides 1 write-kinds.ps write-kinds.r write-reads.Pre write-reads.Learnt
-write-decides κs a z z′ ws ws′ p e e′ = let q = e ∙ sym e′ in (ap (λ (w : Answer Done ConsoleGroup). record { console = w .leaves .console; done = w .says }) q, ap (λ (w : Answer Done ConsoleGroup). (tt, (tt, (w .leaves .screen, (tt, tt))))) q)
-
-pub write-allows : Allows 1 write-kinds.ps write-kinds.r write-reads.Pre write-reads.Learnt
-write-allows κs a p = (_, (_, refl))
 
 pub open-editor-decides : Decides 1 open-editor-kinds.ps open-editor-kinds.r open-editor-reads.Pre open-editor-reads.Learnt
 open-editor-decides κs a z z′ ws ws′ p e e′ = let q = e ∙ sym e′ in (ap (λ (w : ConsoleGroup). w .console) q, ap (λ (w : ConsoleGroup). (tt, (w .screen, tt))) q)
@@ -145,18 +85,6 @@ open-screen-decides κs a z z′ ws ws′ p e e′ = let q = e ∙ sym e′ in (
 
 pub open-screen-allows : Allows 1 open-screen-kinds.ps open-screen-kinds.r open-screen-reads.Pre open-screen-reads.Learnt
 open-screen-allows κs a p = (_, (_, refl))
-
-pub prepare-editor-decides : Decides 1 prepare-editor-kinds.ps prepare-editor-kinds.r prepare-editor-reads.Pre prepare-editor-reads.Learnt
-prepare-editor-decides κs a z z′ ws ws′ p e e′ = let q = e ∙ sym e′ in (ap (λ (w : ConsoleGroup). w .console) q, ap (λ (w : ConsoleGroup). (tt, (w .screen, tt))) q)
-
-pub prepare-editor-allows : Allows 1 prepare-editor-kinds.ps prepare-editor-kinds.r prepare-editor-reads.Pre prepare-editor-reads.Learnt
-prepare-editor-allows κs a p = (_, (_, refl))
-
-pub prepare-screen-decides : Decides 0 prepare-screen-kinds.ps prepare-screen-kinds.r prepare-screen-reads.Pre prepare-screen-reads.Learnt
-prepare-screen-decides κs a z z′ ws ws′ p e e′ = (e ∙ sym e′, refl)
-
-pub prepare-screen-allows : Allows 0 prepare-screen-kinds.ps prepare-screen-kinds.r prepare-screen-reads.Pre prepare-screen-reads.Learnt
-prepare-screen-allows κs a p = (_, (_, refl))
 
 pub read-editor-decides : Decides 1 read-editor-kinds.ps read-editor-kinds.r read-editor-reads.Pre read-editor-reads.Learnt
 read-editor-decides κs a z z′ ws ws′ p e e′ = let q = e ∙ sym e′ in (ap (λ (w : Answer Got ConsoleGroup). record { console = w .leaves .console; got = w .says }) q, ap (λ (w : Answer Got ConsoleGroup). (tt, (w .leaves .screen, tt))) q)

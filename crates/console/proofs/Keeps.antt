@@ -19,12 +19,14 @@ use Rattle.keys.specs.Keyboard as keys
 use Rattle.keys.specs.declared.keyboard.Keyboard.{Keyboard}
 use Rattle.keys.proofs.Keeps as keys-keeps
 use Rattle.editor.specs.Text as editor
+use Rattle.controls.specs.Put as controls
 use Rattle.editor.specs.Get as editor-get
 use Rattle.editor.specs.Fit.{FitReading, FitEditor, FitText}
 use Rattle.editor.specs.declared.Editor.{Editor}
 use Rattle.editor.specs.declared.ReadColumn.{ReadColumn}
 use Rattle.editor.specs.declared.ReadColumn.the-variants.{Dropped, At}
 use Rattle.editor.proofs.Keeps as editor-keeps
+use Rattle.controls.proofs.Keeps as controls-keeps
 use Rattle.graphics.specs.Picture as graphics
 use Rattle.graphics.specs.Fit.{FitGraphics, FitPicture}
 use Rattle.graphics.specs.declared.Graphics.{Graphics}
@@ -229,7 +231,7 @@ module _ (g : ConsoleGroup) (f : FitGroup g) where
 
   pub write-fit : (h : Handler) (byte : ℕ) → InUse h (g .console) → FitGroup (writeOf h byte g .leaves)
   unfolding writeOf writeE writeS
-  write-fit E byte z = text-fit (editor.putOf byte (textOf g) .leaves) z (editor-keeps.put-fit byte (textOf g) (text-fits z))
+  write-fit E byte z = text-fit (controls.putOf byte (textOf g) .leaves) z (controls-keeps.put-fit byte (textOf g) (text-fits z))
   write-fit S byte z = picture-fit (graphics.putOf byte (pictureOf g) .leaves) (graphics-keeps.put-fit (pictureOf g) (record { graphics = graphics-fit (g .console) fits z; whole = f .whole }) byte)
   write-fit K byte z = f
 

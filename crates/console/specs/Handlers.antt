@@ -14,6 +14,7 @@ use Rattle.keys.specs.Keyboard as keys
 use Rattle.keys.specs.declared.keyboard.Keyboard.{Keyboard}
 use Rattle.editor.specs.Text.{Text, text}
 use Rattle.editor.specs.Text as editor
+use Rattle.controls.specs.Put as controls
 use Rattle.editor.specs.Get as editor-get
 use Rattle.graphics.specs.Picture.{Picture, picture}
 use Rattle.graphics.specs.Picture as graphics
@@ -78,7 +79,7 @@ readOf S g = seen (λ (c : Console). group c (g .screen)) (readS (g .screen) (g 
 readOf K g = seen (λ (c : Console). group c (g .screen)) (readK (g .console))
 
 unfoldable pub writeE : ℕ → ConsoleGroup → Answer Done ConsoleGroup
-writeE byte g = seen (withText g) (editor.putOf byte (textOf g))
+writeE byte g = seen (withText g) (controls.putOf byte (textOf g))
 
 unfoldable pub writeS : ℕ → ConsoleGroup → Answer Done ConsoleGroup
 writeS byte g = seen (withPicture g) (graphics.putOf byte (pictureOf g))

@@ -2,20 +2,20 @@
 use crate::ConsoleDone;
 use crate::ConsoleGot;
 use crate::state::Console;
-use handler::Done;
 ghost use mathlib.Core.Path.{_≡_};
 ghost use Rattle.handler.specs.Answer.{answer};
 ghost use Rattle.cells.specs.Cells.{Whole};
 ghost use Rattle.console.specs.Group.{group};
-ghost use Rattle.console.specs.Handlers.{openE, openS, prepareE, prepareS, readE, readS, readK, writeE, writeS};
+ghost use Rattle.console.specs.Handlers.{openE, openS, readE, readS, readK, writeE, writeS};
 
 pub fn open_editor(console: Console, screen: &mut [u8]) -> Console
     requires { ⌜ Whole (now screen) ⌝ }
     ensures { λ r. ⌜ group r (now (screen .exit)) ≡ openE (group console (now (screen .entry))) ⌝ }
 {
     let next = editor::open(console.editor(), screen);
-    let text = console.with_editor(next);
-    text.with_mode(0)
+    let mut text = console.with_editor(next);
+    text.mode = 0;
+    text
 }
 
 pub fn open_screen(console: Console, screen: &mut [u8], aux1: u8, aux2: u8) -> ConsoleDone
@@ -30,29 +30,6 @@ pub fn open_screen(console: Console, screen: &mut [u8], aux1: u8, aux2: u8) -> C
         console: next,
         done: done,
     }
-}
-
-// In another mode E is opened anew.
-pub fn prepare_editor(console: Console, screen: &mut [u8]) -> Console
-    requires { ⌜ Whole (now screen) ⌝ }
-    ensures { λ r. ⌜ group r (now (screen .exit)) ≡ prepareE (group console (now (screen .entry))) ⌝ }
-{
-    let mode = console.mode;
-    if mode == 0 {
-        return console;
-    }
-    open_editor(console, screen)
-}
-
-// In mode 0 S is refused.
-pub fn prepare_screen(console: Console) -> Done
-    ensures { λ r. ⌜ r ≡ prepareS console ⌝ }
-{
-    let mode = console.mode;
-    if mode == 0 {
-        return Done::Refused(0x91);
-    }
-    Done::Success
 }
 
 pub fn read_editor(console: Console, screen: &mut [u8]) -> ConsoleGot
@@ -89,7 +66,8 @@ pub fn read_keyboard(console: Console) -> ConsoleGot
     let r = keyboard.get();
     let k = r.keyboard;
     let got = r.got;
-    let next = console.with_keyboard(k);
+    let mut next = console;
+    next.keyboard = k;
     ConsoleGot {
         console: next,
         got: got,
@@ -100,7 +78,7 @@ pub fn write_editor(console: Console, screen: &mut [u8], byte: u8) -> ConsoleDon
     requires { ⌜ Whole (now screen) ⌝ }
     ensures { λ r. ⌜ answer (r .done) (group (r .console) (now (screen .exit))) ≡ writeE byte (group console (now (screen .entry))) ⌝ }
 {
-    let w = editor::put::put(console.editor(), screen, byte);
+    let w = controls::put(console.editor(), screen, byte);
     let e = w.editor;
     let done = w.done;
     let next = console.with_editor(e);

@@ -4,7 +4,7 @@ use editor::ReadColumn;
 use graphics::Graphics;
 use keys::keyboard::Keyboard;
 ghost use mathlib.Core.Path.{_≡_};
-ghost use Rattle.console.specs.Group.{freshConsole, editorOf, withEditor, withMode, graphicsOf, withGraphics, withKeyboard, pressedOf};
+ghost use Rattle.console.specs.Group.{freshConsole, editorOf, withEditor, graphicsOf, withGraphics, pressedOf};
 
 pub struct Console {
     pub mode: u8,
@@ -61,14 +61,6 @@ impl Console {
         }
     }
 
-    pub fn with_mode(self, mode: u8) -> Console
-        ensures { λ r. ⌜ r ≡ withMode mode self ⌝ }
-    {
-        let mut next = self;
-        next.mode = mode;
-        next
-    }
-
     // S's part.
     pub fn graphics(self) -> Graphics
         ensures { λ r. ⌜ r ≡ graphicsOf self ⌝ }
@@ -92,19 +84,14 @@ impl Console {
         next
     }
 
-    pub fn with_keyboard(self, keyboard: Keyboard) -> Console
-        ensures { λ r. ⌜ r ≡ withKeyboard keyboard self ⌝ }
-    {
-        let mut next = self;
-        next.keyboard = keyboard;
-        next
-    }
-
     // A key pressed.
     pub fn press(self, code: u8) -> Console
         ensures { λ r. ⌜ r ≡ pressedOf code self ⌝ }
     {
         let keyboard = self.keyboard;
-        self.with_keyboard(keyboard.press(code))
+        let pressed = keyboard.press(code);
+        let mut next = self;
+        next.keyboard = pressed;
+        next
     }
 }

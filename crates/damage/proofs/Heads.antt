@@ -14,7 +14,7 @@ use Rattle.base.proofs.Choices.{by-eq}
 use Rattle.cells.specs.Modes.{shapeOf, isMode}
 use Rattle.console.specs.Fit.{cursorFits, readingFits, keysFit, fitOf}
 use Rattle.wire.specs.Messages.{wordAt}
-use Rattle.layout.specs.Places.{devicesPlace, consolePlace, printerPlace, portPlace}
+use Rattle.layout.specs.Places.{portLength, devicesPlace, consolePlace, printerPlace, portPlace}
 use Rattle.layout.specs.Stick.{Lent}
 use Rattle.layout.specs.Layout.{byteAt, deviceIn, phaseIn, portIn, readingIn, consoleIn, printerIn, stickIn}
 use Rattle.layout.specs.Stands.{portStands, consoleStands, stands}
@@ -22,7 +22,7 @@ use Rattle.devices.specs.declared.Group.{Group}
 use Rattle.devices.specs.declared.Group.the-variants as group
 use Rattle.devices.specs.Groups.{groupOf, heldOf, clash}
 use Rattle.damage.specs.Fits.{portFits, portsApart, stickFits}
-use Rattle.damage.specs.Whole.{portWhole, textWhole, pictureWhole, cursorWhole, readingWhole, consoleWhole, devicesWhole, onConsole, apartGroups, apartWhole, modeIn, headWhole}
+use Rattle.damage.specs.Whole.{portWhole, textWhole, pictureWhole, cursorWhole, readingWhole, consoleWhole, devicesWhole, onConsole, apartGroups, apartWhole, modeIn, allFrom, portAtWhole, headWhole}
 use Rattle.damage.proofs.Ands as ands
 use Rattle.damage.proofs.Phases.{port-is, port-mode}
 
@@ -124,10 +124,18 @@ module _ (b : List ℕ) where
   port-whole : (p : List ℕ) → portWhole p (modeIn b) ≡ and (portStands p) (portFits (portIn p) (consoleIn console))
   port-whole p = ap (portWhole p) mode-is ∙ port-is p (consoleIn console .mode) ∙ ap (and (portStands p)) (port-mode (portIn p) (consoleIn console))
 
+  -- the two ports, one after the other
+  ports-are : (rest : Bool) → and (allFrom (portAtWhole b) portLength (portPlace 0) 2) rest ≡ and (portWhole b (modeIn b)) (and (portWhole second (modeIn b)) rest)
+  unfolding allFrom
+  ports-are rest =
+      ap (λ (x : Bool). and (and (portWhole b (modeIn b)) x) rest) (ands.and-true (portWhole second (modeIn b)))
+      ∙ ands.and-assoc (portWhole b (modeIn b)) (portWhole second (modeIn b)) rest
+
   pub head-is : (l : Lent) → headWhole b ≡ and (stands b) (stickFits (stickIn b) l)
   unfolding headWhole stands stickFits stickIn
   head-is l =
       let c = consoleIn console in
       let used = leb (printerIn printer .used) 4096 in
-      ands.both (port-whole b) (ands.both (port-whole second) (ands.both devices-are apart-is ∙ ands.and-assoc (and (consoleStands console) (fitOf c)) used (portsApart (stickIn b))))
+      ports-are (and (devicesWhole (drop devicesPlace b)) (apartWhole b))
+      ∙ ands.both (port-whole b) (ands.both (port-whole second) (ands.both devices-are apart-is ∙ ands.and-assoc (and (consoleStands console) (fitOf c)) used (portsApart (stickIn b))))
       ∙ ands.head (portStands b) (portFits (portIn b) c) (portStands second) (portFits (portIn second) c) (consoleStands console) (fitOf c) (and used (portsApart (stickIn b)))

@@ -4,7 +4,7 @@ use mathlib.Core.Path.{_≡_, _∙_, refl, sym, ap}
 use mathlib.Core.Bool.{Bool, true, false, not}
 use mathlib.Core.List.{List}
 use Prim.Native.Nat.{ℕ, zero, suc, _+_, _*_, _%_, _<_}
-use native.Mathlib.Nat.{add-zero, zero-add, div-one}
+use native.Mathlib.Nat.{add-zero, zero-add, add-assoc, div-one}
 use native.Mathlib.Omega.{arith}
 use borrow.Author.Tests.{eq-eqb, ne-eqb}
 use lib.Dec.{eqb, leb, ltb}
@@ -13,12 +13,12 @@ use lib.Seq.{getD-drop}
 use Rattle.base.specs.Choice.{pick, and, or, within, bit}
 use Rattle.base.proofs.Choices.{and-left, and-right, by-eq}
 use Rattle.blocks.specs.Opening.{offersOf, forced}
-use Rattle.blocks.specs.Made.{splits, madeOpen, madeOf, tableMade}
+use Rattle.blocks.specs.Made.{splits, madeOpen, madeOf, allMade, tableMade}
 use Rattle.layout.specs.Places.{phaseLength, blockLength}
 use Rattle.layout.specs.Layout.{byteAt, deviceIn, blockOf, blockIn, blocksIn, tableIn}
 use Rattle.layout.specs.Stands.{blockStands, blockStandsIn, blocksStand, tableStands, unused}
-use Rattle.damage.specs.Whole.{aux1Whole, openWhole, blockWhole, twoWhole, fourWhole, tableWhole}
-use Rattle.damage.proofs.Ands.{both, and-true, and-assoc, zip, twos, list}
+use Rattle.damage.specs.Whole.{aux1Whole, openWhole, blockWhole, twoWhole, allFrom, tableWhole}
+use Rattle.damage.proofs.Ands.{both, and-true, and-assoc, zip}
 
 -- E's R needs bit 0
 forces : (r f : Bool) → pick r f true ≡ and (or (not r) f) true
@@ -48,10 +48,10 @@ block-is device number aux1 =
     by-eq device 0 (λ z. rw (eq-eqb device 0 z) (sym (and-true (and (eqb number 0) (eqb aux1 0)))))
     (λ z. rw (ne-eqb device 0 z) (open-is device number aux1))
 
--- four blocks, of a list that begins elsewhere
-moved : (b : List ℕ) → tableWhole b ≡ and (fourWhole (drop phaseLength b) 0) (fourWhole (drop phaseLength b) (4 * blockLength))
-unfolding tableWhole fourWhole twoWhole
-moved b = simp getD-drop
+-- twice as many
+double : ℕ → ℕ
+double zero = zero
+double (suc n) = suc (suc (double n))
 
 module _ (b : List ℕ) where
   two-is : (place : ℕ) → twoWhole b place ≡ and (and (blockStandsIn b place) (blockStandsIn b (place + blockLength))) (and (madeOf (blockIn b place)) (madeOf (blockIn b (place + blockLength))))
@@ -60,32 +60,30 @@ module _ (b : List ℕ) where
       both (block-is (byteAt b place) (byteAt b (place + 1)) (byteAt b (place + 2))) (block-is (byteAt b (place + blockLength)) (byteAt b (place + blockLength + 1)) (byteAt b (place + blockLength + 2)))
       ∙ zip (blockStandsIn b place) (madeOf (blockIn b place)) (blockStandsIn b (place + blockLength)) (madeOf (blockIn b (place + blockLength)))
 
-  abbrev s : ℕ → Bool
-  s place = and (blockStandsIn b place) (blockStandsIn b (place + blockLength))
+  -- pairs of blocks, one after the other, are twice as many blocks
+  pairs-are : (place n : ℕ) → allFrom (twoWhole b) (2 * blockLength) place n ≡ and (blocksStand b place (double n)) (allMade (blocksIn b place (double n)))
+  unfolding allFrom blocksStand blocksIn double
+  pairs-are place zero = refl
+  pairs-are place (suc n) =
+      let next = place + blockLength in
+      let stand = blocksStand b (next + blockLength) (double n) in
+      let made = allMade (blocksIn b (next + blockLength) (double n)) in
+      let same : place + 2 * blockLength ≡ next + blockLength = omega arith in
+      let behind = pairs-are (place + 2 * blockLength) n ∙ ap (λ (k : ℕ). and (blocksStand b k (double n)) (allMade (blocksIn b k (double n)))) same in
+      both (two-is place) behind
+      ∙ zip (and (blockStandsIn b place) (blockStandsIn b next)) (and (madeOf (blockIn b place)) (madeOf (blockIn b next))) stand made
+      ∙ both (and-assoc (blockStandsIn b place) (blockStandsIn b next) stand) (and-assoc (madeOf (blockIn b place)) (madeOf (blockIn b next)) made)
 
-  abbrev m : ℕ → Bool
-  m place = and (madeOf (blockIn b place)) (madeOf (blockIn b (place + blockLength)))
+  -- the same of a list that begins elsewhere
+  two-there : (from place : ℕ) → twoWhole b (from + place) ≡ twoWhole (drop from b) place
+  unfolding twoWhole
+  two-there from place = simp (getD-drop, add-assoc)
 
-  zipped : and (fourWhole b 0) (fourWhole b (4 * blockLength)) ≡ and (and (and (s 0) (s 6)) (and (s 12) (s 18))) (and (and (m 0) (m 6)) (and (m 12) (m 18)))
-  unfolding fourWhole
-  zipped =
-      both (both (two-is 0) (two-is 6) ∙ zip (s 0) (m 0) (s 6) (m 6)) (both (two-is 12) (two-is 18) ∙ zip (s 12) (m 12) (s 18) (m 18))
-      ∙ zip (and (s 0) (s 6)) (and (m 0) (m 6)) (and (s 12) (s 18)) (and (m 12) (m 18))
-
-  all-stand : and (and (s 0) (s 6)) (and (s 12) (s 18)) ≡ tableStands b
-  unfolding blocksStand
-  all-stand =
-      twos (blockStandsIn b 0) (blockStandsIn b 3) (blockStandsIn b 6) (blockStandsIn b 9) (blockStandsIn b 12) (blockStandsIn b 15) (blockStandsIn b 18) (blockStandsIn b 21)
-      ∙ list (blockStandsIn b 0) (blockStandsIn b 3) (blockStandsIn b 6) (blockStandsIn b 9) (blockStandsIn b 12) (blockStandsIn b 15) (blockStandsIn b 18) (blockStandsIn b 21)
-
-  all-made : and (and (m 0) (m 6)) (and (m 12) (m 18)) ≡ tableMade (tableIn b)
-  unfolding blocksIn
-  all-made =
-      twos (madeOf (blockIn b 0)) (madeOf (blockIn b 3)) (madeOf (blockIn b 6)) (madeOf (blockIn b 9)) (madeOf (blockIn b 12)) (madeOf (blockIn b 15)) (madeOf (blockIn b 18)) (madeOf (blockIn b 21))
-      ∙ list (madeOf (blockIn b 0)) (madeOf (blockIn b 3)) (madeOf (blockIn b 6)) (madeOf (blockIn b 9)) (madeOf (blockIn b 12)) (madeOf (blockIn b 15)) (madeOf (blockIn b 18)) (madeOf (blockIn b 21))
-
-  eight-are : and (fourWhole b 0) (fourWhole b (4 * blockLength)) ≡ and (tableStands b) (tableMade (tableIn b))
-  eight-are = zipped ∙ both all-stand all-made
+  pairs-there : (from place n : ℕ) → allFrom (twoWhole b) (2 * blockLength) (from + place) n ≡ allFrom (twoWhole (drop from b)) (2 * blockLength) place n
+  unfolding allFrom
+  pairs-there from place zero = refl
+  pairs-there from place (suc n) =
+      both (two-there from place) (rw (add-assoc from place (2 * blockLength)) (pairs-there from (place + 2 * blockLength) n))
 
   -- each block of a table that stands
   each : (place n i : ℕ) → blocksStand b place n ≡ true → i < n → blockStandsIn b (place + blockLength * i) ≡ true
@@ -101,4 +99,5 @@ module _ (b : List ℕ) where
 
 -- the table of a port's bytes
 pub table-is : (b : List ℕ) → tableWhole b ≡ and (tableStands (drop phaseLength b)) (tableMade (tableIn (drop phaseLength b)))
-table-is b = moved b ∙ eight-are (drop phaseLength b)
+unfolding tableWhole double
+table-is b = pairs-there b phaseLength 0 4 ∙ pairs-are (drop phaseLength b) 0 4

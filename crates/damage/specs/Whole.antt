@@ -3,7 +3,7 @@
 -- Assumes nothing.
 use mathlib.Core.Bool.{Bool, true, false, not}
 use mathlib.Core.List.{List}
-use Prim.Native.Nat.{ℕ, _+_, _*_, _%_}
+use Prim.Native.Nat.{ℕ, zero, suc, _+_, _*_, _%_}
 use lib.Dec.{eqb, leb, ltb}
 use lib.ListN.{drop}
 use Rattle.base.specs.Choice.{pick, and, within, bit}
@@ -13,7 +13,7 @@ use Rattle.console.specs.declared.state.Console.{Console}
 use Rattle.console.specs.Group.{freshConsole, withMode}
 use Rattle.wire.specs.Messages.{wordAt}
 use Rattle.wire.specs.Fits.{gatherFits, replyFits}
-use Rattle.layout.specs.Places.{phaseLength, blockLength, devicesPlace, consolePlace, printerPlace, portPlace}
+use Rattle.layout.specs.Places.{phaseLength, blockLength, portLength, devicesPlace, consolePlace, printerPlace, portPlace}
 use Rattle.layout.specs.Layout.{byteAt, gatherIn, replyIn}
 use Rattle.layout.specs.Stands.{unused, restUnused, runStands}
 
@@ -36,19 +36,14 @@ blockWholeIn b place = blockWhole (byteAt b place) (byteAt b (place + 1)) (byteA
 unfoldable pub twoWhole : List ℕ → ℕ → Bool
 twoWhole b place = and (blockWholeIn b place) (blockWholeIn b (place + blockLength))
 
-unfoldable pub fourWhole : List ℕ → ℕ → Bool
-fourWhole b place = and (twoWhole b place) (twoWhole b (place + 2 * blockLength))
-
-abbrev pub unusedIn : List ℕ → ℕ → Bool
-unusedIn b place = unused (byteAt b place) (byteAt b (place + 1)) (byteAt b (place + 2)) (byteAt b (place + 3))
-
--- the twelve bytes of four closed blocks
-unfoldable pub fourClosed : List ℕ → ℕ → Bool
-fourClosed b place = and (unusedIn b place) (and (unusedIn b (place + 4)) (unusedIn b (place + 8)))
+-- a test of `count` places, from one on, each `step` behind the one before
+unfoldable pub allFrom : (test : ℕ → Bool) (step place count : ℕ) → Bool
+allFrom test step place zero = true
+allFrom test step place (suc count) = and (test place) (allFrom test step (place + step) count)
 
 -- a port's parts, of a list that begins with its bytes
 unfoldable pub tableWhole : List ℕ → Bool
-tableWhole b = and (fourWhole b phaseLength) (fourWhole b (phaseLength + 4 * blockLength))
+tableWhole b = allFrom (twoWhole b) (2 * blockLength) phaseLength 4
 
 unfoldable pub gatherWhole : List ℕ → Bool
 gatherWhole b = and (restUnused b) (gatherFits (gatherIn b))
@@ -144,11 +139,13 @@ apartWhole b =
 abbrev pub modeIn : List ℕ → ℕ
 modeIn b = byteAt b (devicesPlace + consolePlace)
 
+abbrev pub portAtWhole : List ℕ → (place : ℕ) → Bool
+portAtWhole b place = portWhole (drop place b) (modeIn b)
+
 unfoldable pub headWhole : List ℕ → Bool
 headWhole b =
-    and (portWhole (drop (portPlace 0) b) (modeIn b))
-    (and (portWhole (drop (portPlace 1) b) (modeIn b))
-    (and (devicesWhole (drop devicesPlace b)) (apartWhole b)))
+    and (allFrom (portAtWhole b) portLength (portPlace 0) 2)
+    (and (devicesWhole (drop devicesPlace b)) (apartWhole b))
 
 -- a console in this mode: of a console the ports' tests ask its mode alone
 abbrev pub consoleWith : ℕ → Console

@@ -47,7 +47,7 @@ use Rattle.demands.specs.Bytes.{standsFor, leftBy, doneWith, callBytes, 
 -- the lengths, as the code tests them
 module _ (b : Buffers) where
   pub lengths-true : Lengths b → buffersFit b ≡ true
-  lengths-true f = sym (lengths-all b (f .long) (f .halves) (f .whole .all) (f .sheet))
+  lengths-true f = sym (lengths-all (length (b .state)) (length (b .area)) (length (b .screen)) (length (b .paper)) (f .long) (f .halves) (f .whole .all) (f .sheet))
 
   pub lengths-false : (Lengths b → ⊥) → buffersFit b ≡ false
   lengths-false n = by-test (buffersFit b) (λ t. absurd (n (lengths-of b t))) (λ t. t)

@@ -62,13 +62,14 @@ use Rattle.editor.proofs.line.end.Kinds as editor-end-kinds
 use Rattle.editor.proofs.line.end.Reads as editor-end-reads
 use Rattle.editor.proofs.line.dropped.Kinds as editor-dropped-kinds
 use Rattle.editor.proofs.line.dropped.Reads as editor-dropped-reads
-use Rattle.editor.proofs.decide.plain.Kinds as editor-plain-kinds
-use Rattle.editor.proofs.decide.plain.Reads as editor-plain-reads
-use Rattle.editor.proofs.decide.act_of.Kinds as editor-act-of-kinds
-use Rattle.editor.proofs.decide.act_of.Reads as editor-act-of-reads
-use Rattle.editor.proofs.put.put.Kinds as editor-put-kinds
-use Rattle.editor.proofs.put.put.Reads as editor-put-reads
 use Rattle.editor.proofs.Decided as editor
+use Rattle.controls.proofs.decide.plain.Kinds as controls-plain-kinds
+use Rattle.controls.proofs.decide.plain.Reads as controls-plain-reads
+use Rattle.controls.proofs.decide.act_of.Kinds as controls-act-of-kinds
+use Rattle.controls.proofs.decide.act_of.Reads as controls-act-of-reads
+use Rattle.controls.proofs.put.Kinds as controls-put-kinds
+use Rattle.controls.proofs.put.Reads as controls-put-reads
+use Rattle.controls.proofs.Decided as controls
 use Rattle.graphics.proofs.Graphics.place.Kinds as graphics-place-kinds
 use Rattle.graphics.proofs.Graphics.place.Reads as graphics-place-reads
 use Rattle.graphics.proofs.open.Kinds as graphics-open-kinds
@@ -89,34 +90,16 @@ use Rattle.console.proofs.state.Console.editor.Kinds as console-editor-kinds
 use Rattle.console.proofs.state.Console.editor.Reads as console-editor-reads
 use Rattle.console.proofs.state.Console.with_editor.Kinds as console-with-editor-kinds
 use Rattle.console.proofs.state.Console.with_editor.Reads as console-with-editor-reads
-use Rattle.console.proofs.state.Console.with_mode.Kinds as console-with-mode-kinds
-use Rattle.console.proofs.state.Console.with_mode.Reads as console-with-mode-reads
 use Rattle.console.proofs.state.Console.graphics.Kinds as console-graphics-kinds
 use Rattle.console.proofs.state.Console.graphics.Reads as console-graphics-reads
 use Rattle.console.proofs.state.Console.with_graphics.Kinds as console-with-graphics-kinds
 use Rattle.console.proofs.state.Console.with_graphics.Reads as console-with-graphics-reads
-use Rattle.console.proofs.state.Console.with_keyboard.Kinds as console-with-keyboard-kinds
-use Rattle.console.proofs.state.Console.with_keyboard.Reads as console-with-keyboard-reads
 use Rattle.console.proofs.state.Console.press.Kinds as console-press-kinds
 use Rattle.console.proofs.state.Console.press.Reads as console-press-reads
-use Rattle.console.proofs.fresh.Kinds as console-fresh-kinds
-use Rattle.console.proofs.fresh.Reads as console-fresh-reads
-use Rattle.console.proofs.open.Kinds as console-open-kinds
-use Rattle.console.proofs.open.Reads as console-open-reads
-use Rattle.console.proofs.prepare.Kinds as console-prepare-kinds
-use Rattle.console.proofs.prepare.Reads as console-prepare-reads
-use Rattle.console.proofs.read.Kinds as console-read-kinds
-use Rattle.console.proofs.read.Reads as console-read-reads
-use Rattle.console.proofs.write.Kinds as console-write-kinds
-use Rattle.console.proofs.write.Reads as console-write-reads
 use Rattle.console.proofs.each.open_editor.Kinds as console-open-editor-kinds
 use Rattle.console.proofs.each.open_editor.Reads as console-open-editor-reads
 use Rattle.console.proofs.each.open_screen.Kinds as console-open-screen-kinds
 use Rattle.console.proofs.each.open_screen.Reads as console-open-screen-reads
-use Rattle.console.proofs.each.prepare_editor.Kinds as console-prepare-editor-kinds
-use Rattle.console.proofs.each.prepare_editor.Reads as console-prepare-editor-reads
-use Rattle.console.proofs.each.prepare_screen.Kinds as console-prepare-screen-kinds
-use Rattle.console.proofs.each.prepare_screen.Reads as console-prepare-screen-reads
 use Rattle.console.proofs.each.read_editor.Kinds as console-read-editor-kinds
 use Rattle.console.proofs.each.read_editor.Reads as console-read-editor-reads
 use Rattle.console.proofs.each.read_screen.Kinds as console-read-screen-kinds
@@ -128,6 +111,17 @@ use Rattle.console.proofs.each.write_editor.Reads as console-write-editor-reads
 use Rattle.console.proofs.each.write_screen.Kinds as console-write-screen-kinds
 use Rattle.console.proofs.each.write_screen.Reads as console-write-screen-reads
 use Rattle.console.proofs.Decided as console
+use Rattle.acts.proofs.fresh.Kinds as acts-fresh-kinds
+use Rattle.acts.proofs.fresh.Reads as acts-fresh-reads
+use Rattle.acts.proofs.open.Kinds as acts-open-kinds
+use Rattle.acts.proofs.open.Reads as acts-open-reads
+use Rattle.acts.proofs.prepare.Kinds as acts-prepare-kinds
+use Rattle.acts.proofs.prepare.Reads as acts-prepare-reads
+use Rattle.acts.proofs.read.Kinds as acts-read-kinds
+use Rattle.acts.proofs.read.Reads as acts-read-reads
+use Rattle.acts.proofs.write.Kinds as acts-write-kinds
+use Rattle.acts.proofs.write.Reads as acts-write-reads
+use Rattle.acts.proofs.Decided as acts
 use Rattle.blocks.proofs.Table.closed.Kinds as blocks-table-closed-kinds
 use Rattle.blocks.proofs.Table.closed.Reads as blocks-table-closed-reads
 use Rattle.blocks.proofs.Gather.fresh.Kinds as blocks-gather-fresh-kinds
@@ -145,6 +139,15 @@ use Rattle.blocks.proofs.aux1_writes.Reads as blocks-aux1-writes-reads
 use Rattle.blocks.proofs.offers.Kinds as blocks-offers-kinds
 use Rattle.blocks.proofs.offers.Reads as blocks-offers-reads
 use Rattle.blocks.proofs.Decided as blocks
+use Rattle.replies.proofs.copy_bytes.Kinds as replies-copy-bytes-kinds
+use Rattle.replies.proofs.copy_bytes.Reads as replies-copy-bytes-reads
+use Rattle.replies.proofs.call_reply.Kinds as replies-call-reply-kinds
+use Rattle.replies.proofs.call_reply.Reads as replies-call-reply-reads
+use Rattle.replies.proofs.status_reply.Kinds as replies-status-reply-kinds
+use Rattle.replies.proofs.status_reply.Reads as replies-status-reply-reads
+use Rattle.replies.proofs.fetch_reply.Kinds as replies-fetch-reply-kinds
+use Rattle.replies.proofs.fetch_reply.Reads as replies-fetch-reply-reads
+use Rattle.replies.proofs.Decided as replies
 use Rattle.wire.proofs.field_is_good.Kinds as wire-field-is-good-kinds
 use Rattle.wire.proofs.field_is_good.Reads as wire-field-is-good-reads
 use Rattle.wire.proofs.goes_on.Kinds as wire-goes-on-kinds
@@ -157,14 +160,6 @@ use Rattle.wire.proofs.message_of.Kinds as wire-message-of-kinds
 use Rattle.wire.proofs.message_of.Reads as wire-message-of-reads
 use Rattle.wire.proofs.give.Kinds as wire-give-kinds
 use Rattle.wire.proofs.give.Reads as wire-give-reads
-use Rattle.wire.proofs.copy_bytes.Kinds as wire-copy-bytes-kinds
-use Rattle.wire.proofs.copy_bytes.Reads as wire-copy-bytes-reads
-use Rattle.wire.proofs.call_reply.Kinds as wire-call-reply-kinds
-use Rattle.wire.proofs.call_reply.Reads as wire-call-reply-reads
-use Rattle.wire.proofs.status_reply.Kinds as wire-status-reply-kinds
-use Rattle.wire.proofs.status_reply.Reads as wire-status-reply-reads
-use Rattle.wire.proofs.fetch_reply.Kinds as wire-fetch-reply-kinds
-use Rattle.wire.proofs.fetch_reply.Reads as wire-fetch-reply-reads
 use Rattle.wire.proofs.gather_fits.Kinds as wire-gather-fits-kinds
 use Rattle.wire.proofs.gather_fits.Reads as wire-gather-fits-reads
 use Rattle.wire.proofs.reply_fits.Kinds as wire-reply-fits-kinds
@@ -231,14 +226,6 @@ use Rattle.ports.proofs.run_of.Reads as ports-run-of-reads
 use Rattle.ports.proofs.reply_of.Kinds as ports-reply-of-kinds
 use Rattle.ports.proofs.reply_of.Reads as ports-reply-of-reads
 use Rattle.ports.proofs.Decided as ports
-use Rattle.transfer.proofs.further.Kinds as transfer-further-kinds
-use Rattle.transfer.proofs.further.Reads as transfer-further-reads
-use Rattle.transfer.proofs.ended.Kinds as transfer-ended-kinds
-use Rattle.transfer.proofs.ended.Reads as transfer-ended-reads
-use Rattle.transfer.proofs.onward.Kinds as transfer-onward-kinds
-use Rattle.transfer.proofs.onward.Reads as transfer-onward-reads
-use Rattle.transfer.proofs.record_next.Kinds as transfer-record-next-kinds
-use Rattle.transfer.proofs.record_next.Reads as transfer-record-next-reads
 use Rattle.transfer.proofs.after_get.Kinds as transfer-after-get-kinds
 use Rattle.transfer.proofs.after_get.Reads as transfer-after-get-reads
 use Rattle.transfer.proofs.byte_to_send.Kinds as transfer-byte-to-send-kinds
@@ -378,17 +365,20 @@ editor-decided =
     promise 1 editor-get-kinds.ps editor-get-kinds.r editor-get-reads.Pre editor-get-reads.Learnt editor.get-decides editor.get-allows (
     promise 0 editor-column-of-kinds.ps editor-column-of-kinds.r editor-column-of-reads.Pre editor-column-of-reads.Learnt editor.column-of-decides editor.column-of-allows (
     promise 1 editor-end-kinds.ps editor-end-kinds.r editor-end-reads.Pre editor-end-reads.Learnt editor.end-decides editor.end-allows (
-    promise 0 editor-dropped-kinds.ps editor-dropped-kinds.r editor-dropped-reads.Pre editor-dropped-reads.Learnt editor.dropped-decides editor.dropped-allows (
-    promise 0 editor-plain-kinds.ps editor-plain-kinds.r editor-plain-reads.Pre editor-plain-reads.Learnt editor.plain-decides editor.plain-allows (
-    promise 0 editor-act-of-kinds.ps editor-act-of-kinds.r editor-act-of-reads.Pre editor-act-of-reads.Learnt editor.act-of-decides editor.act-of-allows (
-    promise 1 editor-put-kinds.ps editor-put-kinds.r editor-put-reads.Pre editor-put-reads.Learnt editor.put-decides editor.put-allows cells-decided)))))))))
+    promise 0 editor-dropped-kinds.ps editor-dropped-kinds.r editor-dropped-reads.Pre editor-dropped-reads.Learnt editor.dropped-decides editor.dropped-allows cells-decided))))))
+
+pub controls-decided : Promises
+controls-decided =
+    promise 0 controls-plain-kinds.ps controls-plain-kinds.r controls-plain-reads.Pre controls-plain-reads.Learnt controls.plain-decides controls.plain-allows (
+    promise 0 controls-act-of-kinds.ps controls-act-of-kinds.r controls-act-of-reads.Pre controls-act-of-reads.Learnt controls.act-of-decides controls.act-of-allows (
+    promise 1 controls-put-kinds.ps controls-put-kinds.r controls-put-reads.Pre controls-put-reads.Learnt controls.put-decides controls.put-allows editor-decided))
 
 pub graphics-decided : Promises
 graphics-decided =
     promise 0 graphics-place-kinds.ps graphics-place-kinds.r graphics-place-reads.Pre graphics-place-reads.Learnt graphics.place-decides graphics.place-allows (
     promise 1 graphics-open-kinds.ps graphics-open-kinds.r graphics-open-reads.Pre graphics-open-reads.Learnt graphics.open-decides graphics.open-allows (
     promise 1 graphics-get-kinds.ps graphics-get-kinds.r graphics-get-reads.Pre graphics-get-reads.Learnt graphics.get-decides graphics.get-allows (
-    promise 1 graphics-put-kinds.ps graphics-put-kinds.r graphics-put-reads.Pre graphics-put-reads.Learnt graphics.put-decides graphics.put-allows editor-decided)))
+    promise 1 graphics-put-kinds.ps graphics-put-kinds.r graphics-put-reads.Pre graphics-put-reads.Learnt graphics.put-decides graphics.put-allows controls-decided)))
 
 pub printer-decided : Promises
 printer-decided =
@@ -400,25 +390,24 @@ console-decided =
     promise 0 console-state-fresh-kinds.ps console-state-fresh-kinds.r console-state-fresh-reads.Pre console-state-fresh-reads.Learnt console.state-fresh-decides console.state-fresh-allows (
     promise 0 console-editor-kinds.ps console-editor-kinds.r console-editor-reads.Pre console-editor-reads.Learnt console.editor-decides console.editor-allows (
     promise 0 console-with-editor-kinds.ps console-with-editor-kinds.r console-with-editor-reads.Pre console-with-editor-reads.Learnt console.with-editor-decides console.with-editor-allows (
-    promise 0 console-with-mode-kinds.ps console-with-mode-kinds.r console-with-mode-reads.Pre console-with-mode-reads.Learnt console.with-mode-decides console.with-mode-allows (
     promise 0 console-graphics-kinds.ps console-graphics-kinds.r console-graphics-reads.Pre console-graphics-reads.Learnt console.graphics-decides console.graphics-allows (
     promise 0 console-with-graphics-kinds.ps console-with-graphics-kinds.r console-with-graphics-reads.Pre console-with-graphics-reads.Learnt console.with-graphics-decides console.with-graphics-allows (
-    promise 0 console-with-keyboard-kinds.ps console-with-keyboard-kinds.r console-with-keyboard-reads.Pre console-with-keyboard-reads.Learnt console.with-keyboard-decides console.with-keyboard-allows (
     promise 0 console-press-kinds.ps console-press-kinds.r console-press-reads.Pre console-press-reads.Learnt console.press-decides console.press-allows (
-    promise 1 console-fresh-kinds.ps console-fresh-kinds.r console-fresh-reads.Pre console-fresh-reads.Learnt console.fresh-decides console.fresh-allows (
-    promise 1 console-open-kinds.ps console-open-kinds.r console-open-reads.Pre console-open-reads.Learnt console.open-decides console.open-allows (
-    promise 1 console-prepare-kinds.ps console-prepare-kinds.r console-prepare-reads.Pre console-prepare-reads.Learnt console.prepare-decides console.prepare-allows (
-    promise 1 console-read-kinds.ps console-read-kinds.r console-read-reads.Pre console-read-reads.Learnt console.read-decides console.read-allows (
-    promise 1 console-write-kinds.ps console-write-kinds.r console-write-reads.Pre console-write-reads.Learnt console.write-decides console.write-allows (
     promise 1 console-open-editor-kinds.ps console-open-editor-kinds.r console-open-editor-reads.Pre console-open-editor-reads.Learnt console.open-editor-decides console.open-editor-allows (
     promise 1 console-open-screen-kinds.ps console-open-screen-kinds.r console-open-screen-reads.Pre console-open-screen-reads.Learnt console.open-screen-decides console.open-screen-allows (
-    promise 1 console-prepare-editor-kinds.ps console-prepare-editor-kinds.r console-prepare-editor-reads.Pre console-prepare-editor-reads.Learnt console.prepare-editor-decides console.prepare-editor-allows (
-    promise 0 console-prepare-screen-kinds.ps console-prepare-screen-kinds.r console-prepare-screen-reads.Pre console-prepare-screen-reads.Learnt console.prepare-screen-decides console.prepare-screen-allows (
     promise 1 console-read-editor-kinds.ps console-read-editor-kinds.r console-read-editor-reads.Pre console-read-editor-reads.Learnt console.read-editor-decides console.read-editor-allows (
     promise 1 console-read-screen-kinds.ps console-read-screen-kinds.r console-read-screen-reads.Pre console-read-screen-reads.Learnt console.read-screen-decides console.read-screen-allows (
     promise 0 console-read-keyboard-kinds.ps console-read-keyboard-kinds.r console-read-keyboard-reads.Pre console-read-keyboard-reads.Learnt console.read-keyboard-decides console.read-keyboard-allows (
     promise 1 console-write-editor-kinds.ps console-write-editor-kinds.r console-write-editor-reads.Pre console-write-editor-reads.Learnt console.write-editor-decides console.write-editor-allows (
-    promise 1 console-write-screen-kinds.ps console-write-screen-kinds.r console-write-screen-reads.Pre console-write-screen-reads.Learnt console.write-screen-decides console.write-screen-allows printer-decided)))))))))))))))))))))
+    promise 1 console-write-screen-kinds.ps console-write-screen-kinds.r console-write-screen-reads.Pre console-write-screen-reads.Learnt console.write-screen-decides console.write-screen-allows printer-decided))))))))))))
+
+pub acts-decided : Promises
+acts-decided =
+    promise 1 acts-fresh-kinds.ps acts-fresh-kinds.r acts-fresh-reads.Pre acts-fresh-reads.Learnt acts.fresh-decides acts.fresh-allows (
+    promise 1 acts-open-kinds.ps acts-open-kinds.r acts-open-reads.Pre acts-open-reads.Learnt acts.open-decides acts.open-allows (
+    promise 1 acts-prepare-kinds.ps acts-prepare-kinds.r acts-prepare-reads.Pre acts-prepare-reads.Learnt acts.prepare-decides acts.prepare-allows (
+    promise 1 acts-read-kinds.ps acts-read-kinds.r acts-read-reads.Pre acts-read-reads.Learnt acts.read-decides acts.read-allows (
+    promise 1 acts-write-kinds.ps acts-write-kinds.r acts-write-reads.Pre acts-write-reads.Learnt acts.write-decides acts.write-allows console-decided))))
 
 pub blocks-decided : Promises
 blocks-decided =
@@ -429,7 +418,14 @@ blocks-decided =
     promise 1 blocks-specification-at-kinds.ps blocks-specification-at-kinds.r blocks-specification-at-reads.Pre blocks-specification-at-reads.Learnt blocks.specification-at-decides blocks.specification-at-allows (
     promise 0 blocks-aux1-reads-kinds.ps blocks-aux1-reads-kinds.r blocks-aux1-reads-reads.Pre blocks-aux1-reads-reads.Learnt blocks.aux1-reads-decides blocks.aux1-reads-allows (
     promise 0 blocks-aux1-writes-kinds.ps blocks-aux1-writes-kinds.r blocks-aux1-writes-reads.Pre blocks-aux1-writes-reads.Learnt blocks.aux1-writes-decides blocks.aux1-writes-allows (
-    promise 0 blocks-offers-kinds.ps blocks-offers-kinds.r blocks-offers-reads.Pre blocks-offers-reads.Learnt blocks.offers-decides blocks.offers-allows console-decided)))))))
+    promise 0 blocks-offers-kinds.ps blocks-offers-kinds.r blocks-offers-reads.Pre blocks-offers-reads.Learnt blocks.offers-decides blocks.offers-allows acts-decided)))))))
+
+pub replies-decided : Promises
+replies-decided =
+    promise 2 replies-copy-bytes-kinds.ps replies-copy-bytes-kinds.r replies-copy-bytes-reads.Pre replies-copy-bytes-reads.Learnt replies.copy-bytes-decides replies.copy-bytes-allows (
+    promise 1 replies-call-reply-kinds.ps replies-call-reply-kinds.r replies-call-reply-reads.Pre replies-call-reply-reads.Learnt replies.call-reply-decides replies.call-reply-allows (
+    promise 1 replies-status-reply-kinds.ps replies-status-reply-kinds.r replies-status-reply-reads.Pre replies-status-reply-reads.Learnt replies.status-reply-decides replies.status-reply-allows (
+    promise 2 replies-fetch-reply-kinds.ps replies-fetch-reply-kinds.r replies-fetch-reply-reads.Pre replies-fetch-reply-reads.Learnt replies.fetch-reply-decides replies.fetch-reply-allows blocks-decided)))
 
 pub wire-decided : Promises
 wire-decided =
@@ -439,12 +435,8 @@ wire-decided =
     promise 1 wire-take-kinds.ps wire-take-kinds.r wire-take-reads.Pre wire-take-reads.Learnt wire.take-decides wire.take-allows (
     promise 1 wire-message-of-kinds.ps wire-message-of-kinds.r wire-message-of-reads.Pre wire-message-of-reads.Learnt wire.message-of-decides wire.message-of-allows (
     promise 1 wire-give-kinds.ps wire-give-kinds.r wire-give-reads.Pre wire-give-reads.Learnt wire.give-decides wire.give-allows (
-    promise 2 wire-copy-bytes-kinds.ps wire-copy-bytes-kinds.r wire-copy-bytes-reads.Pre wire-copy-bytes-reads.Learnt wire.copy-bytes-decides wire.copy-bytes-allows (
-    promise 1 wire-call-reply-kinds.ps wire-call-reply-kinds.r wire-call-reply-reads.Pre wire-call-reply-reads.Learnt wire.call-reply-decides wire.call-reply-allows (
-    promise 1 wire-status-reply-kinds.ps wire-status-reply-kinds.r wire-status-reply-reads.Pre wire-status-reply-reads.Learnt wire.status-reply-decides wire.status-reply-allows (
-    promise 2 wire-fetch-reply-kinds.ps wire-fetch-reply-kinds.r wire-fetch-reply-reads.Pre wire-fetch-reply-reads.Learnt wire.fetch-reply-decides wire.fetch-reply-allows (
     promise 0 wire-gather-fits-kinds.ps wire-gather-fits-kinds.r wire-gather-fits-reads.Pre wire-gather-fits-reads.Learnt wire.gather-fits-decides wire.gather-fits-allows (
-    promise 0 wire-reply-fits-kinds.ps wire-reply-fits-kinds.r wire-reply-fits-reads.Pre wire-reply-fits-reads.Learnt wire.reply-fits-decides wire.reply-fits-allows blocks-decided)))))))))))
+    promise 0 wire-reply-fits-kinds.ps wire-reply-fits-kinds.r wire-reply-fits-reads.Pre wire-reply-fits-reads.Learnt wire.reply-fits-decides wire.reply-fits-allows replies-decided)))))))
 
 pub reading-decided : Promises
 reading-decided =
@@ -486,14 +478,10 @@ ports-decided =
 
 pub transfer-decided : Promises
 transfer-decided =
-    promise 0 transfer-further-kinds.ps transfer-further-kinds.r transfer-further-reads.Pre transfer-further-reads.Learnt transfer.further-decides transfer.further-allows (
-    promise 0 transfer-ended-kinds.ps transfer-ended-kinds.r transfer-ended-reads.Pre transfer-ended-reads.Learnt transfer.ended-decides transfer.ended-allows (
-    promise 0 transfer-onward-kinds.ps transfer-onward-kinds.r transfer-onward-reads.Pre transfer-onward-reads.Learnt transfer.onward-decides transfer.onward-allows (
-    promise 0 transfer-record-next-kinds.ps transfer-record-next-kinds.r transfer-record-next-reads.Pre transfer-record-next-reads.Learnt transfer.record-next-decides transfer.record-next-allows (
     promise 1 transfer-after-get-kinds.ps transfer-after-get-kinds.r transfer-after-get-reads.Pre transfer-after-get-reads.Learnt transfer.after-get-decides transfer.after-get-allows (
     promise 1 transfer-byte-to-send-kinds.ps transfer-byte-to-send-kinds.r transfer-byte-to-send-reads.Pre transfer-byte-to-send-reads.Learnt transfer.byte-to-send-decides transfer.byte-to-send-allows (
     promise 0 transfer-after-put-kinds.ps transfer-after-put-kinds.r transfer-after-put-reads.Pre transfer-after-put-reads.Learnt transfer.after-put-decides transfer.after-put-allows (
-    promise 1 transfer-land-kinds.ps transfer-land-kinds.r transfer-land-reads.Pre transfer-land-reads.Learnt transfer.land-decides transfer.land-allows ports-decided)))))))
+    promise 1 transfer-land-kinds.ps transfer-land-kinds.r transfer-land-reads.Pre transfer-land-reads.Learnt transfer.land-decides transfer.land-allows ports-decided)))
 
 pub devices-decided : Promises
 devices-decided =

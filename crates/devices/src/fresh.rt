@@ -8,7 +8,7 @@ pub fn fresh(numbers: &mut [u8], screen: &mut [u8], paper: &[u8])
     requires { ⌜ Freshens (now numbers) (now screen) ⌝ }
     ensures { λ _. ⌜ devicesLent (now (numbers .exit)) (now (screen .exit)) (now (paper .entry)) ≡ lentOf (freshGroups (now (paper .entry))) ⌝ }
 {
-    let console = console::fresh(screen);
+    let console = acts::fresh(screen);
     numbers::set_console(numbers, console);
     numbers::set_printer(numbers, Printer::fresh());
 }

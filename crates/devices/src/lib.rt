@@ -101,7 +101,7 @@ pub fn open(
     match owner {
         Owner::Console(handler) => {
             let console = numbers::console_of(numbers);
-            let opened = console::open(handler, console, screen, asked.aux1, asked.aux2);
+            let opened = acts::open(handler, console, screen, asked.aux1, asked.aux2);
             let next = opened.console;
             let done = opened.done;
             numbers::set_console(numbers, next);
@@ -148,7 +148,7 @@ pub fn prepare(
     match owner {
         Owner::Console(handler) => {
             let console = numbers::console_of(numbers);
-            let prepared = console::prepare(handler, console, screen);
+            let prepared = acts::prepare(handler, console, screen);
             let next = prepared.console;
             let done = prepared.done;
             numbers::set_console(numbers, next);
@@ -177,7 +177,7 @@ pub fn read(
     match owner {
         Owner::Console(handler) => {
             let console = numbers::console_of(numbers);
-            let read = console::read(handler, console, screen);
+            let read = acts::read(handler, console, screen);
             let next = read.console;
             let got = read.got;
             numbers::set_console(numbers, next);
@@ -207,7 +207,7 @@ pub fn write(
     match owner {
         Owner::Console(handler) => {
             let console = numbers::console_of(numbers);
-            let written = console::write(handler, console, screen, byte);
+            let written = acts::write(handler, console, screen, byte);
             let next = written.console;
             let done = written.done;
             numbers::set_console(numbers, next);

@@ -5,11 +5,9 @@ use mathlib.Core.List.{List}
 use Prim.Native.Nat.{ℕ}
 use Rattle.base.specs.Decides.{Decides, Allows}
 use Rattle.handler.specs.declared.Got.{Got}
-use Rattle.handler.specs.declared.Done.{Done}
 use Rattle.handler.specs.Answer.{Answer}
 use Rattle.editor.specs.Text.{Text}
 use Rattle.editor.specs.declared.Read.{Read}
-use Rattle.editor.specs.declared.put.Written.{Written}
 use Rattle.editor.proofs.Editor.place.Kinds as place-kinds
 use Rattle.editor.proofs.Editor.place.Reads as place-reads
 use Rattle.editor.proofs.new_row.Kinds as new-row-kinds
@@ -24,12 +22,6 @@ use Rattle.editor.proofs.line.end.Kinds as end-kinds
 use Rattle.editor.proofs.line.end.Reads as end-reads
 use Rattle.editor.proofs.line.dropped.Kinds as dropped-kinds
 use Rattle.editor.proofs.line.dropped.Reads as dropped-reads
-use Rattle.editor.proofs.decide.plain.Kinds as plain-kinds
-use Rattle.editor.proofs.decide.plain.Reads as plain-reads
-use Rattle.editor.proofs.decide.act_of.Kinds as act-of-kinds
-use Rattle.editor.proofs.decide.act_of.Reads as act-of-reads
-use Rattle.editor.proofs.put.put.Kinds as put-kinds
-use Rattle.editor.proofs.put.put.Reads as put-reads
 
 pub place-decides : Decides 0 place-kinds.ps place-kinds.r place-reads.Pre place-reads.Learnt
 place-decides κs a z z′ ws ws′ p e e′ = (e ∙ sym e′, refl)
@@ -72,21 +64,3 @@ dropped-decides κs a z z′ ws ws′ p e e′ = (e ∙ sym e′, refl)
 
 pub dropped-allows : Allows 0 dropped-kinds.ps dropped-kinds.r dropped-reads.Pre dropped-reads.Learnt
 dropped-allows κs a p = (_, (_, refl))
-
-pub plain-decides : Decides 0 plain-kinds.ps plain-kinds.r plain-reads.Pre plain-reads.Learnt
-plain-decides κs a z z′ ws ws′ p e e′ = (e ∙ sym e′, refl)
-
-pub plain-allows : Allows 0 plain-kinds.ps plain-kinds.r plain-reads.Pre plain-reads.Learnt
-plain-allows κs a p = (_, (_, refl))
-
-pub act-of-decides : Decides 0 act-of-kinds.ps act-of-kinds.r act-of-reads.Pre act-of-reads.Learnt
-act-of-decides κs a z z′ ws ws′ p e e′ = (e ∙ sym e′, refl)
-
-pub act-of-allows : Allows 0 act-of-kinds.ps act-of-kinds.r act-of-reads.Pre act-of-reads.Learnt
-act-of-allows κs a p = (_, (_, refl))
-
-pub put-decides : Decides 1 put-kinds.ps put-kinds.r put-reads.Pre put-reads.Learnt
-put-decides κs a z z′ ws ws′ p e e′ = let q = e ∙ sym e′ in (ap (λ (w : Answer Done Text). record { editor = w .leaves .editor; done = w .says }) q, ap (λ (w : Answer Done Text). (tt, (w .leaves .cells, (tt, tt)))) q)
-
-pub put-allows : Allows 1 put-kinds.ps put-kinds.r put-reads.Pre put-reads.Learnt
-put-allows κs a p = (_, (_, refl))

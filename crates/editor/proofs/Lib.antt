@@ -1,6 +1,5 @@
-pub mod Acts
 pub mod Ends
-pub mod Puts
+pub mod Rows
 pub mod Gets
 pub mod Keeps
 pub mod Decided

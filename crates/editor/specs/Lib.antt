@@ -1,4 +1,3 @@
-pub mod Decide
 pub mod Text
 pub mod Get
 pub mod Fit

@@ -1,7 +1,5 @@
-// E, the screen editor: OPEN, GET and PUT over mode 0's 24 rows of 40 cells. Margins 2 and 39; each row is one line.
-pub mod decide;
+// E, the screen editor: OPEN, GET and the new row over mode 0's 24 rows of 40 cells. Margins 2 and 39; each row is one line.
 pub mod line;
-pub mod put;
 
 use handler::Got;
 ghost use mathlib.Core.Path.{_≡_};

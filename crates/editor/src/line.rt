@@ -20,11 +20,11 @@ pub fn end(screen: &[u8], row: u16) -> u16
     ensures { λ r. ⌜ r ≡ endOf row (now (screen .entry)) ⌝ }
 {
     let first = row as usize * 40 + 2;
-    let mut n: u16 = 38;
+    let mut n: usize = 38;
     while 0 < n {
         let m = n - 1;
-        if base::byte_at(screen, first + m as usize) != 0x20 {
-            return n + 2;
+        if base::byte_at(screen, first + m) != 0x20 {
+            return n as u16 + 2;
         }
         n = m;
     }

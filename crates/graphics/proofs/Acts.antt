@@ -14,17 +14,22 @@ use Rattle.handler.specs.Answer.{answer}
 use Rattle.cells.specs.declared.Shape.{Shape}
 use Rattle.cells.specs.Modes.{shapeOf}
 use Rattle.cells.specs.Cells.{cellOf, withCell, filled, reduced}
-use Rattle.graphics.specs.Picture.{Picture, picture, placed, withLast, onward, cellsOpened, inMode, openOf, pastLastRow, getOf, clearOf, dataOf, putOf}
+use Rattle.cells.proofs.Shapes.{good-shape, shape-colours}
+use Rattle.graphics.specs.Picture.{Picture, picture, placed, withLast, Drawn, onward, cellsOpened, inMode, openOf, pastLastRow, getOf, clearOf, dataOf, putOf}
 use Rattle.graphics.specs.declared.Graphics.{Graphics}
 
-module _ (g r : Graphics) (shape : Shape) (s : shape ≡ shapeOf (g .mode)) where
-  pub on-right : g .column + 1 < shape .columns → r ≡ placed (g .row) (g .column + 1) g → r ≡ onward g
+module _ (shape : Shape) (g r : Graphics) where
+  pub on-right : g .column + 1 < shape .columns → r ≡ placed (g .row) (g .column + 1) g → r ≡ onward shape g
   unfolding onward
-  on-right h q = q ∙ rw (← s, lt-ltb (g .column + 1) (shape .columns) h)
+  on-right h q = q ∙ rw (lt-ltb (g .column + 1) (shape .columns) h)
 
-  pub on-next : shape .columns ≤ g .column + 1 → r ≡ placed (g .row + 1) 0 g → r ≡ onward g
+  pub on-next : shape .columns ≤ g .column + 1 → r ≡ placed (g .row + 1) 0 g → r ≡ onward shape g
   unfolding onward
-  on-next h q = q ∙ rw (← s, le-ltb (g .column + 1) (shape .columns) h)
+  on-next h q = q ∙ rw (le-ltb (g .column + 1) (shape .columns) h)
+
+-- a row of a mode: a character is drawn there
+pub drawn : (g : Graphics) (shape : Shape) → shape ≡ shapeOf (g .mode) → g .row < shape .rows → Drawn g shape
+drawn g shape s h = record { row = omega (arith, good-shape (g .mode) shape s .high); colours = shape-colours (g .mode) shape s }
 
 module _ (mode aux1 : ℕ) (cells t : List ℕ) where
   pub start-kept : aux1 / 32 % 2 ≡ 1 → t ≡ reduced mode cells → t ≡ cellsOpened mode aux1 cells
@@ -58,9 +63,9 @@ module _ (g r : Graphics) (cells t : List ℕ) where
   unfolding clearOf
   clear-law p q = rw (p, q)
 
-  pub data-law : (byte : ℕ) → t ≡ withCell (g .mode) (g .row) (g .column) byte cells → r ≡ onward (withLast byte g) → picture r t ≡ dataOf byte (picture g cells)
+  pub data-law : (shape : Shape) (byte : ℕ) → t ≡ withCell shape (g .row) (g .column) byte cells → r ≡ onward shape (withLast byte g) → picture r t ≡ dataOf shape byte (picture g cells)
   unfolding dataOf
-  data-law byte p q = rw (p, q)
+  data-law shape byte p q = rw (p, q)
 
   pub put-clear : (byte : ℕ) → byte ≡ 0x7D → picture r t ≡ clearOf (picture g cells) → answer Success (picture r t) ≡ putOf byte (picture g cells)
   unfolding putOf
@@ -71,7 +76,7 @@ module _ (g r : Graphics) (cells t : List ℕ) where
     unfolding getOf
     get-past h = rw (← s, le-leb (shape .rows) (g .row) h)
 
-    pub get-cell : (cell : ℕ) → g .row < shape .rows → cell ≡ cellOf (g .mode) (g .row) (g .column) cells → r ≡ onward (withLast cell g)
+    pub get-cell : (cell : ℕ) → g .row < shape .rows → cell ≡ cellOf shape (g .row) (g .column) cells → r ≡ onward shape (withLast cell g)
         → answer (got.Character cell) r ≡ getOf cells g
     unfolding getOf
     get-cell cell h p q = rw (← s, lt-leb (shape .rows) (g .row) h, q, p)
@@ -85,6 +90,6 @@ module _ (g r : Graphics) (cells t : List ℕ) where
       unfolding putOf
       put-row h e q = rw (ne-eqb byte 0x7D n, ← s, lt-leb (shape .rows) (g .row) h, eq-eqb byte 0x9B e, q)
 
-      pub put-data : g .row < shape .rows → (byte ≡ 0x9B → ⊥) → picture r t ≡ dataOf byte (picture g cells) → answer Success (picture r t) ≡ putOf byte (picture g cells)
+      pub put-data : g .row < shape .rows → (byte ≡ 0x9B → ⊥) → picture r t ≡ dataOf shape byte (picture g cells) → answer Success (picture r t) ≡ putOf byte (picture g cells)
       unfolding putOf
       put-data h e q = rw (ne-eqb byte 0x7D n, ← s, lt-leb (shape .rows) (g .row) h, ne-eqb byte 0x9B e, q)

@@ -15,6 +15,7 @@ use Rattle.handler.specs.declared.Got.{Got}
 use Rattle.handler.specs.declared.Done.{Done}
 use Rattle.handler.specs.declared.Done.the-variants.{Success, Refused}
 use Rattle.handler.specs.Answer.{Answer, answer}
+use Rattle.cells.specs.declared.Shape.{Shape}
 use Rattle.cells.specs.Modes.{modes, rowOf, shapeOf}
 use Rattle.cells.specs.Cells.{Whole, filled, reduced, withCell}
 use Rattle.cells.proofs.Parts.{filled-length, reduced-length}
@@ -38,7 +39,7 @@ module _ (g : Graphics) (m : within 3 8 (g .mode) ≡ true) where
   row-fit row h = record { mode = m; row = h; column = some-columns (g .mode) m }
 
   -- moving on from within the mode
-  onward-fit : g .row < shapeOf (g .mode) .rows → FitGraphics (onward g)
+  onward-fit : g .row < shapeOf (g .mode) .rows → FitGraphics (onward (shapeOf (g .mode)) g)
   unfolding onward
   onward-fit h =
       pick-lt FitGraphics (g .column + 1) (shapeOf (g .mode) .columns) (placed (g .row) (g .column + 1) g) (placed (g .row + 1) 0 g)
@@ -54,9 +55,9 @@ start-whole mode aux1 s w =
     choose-go Whole (bit 32 aux1) (λ u. reduced mode s) (λ u. filled mode 0 s)
     (λ e. record { all = reduced-length mode s w ∙ w .all }) (λ e. filled-whole mode 0 s w)
 
-cell-whole : (mode row column byte : ℕ) (s : List ℕ) → Whole s → Whole (withCell mode row column byte s)
+cell-whole : (shape : Shape) (row column byte : ℕ) (s : List ℕ) → Whole s → Whole (withCell shape row column byte s)
 unfolding withCell
-cell-whole mode row column byte s w = record { all = length-set s _ _ ∙ w .all }
+cell-whole shape row column byte s w = record { all = length-set s _ _ ∙ w .all }
 
 or-false : (a b : Bool) → or a (not b) ≡ false → b ≡ true
 or-false true b e = absurd (subst T e tt)
@@ -88,11 +89,11 @@ module _ (p : Picture) (f : FitPicture p) where
   unfolding clearOf
   clear-fit = record { graphics = row-fit (p .graphics) (f .graphics .mode) 0 (omega arith); whole = filled-whole (p .graphics .mode) 0 (p .cells) (f .whole) }
 
-  data-fit : (byte : ℕ) → p .graphics .row < shapeOf (p .graphics .mode) .rows → FitPicture (dataOf byte p)
+  data-fit : (byte : ℕ) → p .graphics .row < shapeOf (p .graphics .mode) .rows → FitPicture (dataOf (shapeOf (p .graphics .mode)) byte p)
   unfolding dataOf
   data-fit byte h = record {
     graphics = onward-fit (withLast byte (p .graphics)) (f .graphics .mode) h;
-    whole = cell-whole (p .graphics .mode) (p .graphics .row) (p .graphics .column) byte (p .cells) (f .whole);
+    whole = cell-whole (shapeOf (p .graphics .mode)) (p .graphics .row) (p .graphics .column) byte (p .cells) (f .whole);
   }
 
   pub put-fit : (byte : ℕ) → FitPicture (putOf byte p .leaves)

@@ -1,6 +1,6 @@
 -- Document 01, S: the graphics screen with its cells, and what OPEN, GET and PUT make of them.
 -- Assumes nothing.
-use Prim.Native.Nat.{ℕ, _+_}
+use Prim.Native.Nat.{ℕ, _+_, _<_}
 use mathlib.Core.Bool.{Bool, not}
 use mathlib.Core.List.{List}
 use lib.Dec.{eqb, leb, ltb}
@@ -10,8 +10,9 @@ use Rattle.handler.specs.declared.Got.the-variants as got
 use Rattle.handler.specs.declared.Done.{Done}
 use Rattle.handler.specs.declared.Done.the-variants.{Success, Refused}
 use Rattle.handler.specs.Answer.{Answer, answer}
+use Rattle.cells.specs.declared.Shape.{Shape}
 use Rattle.cells.specs.Modes.{shapeOf}
-use Rattle.cells.specs.Cells.{cellOf, withCell, filled, reduced}
+use Rattle.cells.specs.Cells.{Colours, cellOf, withCell, filled, reduced}
 use Rattle.graphics.specs.declared.Graphics.{Graphics}
 
 pub record Picture : Type 0 where
@@ -30,8 +31,13 @@ abbrev pub withLast : ℕ → Graphics → Graphics
 withLast byte g = record { mode = g .mode; row = g .row; column = g .column; last = byte }
 
 -- "Moving on is one right, or from the last column to column 0 of the next row."
-unfoldable pub onward : Graphics → Graphics
-onward g = pick (ltb (g .column + 1) (shapeOf (g .mode) .columns)) (placed (g .row) (g .column + 1) g) (placed (g .row + 1) 0 g)
+unfoldable pub onward : Shape → Graphics → Graphics
+onward shape g = pick (ltb (g .column + 1) (shape .columns)) (placed (g .row) (g .column + 1) g) (placed (g .row + 1) 0 g)
+
+-- what putting a character wants: a row below the greatest number, and a mode's number of colours
+pub record Drawn (g : Graphics) (shape : Shape) : Type 0 where
+  pub row : g .row < 65535
+  pub colours : Colours (shape .colours)
 
 -- "Bit 5 clear zeroes the mode's cells; set takes each modulo the colours. Cells past the mode stay."
 unfoldable pub cellsOpened : (mode aux1 : ℕ) → List ℕ → List ℕ
@@ -56,18 +62,18 @@ pastLastRow g = leb (shapeOf (g .mode) .rows) (g .row)
 unfoldable pub getOf : List ℕ → Graphics → Answer Got Graphics
 getOf cells g =
     choose (pastLastRow g) (λ u. answer (got.Refused 0x8D) g) (λ u.
-    let cell = cellOf (g .mode) (g .row) (g .column) cells in
-    answer (got.Character cell) (onward (withLast cell g)))
+    let cell = cellOf (shapeOf (g .mode)) (g .row) (g .column) cells in
+    answer (got.Character cell) (onward (shapeOf (g .mode)) (withLast cell g)))
 
 -- "PUT $7D: cells zero, cursor (0,0)."
 unfoldable pub clearOf : Picture → Picture
 clearOf p = picture (placed 0 0 (p .graphics)) (filled (p .graphics .mode) 0 (p .cells))
 
 -- "Else cell = byte modulo colours, last character = byte, cursor moves on."
-unfoldable pub dataOf : ℕ → Picture → Picture
-dataOf byte p =
-    picture (onward (withLast byte (p .graphics)))
-    (withCell (p .graphics .mode) (p .graphics .row) (p .graphics .column) byte (p .cells))
+unfoldable pub dataOf : Shape → ℕ → Picture → Picture
+dataOf shape byte p =
+    picture (onward shape (withLast byte (p .graphics)))
+    (withCell shape (p .graphics .row) (p .graphics .column) byte (p .cells))
 
 -- "At row = rows all but $7D give $8D." "$9B: column 0, next row."
 unfoldable pub putOf : ℕ → Picture → Answer Done Picture
@@ -75,4 +81,4 @@ putOf byte p =
     choose (eqb byte 0x7D) (λ u. answer Success (clearOf p)) (λ u.
     choose (pastLastRow (p .graphics)) (λ u. answer (Refused 0x8D) p) (λ u.
     choose (eqb byte 0x9B) (λ u. answer Success (picture (placed (p .graphics .row + 1) 0 (p .graphics)) (p .cells))) (λ u.
-    answer Success (dataOf byte p))))
+    answer Success (dataOf (shapeOf (p .graphics .mode)) byte p))))

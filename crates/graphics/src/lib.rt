@@ -1,16 +1,17 @@
 // S, the graphics screen: OPEN, GET and PUT in modes 3 to 8. Every cell is read and written through `cells`.
+use cells::Shape;
 use handler::Done;
 use handler::Got;
 ghost use mathlib.Core.Path.{_≡_};
 ghost use Prim.Native.Nat.{_<_};
 ghost use Rattle.handler.specs.Answer.{answer};
 ghost use Rattle.cells.specs.Cells.{Whole};
-ghost use Rattle.graphics.specs.Picture.{picture, placed, onward, cellsOpened, openOf, getOf, clearOf, dataOf, putOf};
+ghost use Rattle.graphics.specs.Picture.{picture, placed, Drawn, onward, cellsOpened, openOf, getOf, clearOf, dataOf, putOf};
 
 pub struct Graphics {
-    pub mode: u8,
     pub row: u16,
     pub column: u16,
+    pub mode: u8,
     pub last: u8,
 }
 
@@ -39,13 +40,12 @@ impl Graphics {
 }
 
 // One right, or from the last column to column 0 of the next row.
-fn move_on(graphics: Graphics) -> Graphics
+fn move_on(graphics: Graphics, shape: Shape) -> Graphics
     requires { ⌜ graphics .row < 65535 ⌝ }
-    ensures { λ r. ⌜ r ≡ onward graphics ⌝ }
+    ensures { λ r. ⌜ r ≡ onward shape graphics ⌝ }
 {
     let row = graphics.row;
     let right = graphics.column as usize + 1;
-    let shape = cells::shape_of(graphics.mode);
     if right < shape.columns as usize {
         return graphics.place(row, right as u16);
     }
@@ -105,10 +105,10 @@ pub fn get(graphics: Graphics, screen: &[u8]) -> Read
     let row = graphics.row;
     let shape = cells::shape_of(graphics.mode);
     if row < shape.rows {
-        let cell = cells::read(screen, graphics.mode, row, graphics.column);
+        let cell = cells::read(screen, shape, row, graphics.column);
         let mut seen = graphics;
         seen.last = cell;
-        let next = move_on(seen);
+        let next = move_on(seen, shape);
         return Read {
             graphics: next,
             got: Got::Character(cell),
@@ -130,14 +130,14 @@ fn clear(graphics: Graphics, screen: &mut [u8]) -> Graphics
 }
 
 // A cell and the last character; the cursor moves on.
-fn data_byte(graphics: Graphics, screen: &mut [u8], byte: u8) -> Graphics
-    requires { ⌜ graphics .row < 65535 ⌝ }
-    ensures { λ r. ⌜ picture r (now (screen .exit)) ≡ dataOf byte (picture graphics (now (screen .entry))) ⌝ }
+fn data_byte(graphics: Graphics, shape: Shape, screen: &mut [u8], byte: u8) -> Graphics
+    requires { ⌜ Drawn graphics shape ⌝ }
+    ensures { λ r. ⌜ picture r (now (screen .exit)) ≡ dataOf shape byte (picture graphics (now (screen .entry))) ⌝ }
 {
-    cells::write(screen, graphics.mode, graphics.row, graphics.column, byte);
+    cells::write(screen, shape, graphics.row, graphics.column, byte);
     let mut seen = graphics;
     seen.last = byte;
-    move_on(seen)
+    move_on(seen, shape)
 }
 
 pub fn put(graphics: Graphics, screen: &mut [u8], byte: u8) -> Written
@@ -166,7 +166,7 @@ pub fn put(graphics: Graphics, screen: &mut [u8], byte: u8) -> Written
             done: Done::Success,
         };
     }
-    let next = data_byte(graphics, screen, byte);
+    let next = data_byte(graphics, shape, screen, byte);
     Written {
         graphics: next,
         done: Done::Success,

@@ -1,9 +1,10 @@
 -- What a function gives is what its definition says: of a chain of calls, and of a call whose argument is another's result.
 -- Assumes nothing.
-use mathlib.Core.Path.{_≡_, _∙_, ap}
+use mathlib.Core.Path.{_≡_, _∙_, refl, sym, ap}
 use mathlib.Core.Bool.{Bool, true, false, not}
 use mathlib.Core.List.{List}
-use Prim.Native.Nat.{ℕ, _+_, _-_, _*_, _≤_, _<_}
+use Prim.Native.Nat.{ℕ, zero, suc, _+_, _-_, _*_, _≤_, _<_}
+use native.Mathlib.Omega.{arith}
 use borrow.Author.Tests.{eq-eqb, ne-eqb, le-leb, lt-leb}
 use lib.Dec.{leb, ltb}
 use lib.ListN.{length, take, drop}
@@ -14,11 +15,11 @@ use Rattle.cells.specs.declared.Shape.{Shape}
 use Rattle.cells.specs.Modes.{shapeOf}
 use Rattle.wire.specs.Messages.{wordOf, wordAt}
 use Rattle.wire.specs.Fits.{gatherFits, replyFits}
-use Rattle.layout.specs.Places.{devicesPlace, consolePlace, printerPlace}
+use Rattle.layout.specs.Places.{blockLength, portLength, portPlace, devicesPlace, consolePlace, printerPlace}
 use Rattle.layout.specs.Layout.{byteAt, gatherIn, replyIn, stickIn, lentIn}
 use Rattle.layout.specs.Stands.{unused, stands}
 use Rattle.damage.specs.Fits.{stickFits}
-use Rattle.damage.specs.Whole.{gatherWhole, replyWhole, spanWhole, portWhole, textWhole, pictureWhole, cursorWhole, consoleWhole, devicesWhole, onConsole, apartGroups, apartWhole, headWhole}
+use Rattle.damage.specs.Whole.{twoWhole, allFrom, tableWhole, portAtWhole, gatherWhole, replyWhole, spanWhole, portWhole, textWhole, pictureWhole, cursorWhole, consoleWhole, devicesWhole, onConsole, apartGroups, apartWhole, headWhole}
 use Rattle.damage.proofs.Heads.{head-is}
 
 module _ (a b t : Bool) (e : t ≡ a) where
@@ -29,6 +30,62 @@ module _ (a b t : Bool) (e : t ≡ a) where
   and-yes u z f = rw (← e, z) f
 
 pub ruleset calls = (and-no, and-yes, tests)
+
+-- a turn of a loop over places: what is left is tested from the next place on
+module _ (test : ℕ → Bool) (step place : ℕ) where
+  turned : (left : ℕ) → 0 < left → allFrom test step place left ≡ and (test place) (allFrom test step (place + step) (left - 1))
+  unfolding allFrom
+  turned zero h = absurd (omega arith)
+  turned (suc n) h = let one : suc n - 1 ≡ n = omega arith in rw one
+
+  module _ (left : ℕ) (goal : Bool) (e : goal ≡ allFrom test step place left) where
+    module _ (r : Bool) (q : r ≡ test place) (h : 0 < left) where
+      pub turn-yes : r ≡ true → goal ≡ allFrom test step (place + step) (left - 1)
+      turn-yes z = e ∙ turned left h ∙ rw (← q, z)
+
+      pub turn-no : r ≡ false → false ≡ goal
+      turn-no z = sym (e ∙ turned left h ∙ rw (← q, z))
+
+    pub turn-last : left ≤ 0 → goal ≡ true
+    unfolding allFrom
+    turn-last h = let none : left ≡ 0 = omega arith in e ∙ rw none
+
+-- of a port's table, and of the ports
+module _ (b : List ℕ) (place left : ℕ) where
+  abbrev pub TableFrom : Type 0
+  TableFrom = tableWhole b ≡ allFrom (twoWhole b) (2 * blockLength) place left
+
+  abbrev pub PortsFrom : Type 0
+  PortsFrom = allFrom (portAtWhole b) portLength (portPlace 0) 2 ≡ allFrom (portAtWhole b) portLength place left
+
+pub table-last : (b : List ℕ) (place left : ℕ) → TableFrom b place left → left ≤ 0 → true ≡ tableWhole b
+table-last b place left e h = sym (turn-last (twoWhole b) (2 * blockLength) place left (tableWhole b) e h)
+
+module _ (b : List ℕ) (place left : ℕ) (r : Bool) where
+  module _ (e : TableFrom b place left) where
+    pub table-yes : r ≡ twoWhole b place → 0 < left → r ≡ true → TableFrom b (place + 2 * blockLength) (left - 1)
+    table-yes = turn-yes (twoWhole b) (2 * blockLength) place left (tableWhole b) e r
+
+    pub table-no : r ≡ twoWhole b place → 0 < left → r ≡ false → false ≡ tableWhole b
+    table-no = turn-no (twoWhole b) (2 * blockLength) place left (tableWhole b) e r
+
+  module _ (e : PortsFrom b place left) where
+    abbrev ports : Bool
+    ports = allFrom (portAtWhole b) portLength (portPlace 0) 2
+
+    abbrev behind-ports : Bool
+    behind-ports = and (devicesWhole (drop devicesPlace b)) (apartWhole b)
+
+    pub ports-yes : r ≡ portAtWhole b place → 0 < left → r ≡ true → PortsFrom b (place + portLength) (left - 1)
+    ports-yes = turn-yes (portAtWhole b) portLength place left ports e r
+
+    pub head-no : r ≡ portAtWhole b place → 0 < left → r ≡ false → false ≡ headWhole b
+    unfolding headWhole
+    head-no q h z = and-no ports behind-ports ports refl (sym (turn-no (portAtWhole b) portLength place left ports e r q h z))
+
+    pub head-last : left ≤ 0 → r ≡ behind-ports → r ≡ headWhole b
+    unfolding headWhole
+    head-last h = and-yes ports behind-ports ports refl r (turn-last (portAtWhole b) portLength place left ports e h)
 
 -- numbers made of bytes
 module _ (b : List ℕ) (t : Bool) (e : t ≡ unused (byteAt b 7) (byteAt b 8) (byteAt b 9) (byteAt b 10)) (h : t ≡ true) (n m : ℕ) where

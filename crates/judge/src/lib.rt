@@ -17,13 +17,11 @@ ghost use Rattle.layout.specs.Places.{blockLength, portLength, consoleLength, d
 ghost use Rattle.layout.specs.Layout.{stickIn, lentIn};
 ghost use Rattle.layout.specs.Stands.{unused, restUnused, runStands, stands};
 ghost use Rattle.damage.specs.Fits.{stickFits};
-ghost use Rattle.damage.specs.Whole.{aux1Whole, openWhole, blockWhole, blockWholeIn, twoWhole, fourWhole, unusedIn, fourClosed, tableWhole, gatherWhole, readyWhole, replyWhole, directionWhole, openedWhole, modeWhole, someLeft, bufferWhole, spanWhole, runWhole, phaseWhole, portWhole, textWhole, pictureWhole, cursorWhole, readingWhole, consoleWhole, devicesWhole, onConsole, apartGroups, apartWhole, headWhole};
+ghost use Rattle.damage.specs.Whole.{aux1Whole, openWhole, blockWhole, blockWholeIn, twoWhole, tableWhole, gatherWhole, readyWhole, replyWhole, directionWhole, openedWhole, modeWhole, someLeft, bufferWhole, spanWhole, runWhole, phaseWhole, portWhole, textWhole, pictureWhole, cursorWhole, readingWhole, consoleWhole, devicesWhole, onConsole, apartGroups, apartWhole, headWhole};
 ghost use Rattle.judge.specs.Ported.{Ported};
 
-// Two blocks; where a port's fifth block begins, and where the console's mode stands.
+// The bytes of two blocks, and where the console's mode stands.
 const PAIR: usize = 2 * BLOCK;
-
-const FIFTH: usize = PHASE + 4 * BLOCK;
 
 const MODE: usize = DEVICES + CONSOLE;
 
@@ -100,66 +98,41 @@ fn block(bytes: &[u8], place: usize) -> bool
     block_whole(bytes[place], bytes[place + 1], bytes[place + 2])
 }
 
-// Two blocks, from this place on.
+// Two blocks, from this place on: most are closed both, and their other bytes then 0, by two comparisons.
 fn two(bytes: &[u8], place: usize) -> bool
     requires { ⌜ place + 2 * blockLength ≤ length (now bytes) ⌝ }
     ensures { λ r. ⌜ r ≡ twoWhole (now (bytes .entry)) place ⌝ }
 {
+    if neither(bytes[place], bytes[place + BLOCK]) {
+        return none(
+            bytes[place + 1],
+            bytes[place + 2],
+            bytes[place + BLOCK + 1],
+            bytes[place + BLOCK + 2],
+        );
+    }
     if block(bytes, place) {
         return block(bytes, place + BLOCK);
     }
     false
 }
 
-fn none_at(bytes: &[u8], place: usize) -> bool
-    requires { ⌜ place + 4 ≤ length (now bytes) ⌝ }
-    ensures { λ r. ⌜ r ≡ unusedIn (now (bytes .entry)) place ⌝ }
-{
-    none(
-        bytes[place],
-        bytes[place + 1],
-        bytes[place + 2],
-        bytes[place + 3],
-    )
-}
-
-// Four blocks are closed, by three comparisons.
-fn closed(bytes: &[u8], place: usize) -> bool
-    requires { ⌜ place + 4 * blockLength ≤ length (now bytes) ⌝ }
-    ensures { λ r. ⌜ r ≡ fourClosed (now (bytes .entry)) place ⌝ }
-{
-    if none_at(bytes, place) {
-        if none_at(bytes, place + 4) {
-            return none_at(bytes, place + 8);
-        }
-        return false;
-    }
-    false
-}
-
-// Four blocks, from this place on.
-fn four_blocks(bytes: &[u8], place: usize) -> bool
-    requires { ⌜ place + 4 * blockLength ≤ length (now bytes) ⌝ }
-    ensures { λ r. ⌜ r ≡ fourWhole (now (bytes .entry)) place ⌝ }
-{
-    if closed(bytes, place) {
-        return true;
-    }
-    if two(bytes, place) {
-        return two(bytes, place + PAIR);
-    }
-    false
-}
-
-// A port's eight.
+// A port's eight, by two.
 fn table(bytes: &[u8]) -> bool
     requires { ⌜ portLength ≤ length (now bytes) ⌝ }
     ensures { λ r. ⌜ r ≡ tableWhole (now (bytes .entry)) ⌝ }
 {
-    if four_blocks(bytes, PHASE) {
-        return four_blocks(bytes, FIFTH);
+    let mut place = PHASE;
+    let mut left: u8 = 4;
+    while 0 < left {
+        if two(bytes, place) {
+            place += PAIR;
+            left -= 1;
+        } else {
+            return false;
+        }
     }
-    false
+    true
 }
 
 // The last four bytes of a phase are not used.
@@ -505,13 +478,17 @@ fn head(state: &[u8]) -> bool
     ensures { λ r. ⌜ r ≡ headWhole (now (state .entry)) ⌝ }
 {
     let mode = state[MODE];
-    if port_at(state, 0, mode) {
-        if port_at(state, PORT, mode) {
-            return groups(state);
+    let mut place: usize = 0;
+    let mut left: u8 = 2;
+    while 0 < left {
+        if port_at(state, place, mode) {
+            place += PORT;
+            left -= 1;
+        } else {
+            return false;
         }
-        return false;
     }
-    false
+    groups(state)
 }
 
 // Whether a state, with what is lent beside it, stands for an undamaged stick.

@@ -2,7 +2,7 @@
 -- Assumes nothing.
 use mathlib.Core.Path.{_≡_, _∙_, refl, sym, ap}
 use mathlib.Core.Bool.{Bool, true, false}
-use Prim.Native.Nat.{ℕ, _+_, _*_, _<_, _≤_}
+use Prim.Native.Nat.{ℕ, _+_, _-_, _*_, _<_, _≤_}
 use native.Mathlib.Omega.{arith}
 use borrow.Author.Tests.{lt-ltb, le-ltb, le-leb, lt-leb}
 use lib.Dec.{T}
@@ -14,9 +14,10 @@ use Rattle.base.proofs.Table.{both, both-left, both-right, upto, on}
 use Rattle.handler.specs.Answer.{answer}
 use Rattle.handler.specs.declared.Got.the-variants.{Character, Refused}
 use Rattle.keys.specs.Table.{keys, keyAt}
-use Rattle.keys.specs.Translation.{fixed, entryNumber, entryOf, keyAnswer, translateOf}
+use Rattle.keys.specs.Translation.{letter, fixed, entryNumber, entryOf, keyAnswer, translateOf}
 use Rattle.keys.specs.Keyboard.{emptied, obeyed, struckBy, getOf}
 use Rattle.keys.specs.declared.keyboard.Keyboard.{Keyboard}
+use Rattle.keys.proofs.LetterRule.{shift-letter, control-letter}
 
 -- `key`, in the table and past it
 module _ (place : ℕ) where
@@ -61,11 +62,23 @@ module _ (code lock : ℕ) where
     pub own-above : 0x7A < getD keys code 0 → getD keys code 0 ≡ entryOf code lock
     own-above k = entry-above code lock (getD keys code 0) (key-in code h) k
 
-    pub letter-none : code < 64 → 0x61 ≤ getD keys code 0 → getD keys code 0 ≤ 0x7A → 192 ≤ code + 64 * lock → 0x80 ≡ entryOf code lock
-    letter-none k l m o = entry-letter code lock (getD keys code 0) (key-in code h) 0x80 k l m (key-past (code + 64 * lock) o)
+    module _ (k : code < 64) (l : 0x61 ≤ getD keys code 0) (m : getD keys code 0 ≤ 0x7A) where
+      is-letter : letter (keyAt code) ≡ true
+      is-letter = simp (← key-in code h, le-leb 0x61 (getD keys code 0) l, le-leb (getD keys code 0) 0x7A m)
 
-    pub letter-there : code < 64 → 0x61 ≤ getD keys code 0 → getD keys code 0 ≤ 0x7A → code + 64 * lock < 192 → getD keys (code + 64 * lock) 0 ≡ entryOf code lock
-    letter-there k l m o = entry-letter code lock (getD keys code 0) (key-in code h) (getD keys (code + 64 * lock) 0) k l m (key-in (code + 64 * lock) o)
+      pub letter-plain : lock ≡ 0 → getD keys code 0 ≡ entryOf code lock
+      letter-plain e =
+          let same : code ≡ code + 64 * lock = omega arith in
+          entry-letter code lock (getD keys code 0) (key-in code h) (getD keys code 0) k l m (key-in code h ∙ ap keyAt same)
+
+      pub letter-shift : lock ≡ 1 → getD keys code 0 - 32 ≡ entryOf code lock
+      letter-shift e = ap (λ (n : ℕ). n - 32) (key-in code h) ∙ sym (shift-letter code k is-letter) ∙ rw e
+
+      pub letter-control : lock ≡ 2 → getD keys code 0 - 96 ≡ entryOf code lock
+      letter-control e = ap (λ (n : ℕ). n - 96) (key-in code h) ∙ sym (control-letter code k is-letter) ∙ rw e
+
+      pub letter-none : (lock ≡ 0 → ⊥) → (lock ≡ 1 → ⊥) → (lock ≡ 2 → ⊥) → 0x80 ≡ entryOf code lock
+      letter-none a b c = entry-letter code lock (getD keys code 0) (key-in code h) 0x80 k l m (key-past (code + 64 * lock) (omega arith))
 
 -- `answer`: where the test of a whole range says how its entries are answered, each of them is
 abbrev pub is : Bool → Bool → Bool

@@ -1,4 +1,4 @@
-// Document 01's key table: three blocks of 64 entries. Nothing but `key` looks into it.
+// Document 01's key table: three blocks of 64 entries. Nothing but `entry` looks into it.
 ghost use mathlib.Core.Path.{_≡_};
 ghost use Rattle.keys.specs.Translation.{entryOf};
 
@@ -197,7 +197,8 @@ const KEYS: [u8; 192] = [
     0x01,
 ];
 
-// A code's entry, and none past the table; a letter's is read from the lock's block. The table is used here alone, and once.
+// A code's entry, and none past the table. A letter's is that of the lock's block, which the letter rule makes 32 or 96 less: the
+// table is read once.
 pub fn entry(code: u8, lock: u8) -> u8
     ensures { λ r. ⌜ r ≡ entryOf code lock ⌝ }
 {
@@ -216,9 +217,14 @@ pub fn entry(code: u8, lock: u8) -> u8
     if 0x7A < own {
         return own;
     }
-    let other = place + 64 * (lock as usize);
-    if 192 <= other {
-        return 0x80;
+    if lock == 0 {
+        return own;
     }
-    keys[other]
+    if lock == 1 {
+        return own - 32;
+    }
+    if lock == 2 {
+        return own - 96;
+    }
+    0x80
 }

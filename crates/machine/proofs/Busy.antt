@@ -11,7 +11,7 @@ use Rattle.printer.specs.Printer as printer
 use Rattle.console.specs.Handlers.{openE, openOf, prepareE, prepareOf, readE, readK, readOf, writeE, writeOf}
 use Rattle.blocks.specs.Opening.{deviceOf, numberOf, namedOf, specificationOf, offersOf}
 use Rattle.wire.specs.Messages.{goodField, senseOf, badStatus, messageOf}
-use Rattle.wire.specs.Replies.{bytesAt, fetchStatus, fetchReply}
+use Rattle.replies.specs.Replies.{bytesAt, fetchStatus, fetchReply}
 use Rattle.transfer.specs.Transfer.{onwardOf, recordOf, gotCharacter, gotOf, sentByte, sentRecord, sentNext, sentOf}
 use Rattle.plan.specs.Plan.{commandOf, wayOf, nameOf, areaPlan, transferPlan, blockPlan, callPlan, planIn, planOf}
 use Rattle.cio.specs.Start.{loadedOf, loadStatus, thenOf, openedOf, openingOf, transferOf, workOf}

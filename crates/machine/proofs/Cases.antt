@@ -13,15 +13,16 @@ use Rattle.keys.specs.Translation as keys-to
 use Rattle.keys.specs.Keyboard as keyboard
 use Rattle.cells.specs.Modes.{modes, rowOf, shapeOf, countOf}
 use Rattle.cells.specs.Cells.{cellOf, withCell, filled, reduced, scrolled}
-use Rattle.editor.specs.Decide as editor-acts
+use Rattle.controls.specs.Decide as controls-acts
 use Rattle.editor.specs.Text as editor
+use Rattle.controls.specs.Put as controls
 use Rattle.editor.specs.Get as editor-get
 use Rattle.graphics.specs.Picture as graphics
 use Rattle.printer.specs.Printer as printer
 use Rattle.console.specs.Handlers.{openE, openS, openOf, prepareE, prepareS, prepareOf, readE, readS, readK, readOf, writeE, writeS, writeOf}
 use Rattle.blocks.specs.Opening.{deviceOf, numberOf, namedOf, specificationOf, offersOf}
 use Rattle.wire.specs.Messages.{goodField, senseOf, badStatus, messageOf}
-use Rattle.wire.specs.Replies.{bytesAt, fetchStatus, fetchReply}
+use Rattle.replies.specs.Replies.{bytesAt, fetchStatus, fetchReply}
 use Rattle.transfer.specs.Transfer.{onwardOf, recordOf, gotCharacter, gotOf, sentByte, sentRecord, sentNext, sentOf}
 use Rattle.plan.specs.Plan.{commandOf, wayOf, nameOf, areaPlan, transferPlan, blockPlan, callPlan, planIn, planOf}
 use Rattle.cio.specs.Start.{loadedOf, loadStatus, thenOf, openedOf, openingOf, transferOf, workOf}
@@ -119,7 +120,7 @@ outcomes =
     heard (opened ++ calls 0x01 0 5) (0 ∷ 1 ∷ []) (1 ∷ 0 ∷ 0 ∷ []) ∷ []
 
 machine-cases : map machinePlays scripts ≡ outcomes
-unfolding after feed fedOf goodField senseOf badStatus messageOf errandStep planStep moveBy keys.keys keys-to.entryOf keys-to.keyAnswer keys-to.translateOf keyboard.obeyed keyboard.struckBy keyboard.getOf printer.putOf openE openOf prepareE prepareOf readE readK readOf writeE writeOf deviceOf numberOf namedOf specificationOf offersOf bytesAt fetchStatus fetchReply moves.getOf moves.putOf moves.goOf moves.advanceOf commandOf wayOf areaPlan transferPlan blockPlan nameOf callPlan planIn planOf loadedOf loadStatus thenOf openedOf openingOf transferOf workOf onwardOf recordOf gotCharacter gotOf sentByte sentRecord sentNext sentOf loaded modes rowOf shapeOf countOf cellOf withCell filled reduced scrolled editor-acts.plainOf editor-acts.actOf editor.newRow editor.openOf editor.lessOf editor.moreOf editor.clearOf editor.backOf editor.onward editor.dataOf editor.doing editor.putOf editor-get.cellsHeld editor-get.endOf editor-get.getAt editor-get.getOf graphics.onward graphics.cellsOpened graphics.openOf graphics.getOf graphics.clearOf graphics.dataOf graphics.putOf openS prepareS readS writeS
+unfolding after feed fedOf goodField senseOf badStatus messageOf errandStep planStep moveBy keys.keys keys-to.entryOf keys-to.keyAnswer keys-to.translateOf keyboard.obeyed keyboard.struckBy keyboard.getOf printer.putOf openE openOf prepareE prepareOf readE readK readOf writeE writeOf deviceOf numberOf namedOf specificationOf offersOf bytesAt fetchStatus fetchReply moves.getOf moves.putOf moves.goOf moves.advanceOf commandOf wayOf areaPlan transferPlan blockPlan nameOf callPlan planIn planOf loadedOf loadStatus thenOf openedOf openingOf transferOf workOf onwardOf recordOf gotCharacter gotOf sentByte sentRecord sentNext sentOf loaded modes rowOf shapeOf countOf cellOf withCell filled reduced scrolled controls-acts.plainOf controls-acts.actOf editor.newRow editor.openOf controls.lessOf controls.moreOf controls.clearOf controls.backOf controls.onward controls.dataOf controls.doing controls.putOf editor-get.cellsHeld editor-get.endOf editor-get.getAt editor-get.getOf graphics.onward graphics.cellsOpened graphics.openOf graphics.getOf graphics.clearOf graphics.dataOf graphics.putOf openS prepareS readS writeS
 machine-cases = refl
 
 -- the five calls play what the machine plays

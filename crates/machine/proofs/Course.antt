@@ -12,7 +12,7 @@ use Rattle.blocks.specs.declared.Device.{Device}
 use Rattle.blocks.specs.Blocks.{blockAt}
 use Rattle.blocks.specs.Opening.{offersOf}
 use Rattle.wire.specs.declared.Call.{Call}
-use Rattle.wire.specs.Replies.{callReply, statusReply, fetchReply}
+use Rattle.replies.specs.Replies.{callReply, statusReply, fetchReply}
 use Rattle.transfer.specs.Transfer as transfer
 use Rattle.devices.specs.declared.Group.{Group}
 use Rattle.devices.specs.declared.Group.the-variants as groups

@@ -17,7 +17,7 @@ use Rattle.blocks.specs.declared.Device.{Device}
 use Rattle.blocks.specs.declared.Run.{Run}
 use Rattle.blocks.specs.declared.Table.{Table}
 use Rattle.blocks.proofs.Keeps.{with-length}
-use Rattle.wire.specs.Replies.{callReply, statusReply, fetchReply}
+use Rattle.replies.specs.Replies.{callReply, statusReply, fetchReply}
 use Rattle.transfer.specs.Transfer as transfer
 use Rattle.devices.specs.declared.Group.{Group}
 use Rattle.devices.specs.declared.Group.the-variants as groups

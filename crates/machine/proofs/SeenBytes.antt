@@ -24,7 +24,7 @@ use Rattle.wire.specs.Messages.{wordOf, goodField, gatherOf, headerOf, afterOf,
 use Rattle.wire.specs.Spelling.{valued}
 use Rattle.wire.specs.Fits.{gatherFits, replyFits}
 use Rattle.wire.specs.Messages as wire
-use Rattle.wire.specs.Replies as wire-replies
+use Rattle.wire.specs.Giving as giving
 use Rattle.wire.proofs.Spelling.{good-length}
 use Rattle.devices.specs.Groups.{Groups}
 use Rattle.damage.specs.Fits.{phaseFits}
@@ -170,12 +170,12 @@ module _ (reply : blocks-reply.Reply) (room : List ℕ) (r : length room ≡ roo
       drop-cons whole (reply .given) 0 (omega (arith, whole-long, given-short))
       ∙ ap (λ (b : ℕ). b ∷ drop (suc (reply .given)) whole) (getD-take (reply .length) room (reply .given) 0 given-short)
 
-  pub byte-seen : replyBy (drop (reply .given) whole) .head ≡ wire-replies.giveOf reply room .byte
-  unfolding wire-replies.giveOf
+  pub byte-seen : replyBy (drop (reply .given) whole) .head ≡ giving.giveOf reply room .byte
+  unfolding giving.giveOf
   byte-seen = ap (λ (v : List ℕ). replyBy v .head) next-is
 
-  pub gives-seen : phaseSeen (wire-replies.giveOf reply room .phase) room ≡ restPhase real (replyBy (drop (reply .given) whole) .rest)
-  unfolding wire-replies.giveOf
+  pub gives-seen : phaseSeen (giving.giveOf reply room .phase) room ≡ restPhase real (replyBy (drop (reply .given) whole) .rest)
+  unfolding giving.giveOf
   gives-seen =
       pick-le (λ (x : blocks-phase.Phase). phaseSeen x room ≡ restPhase real (drop (suc (reply .given)) whole)) (reply .length) (reply .given + 1) _ _
       (λ l.
@@ -207,4 +207,4 @@ module _ (n : ℕ) (table : Table) (room half : List ℕ) (r : length room ≡ r
   give-seen (phase.Replying reply) f =
       let v = replyBy (drop (reply .given) (take (reply .length) room)) in
       ap (λ (y : Phase real). keep real y (local n table half) d (gave (v .head))) (sym (gives-seen reply room r f))
-      ∙ ap (λ (b : ℕ). keep real (phaseSeen (wire-replies.giveOf reply room .phase) room) (local n table half) d (gave b)) (byte-seen reply room r f)
+      ∙ ap (λ (b : ℕ). keep real (phaseSeen (giving.giveOf reply room .phase) room) (local n table half) d (gave b)) (byte-seen reply room r f)

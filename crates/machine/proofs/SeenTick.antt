@@ -19,9 +19,9 @@ use Rattle.blocks.specs.declared.Table.{Table}
 use Rattle.blocks.specs.Blocks.{withBlock}
 use Rattle.wire.specs.declared.Message.{Message}
 use Rattle.wire.specs.Messages.{roomLength, messageOf}
-use Rattle.wire.specs.Replies.{replyOf, replyInto}
+use Rattle.replies.specs.Replies.{replyOf, replyInto}
 use Rattle.wire.specs.Fits.{replyFits}
-use Rattle.wire.proofs.Keeps.{reply-first}
+use Rattle.replies.proofs.Keeps.{reply-first}
 use Rattle.transfer.specs.Transfer as transfer
 use Rattle.devices.specs.declared.Group.{Group}
 use Rattle.devices.specs.declared.Group.the-variants as groups

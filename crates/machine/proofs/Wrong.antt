@@ -13,8 +13,9 @@ use Rattle.keys.specs.Translation as keys-to
 use Rattle.keys.specs.Keyboard as keyboard
 use Rattle.cells.specs.Modes.{modes, rowOf, shapeOf, countOf}
 use Rattle.cells.specs.Cells.{cellOf, withCell, filled, reduced, scrolled}
-use Rattle.editor.specs.Decide as editor-acts
+use Rattle.controls.specs.Decide as controls-acts
 use Rattle.editor.specs.Text as editor
+use Rattle.controls.specs.Put as controls
 use Rattle.editor.specs.Get as editor-get
 use Rattle.printer.specs.Printer as printer
 use Rattle.console.specs.Handlers.{openE, openOf, prepareE, prepareOf, readE, readK, readOf, writeE, writeOf}
@@ -24,7 +25,7 @@ use Rattle.blocks.specs.declared.Run.{Run}
 use Rattle.blocks.specs.declared.Way.the-variants.{Characters}
 use Rattle.blocks.specs.Opening.{deviceOf, numberOf, namedOf, specificationOf, offersOf}
 use Rattle.wire.specs.Messages.{goodField, senseOf, badStatus, messageOf}
-use Rattle.wire.specs.Replies.{bytesAt, fetchStatus, fetchReply, callReply}
+use Rattle.replies.specs.Replies.{bytesAt, fetchStatus, fetchReply, callReply}
 use Rattle.transfer.specs.Transfer.{onwardOf, recordOf, gotCharacter, gotOf, sentByte, sentRecord, sentNext, sentOf}
 use Rattle.devices.specs.declared.Group.{Group}
 use Rattle.devices.specs.declared.Group.the-variants as groups
@@ -228,7 +229,7 @@ abbrev record-back : Said
 record-back = call (record { iocb = 0; command = 0x05; address = 32; length = 10; aux1 = 0; aux2 = 0; a = 0 })
 
 pub made-up-wrong : AloneRule real (with-call real madeUp) → ⊥
-unfolding after feed fedOf goodField senseOf badStatus messageOf errandStep planStep moveBy keys.keys keys-to.entryOf keys-to.keyAnswer keys-to.translateOf keyboard.obeyed keyboard.struckBy keyboard.getOf printer.putOf openE openOf prepareE prepareOf readE readK readOf writeE writeOf deviceOf numberOf namedOf specificationOf offersOf bytesAt fetchStatus fetchReply moves.getOf moves.putOf moves.goOf moves.advanceOf commandOf wayOf areaPlan transferPlan blockPlan nameOf callPlan planIn planOf loadedOf loadStatus thenOf openedOf openingOf transferOf workOf onwardOf recordOf gotCharacter gotOf sentByte sentRecord sentNext sentOf loaded ticked aloneOf alonePlan aloneErrand aloneWork aloneTransfer aloneOpening transferred getting putting getOne putOne getCharacters putCharacters getRecord putRecord dropLine modes rowOf shapeOf countOf cellOf withCell filled reduced scrolled editor-acts.plainOf editor-acts.actOf editor.newRow editor.openOf editor.lessOf editor.moreOf editor.clearOf editor.backOf editor.onward editor.dataOf editor.doing editor.putOf editor-get.cellsHeld editor-get.endOf editor-get.getAt editor-get.getOf leftE leftK consoleLeft
+unfolding after feed fedOf goodField senseOf badStatus messageOf errandStep planStep moveBy keys.keys keys-to.entryOf keys-to.keyAnswer keys-to.translateOf keyboard.obeyed keyboard.struckBy keyboard.getOf printer.putOf openE openOf prepareE prepareOf readE readK readOf writeE writeOf deviceOf numberOf namedOf specificationOf offersOf bytesAt fetchStatus fetchReply moves.getOf moves.putOf moves.goOf moves.advanceOf commandOf wayOf areaPlan transferPlan blockPlan nameOf callPlan planIn planOf loadedOf loadStatus thenOf openedOf openingOf transferOf workOf onwardOf recordOf gotCharacter gotOf sentByte sentRecord sentNext sentOf loaded ticked aloneOf alonePlan aloneErrand aloneWork aloneTransfer aloneOpening transferred getting putting getOne putOne getCharacters putCharacters getRecord putRecord dropLine modes rowOf shapeOf countOf cellOf withCell filled reduced scrolled controls-acts.plainOf controls-acts.actOf editor.newRow editor.openOf controls.lessOf controls.moreOf controls.clearOf controls.backOf controls.onward controls.dataOf controls.doing controls.putOf editor-get.cellsHeld editor-get.endOf editor-get.getAt editor-get.getOf leftE leftK consoleLeft
 made-up-wrong a =
     let w = led madeUp case-7 in
     let s = ticked real (with-call real madeUp) 4 port-0 w in

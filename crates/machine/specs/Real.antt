@@ -16,7 +16,7 @@ use Rattle.console.specs.Group.{ConsoleGroup, group, pressedOf}
 use Rattle.console.specs.Handlers.{consoleActs}
 use Rattle.console.specs.Fit.{InUse}
 use Rattle.blocks.specs.declared.Run.{Run}
-use Rattle.wire.specs.Replies.{callReply, statusReply, fetchReply}
+use Rattle.replies.specs.Replies.{callReply, statusReply, fetchReply}
 use Rattle.transfer.specs.Transfer as transfer
 use Rattle.devices.specs.declared.Group.{Group}
 use Rattle.devices.specs.declared.Group.the-variants as groups

@@ -68,12 +68,13 @@ module _ (half : List ℕ) (address byte : ℕ) (b : byte ≡ getD half (address
   unfolding nameOf
   name-numbered h = rw (← b, ne-eqb byte 0x3A h)
 
-module _ (then : After) (s : Specification) (half : List ℕ) (call : Call) where
-  pub open-refused : (status : ℕ) → s ≡ Refused status → atOnce status call ≡ openPlan then s half call
-  open-refused status e = rw e
+module _ (then : After) (s : Specification) (half : List ℕ) (call : Call) (o : s ≡ specificationOf half (call .address)) where
+  pub open-refused : (status : ℕ) → s ≡ Refused status → atOnce status call ≡ openPlan then (specificationOf half (call .address)) half call
+  open-refused status e = rw (← o, e)
 
-  pub open-names : (device : Device) (number name : ℕ) (p : Plan) → s ≡ Names device number → name ≡ nameOf half (call .address) → p ≡ plannedOf device (work.Open then number name) call → p ≡ openPlan then s half call
-  open-names device number name p e n q = q ∙ rw (n, e)
+  pub open-names : (device : Device) (number name : ℕ) (p : Plan) → s ≡ Names device number → name ≡ nameOf half (call .address) → p ≡ plannedOf device (work.Open then number name) call
+      → p ≡ openPlan then (specificationOf half (call .address)) half call
+  open-names device number name p e n q = q ∙ rw (n, ← o, e)
 
 module _ (reads records : Bool) (device : Device) (call : Call) (way : Way) (kind : Kind) (u : way ≡ wayOf records (call .length)) (v : kind ≡ kindOf reads way) where
   pub area-one : (p : Plan) → call .length ≡ 0 → p ≡ plannedOf device (work.Transfer kind) call → p ≡ areaPlan reads records device call
@@ -112,21 +113,21 @@ module _ (c : Command) (b : BlockState) (call : Call) (half : List ℕ) where
   block-bad e = rw e
 
   module _ (f : b ≡ block.Closed) where
-    pub closed-open : (s : Specification) (p : Plan) → c ≡ command.Open → s ≡ specificationOf half (call .address) → p ≡ openPlan after.Stay s half call → p ≡ blockPlan c b call half
+    pub closed-open : (p : Plan) → c ≡ command.Open → p ≡ openPlan after.Stay (specificationOf half (call .address)) half call → p ≡ blockPlan c b call half
     unfolding blockPlan
-    closed-open s p e q r = r ∙ rw (e, f, q)
+    closed-open p e r = r ∙ rw (e, f)
 
     pub closed-close : c ≡ command.Close → atOnce 0x01 call ≡ blockPlan c b call half
     unfolding blockPlan
     closed-close e = rw (e, f)
 
-    pub closed-status : (s : Specification) (p : Plan) → c ≡ command.Status → s ≡ specificationOf half (call .address) → p ≡ openPlan after.Status s half call → p ≡ blockPlan c b call half
+    pub closed-status : (p : Plan) → c ≡ command.Status → p ≡ openPlan after.Status (specificationOf half (call .address)) half call → p ≡ blockPlan c b call half
     unfolding blockPlan
-    closed-status s p e q r = r ∙ rw (e, f, q)
+    closed-status p e r = r ∙ rw (e, f)
 
-    pub closed-special : (s : Specification) (p : Plan) → c ≡ command.Special → s ≡ specificationOf half (call .address) → p ≡ openPlan after.Special s half call → p ≡ blockPlan c b call half
+    pub closed-special : (p : Plan) → c ≡ command.Special → p ≡ openPlan after.Special (specificationOf half (call .address)) half call → p ≡ blockPlan c b call half
     unfolding blockPlan
-    closed-special s p e q r = r ∙ rw (e, f, q)
+    closed-special p e r = r ∙ rw (e, f)
 
     pub closed-transfer : (reads records : Bool) → c ≡ command.Transfer reads records → atOnce 0x85 call ≡ blockPlan c b call half
     unfolding blockPlan

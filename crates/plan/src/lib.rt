@@ -9,6 +9,7 @@ use devices::Group;
 use wire::Call;
 use wire::Message;
 ghost use mathlib.Core.Path.{_≡_};
+ghost use Rattle.blocks.specs.Opening.{specificationOf};
 ghost use Rattle.plan.specs.Plan.{commandOf, wayOf, kindOf, plannedOf, nameOf, openPlan, areaPlan, transferPlan, blockPlan, callPlan, iocbOf, planIn, groupNeeded};
 
 pub enum Command {
@@ -132,9 +133,10 @@ fn name_at(half: &[u8], address: u16) -> u32
 }
 
 // An opening by its device specification.
-fn open_plan(after: After, specification: Specification, half: &[u8], call: Call) -> Plan
-    ensures { λ r. ⌜ r ≡ openPlan after specification (now (half .entry)) call ⌝ }
+fn open_plan(after: After, half: &[u8], call: Call) -> Plan
+    ensures { λ r. ⌜ r ≡ openPlan after (specificationOf (now (half .entry)) (call .address)) (now (half .entry)) call ⌝ }
 {
+    let specification = blocks::specification_at(half, call.address);
     match specification {
         Specification::Refused(status) => Plan::Free(Errand::Status(status, call.a)),
         Specification::Names(device, number) => {
@@ -184,12 +186,7 @@ fn block_plan(command: Command, block: ControlBlock, call: Call, half: &[u8]) ->
     match command {
         Command::Bad => Plan::Free(Errand::Status(0x84, call.a)),
         Command::Open => match state {
-            BlockState::Closed => open_plan(
-                After::Stay,
-                blocks::specification_at(half, call.address),
-                half,
-                call,
-            ),
+            BlockState::Closed => open_plan(After::Stay, half, call),
             BlockState::Open {
                 device,
                 number,
@@ -205,12 +202,7 @@ fn block_plan(command: Command, block: ControlBlock, call: Call, half: &[u8]) ->
             } => planned(device, Work::Close, call),
         },
         Command::Status => match state {
-            BlockState::Closed => open_plan(
-                After::Status,
-                blocks::specification_at(half, call.address),
-                half,
-                call,
-            ),
+            BlockState::Closed => open_plan(After::Status, half, call),
             BlockState::Open {
                 device,
                 number,
@@ -218,12 +210,7 @@ fn block_plan(command: Command, block: ControlBlock, call: Call, half: &[u8]) ->
             } => planned(device, Work::Status, call),
         },
         Command::Special => match state {
-            BlockState::Closed => open_plan(
-                After::Special,
-                blocks::specification_at(half, call.address),
-                half,
-                call,
-            ),
+            BlockState::Closed => open_plan(After::Special, half, call),
             BlockState::Open {
                 device,
                 number,

@@ -31,7 +31,7 @@ use Rattle.blocks.specs.Opening.{letterOf, areaLength}
 use Rattle.blocks.specs.Made.{tableMade}
 use Rattle.wire.specs.Messages.{messageOf, roomLength}
 use Rattle.wire.specs.Messages as wire
-use Rattle.wire.specs.Replies as wire-replies
+use Rattle.wire.specs.Giving as giving
 use Rattle.wire.proofs.Keeps.{GathersOrReady, RepliesOrFresh, take-fits, take-room-length, give-fits, fresh-fits}
 use Rattle.layout.specs.Stick.{withPhase}
 use Rattle.transfer.specs.Transfer.{Out, goes, ends, landed}
@@ -317,7 +317,7 @@ module _ (port : Port) (console : Console) (f : portFits port console ≡ true) 
   give-kept (Running run) e = port-kept
   give-kept (Replying reply) e =
       let g = rw e at (port-of port console f .1) in
-      idle-kept (wire-replies.giveOf reply room .phase) (rw e) (replies-idle (wire-replies.giveOf reply room .phase) console (give-fits reply room g))
+      idle-kept (giving.giveOf reply room .phase) (rw e) (replies-idle (giving.giveOf reply room .phase) console (give-fits reply room g))
 
 pub take-length : (phase : Phase) (port : Port) (room : List ℕ) (byte : ℕ) → length (takePort phase port room byte .room) ≡ length room
 unfolding takePort

@@ -26,7 +26,7 @@ use Rattle.blocks.specs.declared.Way.the-variants.{One, Characters, Record}
 use Rattle.blocks.specs.Blocks.{blockAt}
 use Rattle.blocks.specs.Opening.{areaLength}
 use Rattle.wire.specs.Messages.{roomLength, messageOf}
-use Rattle.wire.specs.Replies.{callReply, statusReply, fetchReply, bytesAt}
+use Rattle.replies.specs.Replies.{callReply, statusReply, fetchReply, bytesAt}
 use Rattle.wire.proofs.Keeps.{take-room-length}
 use Rattle.layout.specs.Stick.{Stick, Lent, portAt, otherAt, withPort0, withPort1, withPort, partAt, withPart}
 use Rattle.transfer.specs.Transfer.{Progress, gotCharacter, gotOf, Out, goes, ends, landed}

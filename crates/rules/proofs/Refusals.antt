@@ -23,7 +23,7 @@ use Rattle.handler.specs.Acts.{Acts, asksOn}
 use Rattle.keys.specs.Translation.{translateOf}
 use Rattle.keys.specs.Keyboard as keys
 use Rattle.cells.specs.Modes.{shapeOf}
-use Rattle.editor.specs.Text as editor
+use Rattle.controls.specs.Put as controls
 use Rattle.editor.specs.Get as editor-get
 use Rattle.graphics.specs.Picture as graphics
 use Rattle.printer.specs.Printer as printer
@@ -42,7 +42,7 @@ use Rattle.blocks.specs.Blocks.{blockAt, openBlock, withBlock}
 use Rattle.blocks.proofs.Keeps.{block-back}
 use Rattle.wire.specs.declared.Call.{Call}
 use Rattle.wire.specs.Messages.{wordAt}
-use Rattle.wire.specs.Replies.{callReply}
+use Rattle.replies.specs.Replies.{callReply}
 use Rattle.transfer.specs.declared.Next.{Next}
 use Rattle.transfer.specs.declared.Next.the-variants.{On, Off}
 use Rattle.transfer.specs.Transfer.{Out, goes, ends, outOf, landed, Progress, progress, furtherOf, endedOf, onwardOf, eol, recordOf, gotCharacter, gotOf, sentByte, sentRecord, sentNext, sentOf}
@@ -148,7 +148,7 @@ read-high (owner.Console console.K) asked x =
 read-high owner.Printer asked x = omega arith
 
 write-high : (o : Owner) (asked : Asked) (byte : ℕ) (x : Part (groupIn o)) → doneHigh (ownActs o asked .writes byte x .says)
-unfolding writeOf writeE writeS editor.putOf graphics.putOf printer.putOf
+unfolding writeOf writeE writeS controls.putOf graphics.putOf printer.putOf
 write-high (owner.Console console.E) asked byte x = tt
 write-high (owner.Console console.S) asked byte x =
     by-test (eqb byte 0x7D) (λ t. rw t tt) (λ t.

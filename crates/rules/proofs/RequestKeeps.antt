@@ -37,9 +37,10 @@ use Rattle.blocks.proofs.Keeps.{block-back, block-made, with-made, closed-made,
 use Rattle.wire.specs.declared.Call.{Call}
 use Rattle.wire.specs.declared.Message.{Message}
 use Rattle.wire.specs.declared.Message.the-variants as message
-use Rattle.wire.specs.Replies.{bytesAt, callReply, statusReply, fetchReply}
+use Rattle.replies.specs.Replies.{bytesAt, callReply, statusReply, fetchReply}
 use Rattle.wire.specs.Fits.{replyFits}
-use Rattle.wire.proofs.Keeps.{call-reply-fits, status-reply-fits, fetch-reply-fits, reply-length}
+use Rattle.replies.proofs.Keeps.{reply-length}
+use Rattle.wire.proofs.Keeps.{call-reply-fits, status-reply-fits, fetch-reply-fits}
 use Rattle.transfer.specs.Transfer.{Out, goes, ends, landed}
 use Rattle.transfer.specs.Spans.{wayIn}
 use Rattle.devices.specs.Groups.{Part, ownerOf, groupOf, deviceActs}

@@ -6,7 +6,7 @@ pub mod started;
 use layout::places::AREA;
 use layout::places::STATE;
 ghost use mathlib.Core.Path.{_≡_};
-ghost use Rattle.calls.specs.Bytes.{buffers, left, buffersFit, bytesRefusal, freshBytes, takeBytes, tickBytes, giveBytes, pressBytes};
+ghost use Rattle.calls.specs.Bytes.{buffers, left, fourFit, bytesRefusal, freshBytes, takeBytes, tickBytes, giveBytes, pressBytes};
 
 // The cells of the lent screen, and the bytes of the lent paper.
 pub const SCREEN: usize = 61440;
@@ -19,13 +19,13 @@ pub struct Answered {
     pub byte: u8,
 }
 
-fn lengths_fit(state: &[u8], area: &[u8], screen: &[u8], paper: &[u8]) -> bool
-    ensures { λ r. ⌜ r ≡ buffersFit (buffers (now (state .entry)) (now (area .entry)) (now (screen .entry)) (now (paper .entry))) ⌝ }
+fn lengths_fit(state: usize, area: usize, screen: usize, paper: usize) -> bool
+    ensures { λ r. ⌜ r ≡ fourFit state area screen paper ⌝ }
 {
-    if state.len() == STATE {
-        if area.len() == 2 * AREA {
-            if screen.len() == SCREEN {
-                if paper.len() == PAPER {
+    if state == STATE {
+        if area == 2 * AREA {
+            if screen == SCREEN {
+                if paper == PAPER {
                     return true;
                 }
                 return false;
@@ -41,8 +41,8 @@ fn lengths_fit(state: &[u8], area: &[u8], screen: &[u8], paper: &[u8]) -> bool
 fn guard(state: &[u8], area: &[u8], screen: &[u8], paper: &[u8], port: u8) -> u8
     ensures { λ r. ⌜ r ≡ bytesRefusal (buffers (now (state .entry)) (now (area .entry)) (now (screen .entry)) (now (paper .entry))) port ⌝ }
 {
-    if lengths_fit(state, area, screen, paper) {
-        if judge::undamaged(state, area, screen, paper) {
+    if lengths_fit(state.len(), area.len(), screen.len(), paper.len()) {
+        if judge::undamaged(&state[..], &area[..], &screen[..], &paper[..]) {
             if port < 2 {
                 return 0;
             }
@@ -57,7 +57,7 @@ fn guard(state: &[u8], area: &[u8], screen: &[u8], paper: &[u8], port: u8) -> u8
 pub fn fresh(state: &mut [u8], area: &mut [u8], screen: &mut [u8], paper: &mut [u8]) -> Answered
     ensures { λ r. ⌜ left (r .answer) (r .byte) (buffers (now (state .exit)) (now (area .exit)) (now (screen .exit)) (now (paper .exit))) ≡ freshBytes (buffers (now (state .entry)) (now (area .entry)) (now (screen .entry)) (now (paper .entry))) ⌝ }
 {
-    if lengths_fit(state, area, screen, paper) {
+    if lengths_fit(state.len(), area.len(), screen.len(), paper.len()) {
         started::fresh_all(state, area, screen, paper);
         return Answered { answer: 0, byte: 0 };
     }

@@ -9,16 +9,17 @@ use layout::places::ROOMS;
 use plan::Errand;
 use plan::Job;
 use plan::Plan;
+use transfer::Carried;
 use transfer::Next;
 ghost use mathlib.Core.Path.{_≡_};
-ghost use Rattle.transfer.specs.Transfer.{outOf};
+ghost use Rattle.transfer.specs.Transfer.{nextOf, outOf};
 ghost use Rattle.layout.specs.Places.{Reaches};
 ghost use Rattle.calls.specs.Calls.{tickAt};
 ghost use Rattle.calls.specs.Bytes.{buffers, left, leftOf, stickBy, lentBy};
 ghost use Rattle.calls.specs.Parts.{Called, Rooms, Halves, Going, landOn, advanceOn, planOn, waitsOn, errandOn, jobOn, startOn, readyOn};
 
 // What becomes of a request, into its port's room and phase.
-fn end_at(port: u8, next: Next, state: &mut [u8])
+fn land_at(port: u8, next: Next, state: &mut [u8])
     requires { ⌜ Rooms port (now state) ⌝ }
     ensures { λ _. ⌜ now (state .exit) ≡ landOn port (outOf next) (now (state .entry)) ⌝ }
 {
@@ -28,14 +29,27 @@ fn end_at(port: u8, next: Next, state: &mut [u8])
     ports::set_phase(port, phase, state);
 }
 
-// The same; of one that goes on only the phase changes.
-fn land_at(port: u8, next: Next, state: &mut [u8])
+// The same of a running one; where it goes on, only its phase changes.
+fn carry_at(port: u8, run: Run, carried: Carried, state: &mut [u8])
     requires { ⌜ Rooms port (now state) ⌝ }
-    ensures { λ _. ⌜ now (state .exit) ≡ landOn port (outOf next) (now (state .entry)) ⌝ }
+    ensures { λ _. ⌜ now (state .exit) ≡ landOn port (outOf (nextOf run carried)) (now (state .entry)) ⌝ }
 {
-    match next {
-        Next::On(run) => ports::set_run(port, run, state),
-        Next::Off(status, count, a) => end_at(port, next, state),
+    match carried {
+        Carried::On(left, place, count, a) => {
+            let kind = run.kind;
+            let device = run.device;
+            let more = Run {
+                kind: kind,
+                device: device,
+                iocb: run.iocb,
+                left: left,
+                place: place,
+                count: count,
+                a: a,
+            };
+            ports::set_run(port, more, state);
+        }
+        Carried::Off(status, count, a) => land_at(port, Next::Off(status, count, a), state),
     }
 }
 
@@ -53,7 +67,7 @@ fn advance_at(
 {
     let from = AREA * (port as usize);
     let end = from + AREA;
-    let next = cio::moves::advance(
+    let carried = cio::moves::advance(
         port,
         run,
         &mut area[from..end],
@@ -61,7 +75,7 @@ fn advance_at(
         screen,
         paper,
     );
-    land_at(port, next, state);
+    carry_at(port, run, carried, state);
 }
 
 // What a ready message comes to.

@@ -19,10 +19,11 @@ use Rattle.blocks.specs.declared.Way.the-variants.{One, Characters, Record}
 use Rattle.blocks.specs.declared.Run.{Run}
 use Rattle.blocks.specs.declared.Phase.the-variants.{Running, Replying}
 use Rattle.blocks.specs.declared.Reply.{Reply}
-use Rattle.wire.specs.Replies.{callReply, replied, repliedOf, replyOf, replyInto, Replied}
+use Rattle.replies.specs.Replies.{callReply, replied, repliedOf, replyOf, replyInto, Replied}
 use Rattle.transfer.specs.declared.Next.{Next}
 use Rattle.transfer.specs.declared.Next.the-variants.{On, Off}
-use Rattle.transfer.specs.Transfer.{Progress, progress, furtherOf, endedOf, onwardOf, eol, recordOf, gotCharacter, gotOf, sentByte, sentRecord, sentNext, sentOf, outOf, inPort, landed}
+use Rattle.transfer.specs.declared.Carried.{Carried}
+use Rattle.transfer.specs.Transfer.{nextOf, Progress, progress, furtherOf, endedOf, onwardOf, eol, recordOf, gotCharacter, gotOf, sentByte, sentRecord, sentNext, sentOf, outOf, inPort, landed}
 use Rattle.transfer.specs.Spans.{Further, spanFits, Spans}
 
 -- what a span says of a request whose way is known
@@ -54,36 +55,36 @@ module _ (run : Run) where
   unfolding onwardOf
   onward-end next h q = q ∙ rw (eq-eqb (run .left) 0 h)
 
-  pub onward-on : (run .left ≡ 0 → ⊥) → On run ≡ onwardOf run
+  pub onward-on : (next : Next) → (run .left ≡ 0 → ⊥) → next ≡ On run → next ≡ onwardOf run
   unfolding onwardOf
-  onward-on h = rw (ne-eqb (run .left) 0 h)
+  onward-on next h q = q ∙ rw (ne-eqb (run .left) 0 h)
 
   module _ (byte : ℕ) where
     pub record-end : (next : Next) → byte ≡ 0x9B → next ≡ endedOf 0x01 run → next ≡ recordOf run byte
     unfolding recordOf
     record-end next h q = q ∙ rw (eq-eqb byte 0x9B h)
 
-    pub record-on : (byte ≡ 0x9B → ⊥) → On run ≡ recordOf run byte
+    pub record-on : (next : Next) → (byte ≡ 0x9B → ⊥) → next ≡ On run → next ≡ recordOf run byte
     unfolding recordOf
-    record-on h = rw (ne-eqb byte 0x9B h)
+    record-on next h q = q ∙ rw (ne-eqb byte 0x9B h)
 
     -- a character got
     module _ (area after : List ℕ) where
-      pub got-characters : (more : Run) (next : Next) → after ≡ set area (run .place) byte → more ≡ furtherOf run → next ≡ onwardOf more → progress next after ≡ gotCharacter Characters run byte area
+      pub got-characters : (more : Run) (c : Carried) → after ≡ set area (run .place) byte → more ≡ furtherOf run → nextOf more c ≡ onwardOf more → progress (nextOf run c) after ≡ gotCharacter Characters run byte area
       unfolding gotCharacter
-      got-characters more next p q r = rw (p, r, q)
+      got-characters more c p q r = let moved : nextOf run c ≡ onwardOf (furtherOf run) = rw q at r in rw (p, moved)
 
       pub drop-end : (next : Next) → run .left ≡ 0 → byte ≡ 0x9B → next ≡ endedOf 0x89 run → progress next area ≡ gotCharacter Record run byte area
       unfolding gotCharacter
       drop-end next h k q = rw (q, eq-eqb (run .left) 0 h, eq-eqb byte 0x9B k)
 
-      pub drop-on : run .left ≡ 0 → (byte ≡ 0x9B → ⊥) → progress (On run) area ≡ gotCharacter Record run byte area
+      pub drop-on : (next : Next) → run .left ≡ 0 → (byte ≡ 0x9B → ⊥) → next ≡ On run → progress next area ≡ gotCharacter Record run byte area
       unfolding gotCharacter
-      drop-on h k = rw (eq-eqb (run .left) 0 h, ne-eqb byte 0x9B k)
+      drop-on next h k q = rw (q, eq-eqb (run .left) 0 h, ne-eqb byte 0x9B k)
 
-      pub got-record : (more : Run) (next : Next) → (run .left ≡ 0 → ⊥) → after ≡ set area (run .place) byte → more ≡ furtherOf run → next ≡ recordOf more byte → progress next after ≡ gotCharacter Record run byte area
+      pub got-record : (more : Run) (c : Carried) → (run .left ≡ 0 → ⊥) → after ≡ set area (run .place) byte → more ≡ furtherOf run → nextOf more c ≡ recordOf more byte → progress (nextOf run c) after ≡ gotCharacter Record run byte area
       unfolding gotCharacter
-      got-record more next h p q r = rw (p, r, q, ne-eqb (run .left) 0 h)
+      got-record more c h p q r = let moved : nextOf run c ≡ recordOf (furtherOf run) byte = rw q at r in rw (p, moved, ne-eqb (run .left) 0 h)
 
       module _ (way : Way) where
         pub character-one : way ≡ One → progress (Off 0x01 (run .count) byte) area ≡ gotCharacter way run byte area
@@ -106,18 +107,18 @@ module _ (run : Run) where
     unfolding sentRecord
     sent-record-end next h q = q ∙ rw (eq-eqb (run .left) 0 h)
 
-    pub sent-record-on : (more : Run) (next : Next) → (run .left ≡ 0 → ⊥) → more ≡ furtherOf run → next ≡ recordOf more byte → next ≡ sentRecord run byte
+    pub sent-record-on : (more : Run) (c : Carried) → (run .left ≡ 0 → ⊥) → more ≡ furtherOf run → nextOf more c ≡ recordOf more byte → nextOf run c ≡ sentRecord run byte
     unfolding sentRecord
-    sent-record-on more next h q r = r ∙ rw (q, ne-eqb (run .left) 0 h)
+    sent-record-on more c h q r = let moved : nextOf run c ≡ recordOf (furtherOf run) byte = rw q at r in moved ∙ rw (ne-eqb (run .left) 0 h)
+
+    pub sent-characters : (way : Way) (more : Run) (c : Carried) → way ≡ Characters → more ≡ furtherOf run → nextOf more c ≡ onwardOf more → nextOf run c ≡ sentNext way run byte
+    unfolding sentNext
+    sent-characters way more c e q r = let moved : nextOf run c ≡ onwardOf (furtherOf run) = rw q at r in moved ∙ rw e
 
     module _ (way : Way) (next : Next) where
       pub sent-one : way ≡ One → next ≡ endedOf 0x01 run → next ≡ sentNext way run byte
       unfolding sentNext
       sent-one e q = q ∙ rw e
-
-      pub sent-characters : (more : Run) → way ≡ Characters → more ≡ furtherOf run → next ≡ onwardOf more → next ≡ sentNext way run byte
-      unfolding sentNext
-      sent-characters more e q r = r ∙ rw (q, e)
 
       pub sent-record : way ≡ Record → next ≡ sentRecord run byte → next ≡ sentNext way run byte
       unfolding sentNext

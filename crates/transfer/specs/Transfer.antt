@@ -13,12 +13,25 @@ use Rattle.handler.specs.declared.Done.the-variants as done
 use Rattle.handler.specs.Answer.{gotStatus, doneStatus}
 use Rattle.blocks.specs.declared.Way.{Way}
 use Rattle.blocks.specs.declared.Way.the-variants.{One, Characters, Record}
+use Rattle.blocks.specs.declared.Device.{Device}
+use Rattle.blocks.specs.declared.Kind.{Kind}
 use Rattle.blocks.specs.declared.Run.{Run}
 use Rattle.blocks.specs.declared.Phase.{Phase}
 use Rattle.blocks.specs.declared.Phase.the-variants.{Running, Replying}
-use Rattle.wire.specs.Replies.{callReply, replyOf, replyInto}
+use Rattle.replies.specs.Replies.{callReply, replyOf, replyInto}
 use Rattle.transfer.specs.declared.Next.{Next}
 use Rattle.transfer.specs.declared.Next.the-variants.{On, Off}
+use Rattle.transfer.specs.declared.Carried.{Carried}
+use Rattle.transfer.specs.declared.Carried.the-variants as carried
+
+-- what one character makes of a run: what is left, where, how many are counted, and A; kind, device and IOCB stay
+abbrev pub nextBy : Kind → Device → (iocb : ℕ) → Carried → Next
+nextBy kind device iocb (carried.On left place count a) =
+    On (record { kind = kind; device = device; iocb = iocb; left = left; place = place; count = count; a = a })
+nextBy kind device iocb (carried.Off status count a) = Off status count a
+
+abbrev pub nextOf : Run → Carried → Next
+nextOf run c = nextBy (run .kind) (run .device) (run .iocb) c
 
 -- the area, and what becomes of the request
 pub record Progress : Type 0 where

@@ -6,7 +6,7 @@ use handler::Done;
 use handler::Got;
 ghost use mathlib.Core.Path.{_≡_};
 ghost use Rattle.transfer.specs.Spans.{Further, Spans};
-ghost use Rattle.transfer.specs.Transfer.{progress, furtherOf, onwardOf, endedOf, recordOf, gotCharacter, gotOf, sentByte, sentRecord, sentNext, sentOf, inPort, outOf, landed};
+ghost use Rattle.transfer.specs.Transfer.{nextOf, progress, furtherOf, onwardOf, endedOf, recordOf, gotCharacter, gotOf, sentByte, sentRecord, sentNext, sentOf, inPort, outOf, landed};
 
 // The request goes on, or ends with status, count and A.
 pub enum Next {
@@ -14,8 +14,15 @@ pub enum Next {
     Off(u8, u16, u8),
 }
 
+// A running request after a character: it goes on with so much left, at this place, with this count and A, or ends with status, count
+// and A. Its kind, device and IOCB stay.
+pub enum Carried {
+    On(u16, u16, u16, u8),
+    Off(u8, u16, u8),
+}
+
 // One character stored into or taken from the area.
-pub fn further(run: Run) -> Run
+fn further(run: Run) -> Run
     requires { ⌜ Further run ⌝ }
     ensures { λ r. ⌜ r ≡ furtherOf run ⌝ }
 {
@@ -26,71 +33,77 @@ pub fn further(run: Run) -> Run
     next
 }
 
-pub fn ended(status: u8, run: Run) -> Next
-    ensures { λ r. ⌜ r ≡ endedOf status run ⌝ }
+fn ended(status: u8, run: Run) -> Carried
+    ensures { λ r. ⌜ nextOf run r ≡ endedOf status run ⌝ }
 {
-    Next::Off(status, run.count, run.a)
+    Carried::Off(status, run.count, run.a)
+}
+
+fn goes_on(run: Run) -> Carried
+    ensures { λ r. ⌜ nextOf run r ≡ Next.On run ⌝ }
+{
+    Carried::On(run.left, run.place, run.count, run.a)
 }
 
 // With no character left the request ends.
-pub fn onward(run: Run) -> Next
-    ensures { λ r. ⌜ r ≡ onwardOf run ⌝ }
+fn onward(run: Run) -> Carried
+    ensures { λ r. ⌜ nextOf run r ≡ onwardOf run ⌝ }
 {
     if run.left == 0 {
         return ended(0x01, run);
     }
-    Next::On(run)
+    goes_on(run)
 }
 
 // A record's character that is stored or taken: the EOL ends it.
-pub fn record_next(run: Run, byte: u8) -> Next
-    ensures { λ r. ⌜ r ≡ recordOf run byte ⌝ }
+fn record_next(run: Run, byte: u8) -> Carried
+    ensures { λ r. ⌜ nextOf run r ≡ recordOf run byte ⌝ }
 {
     if byte == 0x9B {
         return ended(0x01, run);
     }
-    Next::On(run)
+    goes_on(run)
 }
 
 // A character got by GET CHARACTERS.
-fn get_characters(run: Run, byte: u8, half: &mut [u8]) -> Next
+fn get_characters(run: Run, byte: u8, half: &mut [u8]) -> Carried
     requires { ⌜ Further run ⌝ }
-    ensures { λ r. ⌜ progress r (now (half .exit)) ≡ gotCharacter Way.Characters run byte (now (half .entry)) ⌝ }
+    ensures { λ r. ⌜ progress (nextOf run r) (now (half .exit)) ≡ gotCharacter Way.Characters run byte (now (half .entry)) ⌝ }
 {
     base::set_byte(half, run.place as usize, byte);
     onward(further(run))
 }
 
 // A character got by GET RECORD: with none left it is dropped, through the EOL.
-fn get_record(run: Run, byte: u8, half: &mut [u8]) -> Next
+fn get_record(run: Run, byte: u8, half: &mut [u8]) -> Carried
     requires { ⌜ Spans Way.Record run ⌝ }
-    ensures { λ r. ⌜ progress r (now (half .exit)) ≡ gotCharacter Way.Record run byte (now (half .entry)) ⌝ }
+    ensures { λ r. ⌜ progress (nextOf run r) (now (half .exit)) ≡ gotCharacter Way.Record run byte (now (half .entry)) ⌝ }
 {
     if run.left == 0 {
         if byte == 0x9B {
             return ended(0x89, run);
         }
-        return Next::On(run);
+        return goes_on(run);
     }
     base::set_byte(half, run.place as usize, byte);
     record_next(further(run), byte)
 }
 
-fn get_character(way: Way, run: Run, byte: u8, half: &mut [u8]) -> Next
+fn get_character(way: Way, run: Run, byte: u8, half: &mut [u8]) -> Carried
     requires { ⌜ Spans way run ⌝ }
-    ensures { λ r. ⌜ progress r (now (half .exit)) ≡ gotCharacter way run byte (now (half .entry)) ⌝ }
+    ensures { λ r. ⌜ progress (nextOf run r) (now (half .exit)) ≡ gotCharacter way run byte (now (half .entry)) ⌝ }
 {
     match way {
-        Way::One => Next::Off(0x01, run.count, byte),
+        Way::One => Carried::Off(0x01, run.count, byte),
         Way::Characters => get_characters(run, byte, half),
         Way::Record => get_record(run, byte, half),
     }
 }
 
 // What a handler's answer to a GET makes of the request and the area.
-pub fn after_get(way: Way, run: Run, got: Got, half: &mut [u8]) -> Next
+pub fn after_get(way: Way, run: Run, got: Got, half: &mut [u8]) -> Carried
     requires { ⌜ Spans way run ⌝ }
-    ensures { λ r. ⌜ progress r (now (half .exit)) ≡ gotOf way run got (now (half .entry)) ⌝ }
+    ensures { λ r. ⌜ progress (nextOf run r) (now (half .exit)) ≡ gotOf way run got (now (half .entry)) ⌝ }
 {
     match got {
         Got::Character(byte) => get_character(way, run, byte, half),
@@ -115,9 +128,9 @@ pub fn byte_to_send(way: Way, run: Run, half: &[u8]) -> u8
 }
 
 // A record's byte sent: with none left it was the added EOL.
-fn put_record(run: Run, byte: u8) -> Next
+fn put_record(run: Run, byte: u8) -> Carried
     requires { ⌜ Spans Way.Record run ⌝ }
-    ensures { λ r. ⌜ r ≡ sentRecord run byte ⌝ }
+    ensures { λ r. ⌜ nextOf run r ≡ sentRecord run byte ⌝ }
 {
     if run.left == 0 {
         return ended(0x01, run);
@@ -125,9 +138,9 @@ fn put_record(run: Run, byte: u8) -> Next
     record_next(further(run), byte)
 }
 
-fn put_character(way: Way, run: Run, byte: u8) -> Next
+fn put_character(way: Way, run: Run, byte: u8) -> Carried
     requires { ⌜ Spans way run ⌝ }
-    ensures { λ r. ⌜ r ≡ sentNext way run byte ⌝ }
+    ensures { λ r. ⌜ nextOf run r ≡ sentNext way run byte ⌝ }
 {
     match way {
         Way::One => ended(0x01, run),
@@ -137,9 +150,9 @@ fn put_character(way: Way, run: Run, byte: u8) -> Next
 }
 
 // What a handler's answer to a PUT makes of the request.
-pub fn after_put(way: Way, run: Run, byte: u8, done: Done) -> Next
+pub fn after_put(way: Way, run: Run, byte: u8, done: Done) -> Carried
     requires { ⌜ Spans way run ⌝ }
-    ensures { λ r. ⌜ r ≡ sentOf way run byte done ⌝ }
+    ensures { λ r. ⌜ nextOf run r ≡ sentOf way run byte done ⌝ }
 {
     match done {
         Done::Success => put_character(way, run, byte),
@@ -154,7 +167,7 @@ pub fn land(next: Next, room: &mut [u8]) -> Phase
     match next {
         Next::On(run) => Phase::Running(run),
         Next::Off(status, count, a) => {
-            let reply = wire::call_reply(room, status, count, a);
+            let reply = replies::call_reply(room, status, count, a);
             Phase::Replying(reply)
         }
     }

@@ -1,4 +1,4 @@
--- Messages and replies by example (document 01, "Bench cases"), computed from the definitions.
+-- Messages by example (document 01, "Bench cases"), computed from the definitions.
 -- Assumes nothing.
 use mathlib.Core.Path.{_≡_, refl}
 use mathlib.Core.List.{List, [], _∷_, map}
@@ -9,7 +9,6 @@ use Rattle.blocks.specs.declared.Phase.the-variants.{Gathering, Ready, Running,
 use Rattle.wire.specs.declared.Message.{Message}
 use Rattle.wire.specs.declared.Message.the-variants as says
 use Rattle.wire.specs.Messages.{roomLength, goodField, Gathered, afterOf, keptOf, takeOf, loadData, senseOf, badStatus, messageOf}
-use Rattle.wire.specs.Replies.{callReply, statusReply, bytesAt, fetchStatus, fetchReply}
 use Rattle.wire.specs.Spelling.{takes, noneTaken}
 
 -- what a port's bytes say, once they are a whole message
@@ -55,12 +54,3 @@ pub rooms :
     ≡ (0x45 ∷ 0x3A ∷ 0x9B ∷ []) ∷ (0xAA ∷ 0xAA ∷ []) ∷ []
 unfolding takeOf afterOf keptOf goodField
 rooms = refl
-
--- cases 1 and 2; a count of 300; bad messages; FETCH of three bytes, of none, of 257, and past the area
-pub replies :
-    statusReply 0x91 0x01 ∷ callReply 0x01 0 0 ∷ callReply 0x89 300 7 ∷ statusReply 0xFF 0x92
-    ∷ fetchReply (9 ∷ 8 ∷ 7 ∷ 6 ∷ []) 1 3 ∷ fetchReply [] 65535 0 ∷ fetchReply [] 0 257 ∷ fetchReply [] 16383 2 ∷ []
-    ≡ (0x91 ∷ 1 ∷ 0 ∷ 0x01 ∷ []) ∷ (0x90 ∷ 4 ∷ 0 ∷ 0x01 ∷ 0 ∷ 0 ∷ 0 ∷ []) ∷ (0x90 ∷ 4 ∷ 0 ∷ 0x89 ∷ 44 ∷ 1 ∷ 7 ∷ []) ∷ (0xFF ∷ 1 ∷ 0 ∷ 0x92 ∷ [])
-    ∷ (0x92 ∷ 4 ∷ 0 ∷ 0x01 ∷ 8 ∷ 7 ∷ 6 ∷ []) ∷ (0x92 ∷ 1 ∷ 0 ∷ 0x84 ∷ []) ∷ (0x92 ∷ 1 ∷ 0 ∷ 0x84 ∷ []) ∷ (0x92 ∷ 1 ∷ 0 ∷ 0xB0 ∷ []) ∷ []
-unfolding fetchReply fetchStatus bytesAt
-replies = refl

@@ -9,7 +9,6 @@ use Rattle.blocks.specs.declared.Phase.{Phase}
 use Rattle.blocks.specs.declared.Phase.the-variants.{Gathering, Ready, Running, Replying}
 use Rattle.wire.specs.Messages.{Gathered, gatherOf}
 use Rattle.wire.proofs.Laws.{value-is}
-use Rattle.wire.specs.Replies.{Replied}
 use Rattle.wire.proofs.field_is_good.Kinds as field-is-good-kinds
 use Rattle.wire.proofs.field_is_good.Reads as field-is-good-reads
 use Rattle.wire.proofs.goes_on.Kinds as goes-on-kinds
@@ -22,14 +21,6 @@ use Rattle.wire.proofs.message_of.Kinds as message-of-kinds
 use Rattle.wire.proofs.message_of.Reads as message-of-reads
 use Rattle.wire.proofs.give.Kinds as give-kinds
 use Rattle.wire.proofs.give.Reads as give-reads
-use Rattle.wire.proofs.copy_bytes.Kinds as copy-bytes-kinds
-use Rattle.wire.proofs.copy_bytes.Reads as copy-bytes-reads
-use Rattle.wire.proofs.call_reply.Kinds as call-reply-kinds
-use Rattle.wire.proofs.call_reply.Reads as call-reply-reads
-use Rattle.wire.proofs.status_reply.Kinds as status-reply-kinds
-use Rattle.wire.proofs.status_reply.Reads as status-reply-reads
-use Rattle.wire.proofs.fetch_reply.Kinds as fetch-reply-kinds
-use Rattle.wire.proofs.fetch_reply.Reads as fetch-reply-reads
 use Rattle.wire.proofs.gather_fits.Kinds as gather-fits-kinds
 use Rattle.wire.proofs.gather_fits.Reads as gather-fits-reads
 use Rattle.wire.proofs.reply_fits.Kinds as reply-fits-kinds
@@ -78,30 +69,6 @@ give-decides κs a z z′ ws ws′ p e e′ = (e ∙ sym e′, refl)
 
 pub give-allows : Allows 1 give-kinds.ps give-kinds.r give-reads.Pre give-reads.Learnt
 give-allows κs a p = (_, (_, refl))
-
-pub copy-bytes-decides : Decides 2 copy-bytes-kinds.ps copy-bytes-kinds.r copy-bytes-reads.Pre copy-bytes-reads.Learnt
-copy-bytes-decides κs a z z′ ws ws′ p e e′ = (refl, ap (λ (l : List ℕ). (l, (tt, (tt, (tt, (tt, tt)))))) (e ∙ sym e′))
-
-pub copy-bytes-allows : Allows 2 copy-bytes-kinds.ps copy-bytes-kinds.r copy-bytes-reads.Pre copy-bytes-reads.Learnt
-copy-bytes-allows κs a p = (_, (_, refl))
-
-pub call-reply-decides : Decides 1 call-reply-kinds.ps call-reply-kinds.r call-reply-reads.Pre call-reply-reads.Learnt
-call-reply-decides κs a z z′ ws ws′ p e e′ = (ap (λ (o : Replied). o .reply) (e ∙ sym e′), ap (λ (o : Replied). (o .room, (tt, (tt, (tt, tt))))) (e ∙ sym e′))
-
-pub call-reply-allows : Allows 1 call-reply-kinds.ps call-reply-kinds.r call-reply-reads.Pre call-reply-reads.Learnt
-call-reply-allows κs a p = (_, (_, refl))
-
-pub status-reply-decides : Decides 1 status-reply-kinds.ps status-reply-kinds.r status-reply-reads.Pre status-reply-reads.Learnt
-status-reply-decides κs a z z′ ws ws′ p e e′ = (ap (λ (o : Replied). o .reply) (e ∙ sym e′), ap (λ (o : Replied). (o .room, (tt, (tt, tt)))) (e ∙ sym e′))
-
-pub status-reply-allows : Allows 1 status-reply-kinds.ps status-reply-kinds.r status-reply-reads.Pre status-reply-reads.Learnt
-status-reply-allows κs a p = (_, (_, refl))
-
-pub fetch-reply-decides : Decides 2 fetch-reply-kinds.ps fetch-reply-kinds.r fetch-reply-reads.Pre fetch-reply-reads.Learnt
-fetch-reply-decides κs a z z′ ws ws′ p e e′ = (ap (λ (o : Replied). o .reply) (e ∙ sym e′), ap (λ (o : Replied). (o .room, (tt, (tt, (tt, tt))))) (e ∙ sym e′))
-
-pub fetch-reply-allows : Allows 2 fetch-reply-kinds.ps fetch-reply-kinds.r fetch-reply-reads.Pre fetch-reply-reads.Learnt
-fetch-reply-allows κs a p = (_, (_, refl))
 
 pub gather-fits-decides : Decides 0 gather-fits-kinds.ps gather-fits-kinds.r gather-fits-reads.Pre gather-fits-reads.Learnt
 gather-fits-decides κs a z z′ ws ws′ p e e′ = (e ∙ sym e′, refl)

@@ -16,9 +16,9 @@ use Rattle.blocks.specs.declared.Reply.{Reply}
 use Rattle.blocks.specs.declared.Phase.{Phase}
 use Rattle.blocks.specs.declared.Phase.the-variants.{Gathering, Replying}
 use Rattle.blocks.specs.Blocks.{freshGather}
-use Rattle.wire.specs.Replies.{bytesAt, replyInto, replyOf, giveOf}
-use Rattle.wire.specs.Spelling.{Gave, gave, first, gives}
-use Rattle.wire.proofs.Keeps.{reply-length, reply-first, bytes-part}
+use Rattle.replies.specs.Replies.{bytesAt, replyInto, replyOf}
+use Rattle.replies.proofs.Keeps.{reply-length, reply-first, bytes-part}
+use Rattle.wire.specs.Giving.{Gave, gave, first, gives, giveOf}
 
 abbrev pub place : ℕ → ℕ → Reply
 place size given = record { length = size; given = given }

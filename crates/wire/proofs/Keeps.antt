@@ -1,4 +1,4 @@
--- What callers cite: what a byte taken and a byte given keep, and what of a reply stands in the room.
+-- What callers cite: what a byte taken and a byte given keep, and that each reply made fits.
 -- Assumes nothing.
 use mathlib.Core.Path.{_≡_, _∙_, refl, sym, ap}
 use mathlib.Core.Bool.{true}
@@ -16,10 +16,12 @@ use Rattle.blocks.specs.declared.Reply.{Reply}
 use Rattle.blocks.specs.declared.Phase.{Phase}
 use Rattle.blocks.specs.declared.Phase.the-variants.{Gathering, Ready, Running, Replying}
 use Rattle.blocks.specs.Blocks.{freshGather}
+use Rattle.replies.specs.Replies.{callReply, statusReply, bytesAt, fetchStatus, fetchReply, replyOf}
+use Rattle.replies.proofs.Stores.{bytes-length}
+use Rattle.replies.proofs.Keeps.{fetch-granted}
 use Rattle.wire.specs.Messages.{wordOf, goodField, gatherOf, headerOf, Gathered, afterOf, keptOf, takeOf}
-use Rattle.wire.specs.Replies.{callReply, statusReply, bytesAt, fetchStatus, fetchReply, replyInto, replyOf, giveOf}
+use Rattle.wire.specs.Giving.{giveOf}
 use Rattle.wire.specs.Fits.{gatherFits, replyFits}
-use Rattle.wire.proofs.Stores.{bytes-length}
 
 -- gathering: a byte leaves a fitting gathering, or a ready message
 pub fresh-fits : gatherFits freshGather ≡ true
@@ -101,28 +103,6 @@ long-fits : (n : ℕ) → 4 ≤ n → n ≤ 260 → replyFits (record { length =
 unfolding replyFits
 long-fits n l h = rw (le-leb 4 n l, le-leb n 260 h, lt-ltb 0 n (omega arith))
 
--- what a FETCH that is answered $01 asks
-pub record Granted (address count : ℕ) : Type 0 where
-  pub some : 1 ≤ count
-  pub few : count ≤ 256
-  pub inside : address + count ≤ 16384
-
-pub fetch-granted : (address count : ℕ) → fetchStatus address count ≡ 0x01 → Granted address count
-unfolding fetchStatus
-fetch-granted address count =
-    pick-go Grants (within 1 256 count) (pick (leb (address + count) 16384) 0x01 0xB0) 0x84
-    (λ t. pick-le Grants (address + count) 16384 0x01 0xB0
-    (λ h e. record {
-      some = leb-true 1 count (and-left (leb 1 count) (leb count 256) t);
-      few = leb-true count 256 (and-right (leb 1 count) (leb count 256) t);
-      inside = h;
-    })
-    (λ h e. absurd (omega arith)))
-    (λ t e. absurd (omega arith))
-  where
-    Grants : ℕ → Type 0
-    Grants status = status ≡ 0x01 → Granted address count
-
 pub fetch-reply-fits : (half : List ℕ) (address count : ℕ) → replyFits (replyOf (fetchReply half address count)) ≡ true
 unfolding fetchReply
 fetch-reply-fits half address count =
@@ -131,22 +111,3 @@ fetch-reply-fits half address count =
     pick-eq (λ (l : List ℕ). length l ≤ 256) (fetchStatus address count) 0x01 (bytesAt half address count) []
     (λ e. rw bytes-length (fetch-granted address count e .few)) (λ e. omega arith) in
     long-fits (suc (suc (suc (suc (length bytes))))) (omega arith) (omega arith)
-
--- the reply's bytes are the room's first, and the room keeps its length
-module _ (room bytes : List ℕ) where
-  pub reply-length : length (replyInto room bytes) ≡ length room
-  reply-length = length-sets room 0 bytes
-
-  module _ (h : length bytes ≤ length room) where
-    pub reply-first : take (length bytes) (replyInto room bytes) ≡ bytes
-    reply-first = rw (sets-eq bytes room 0 (omega arith)) (take-append-seam bytes (drop (0 + length bytes) room))
-
-    pub reply-byte : (i : ℕ) → i < length bytes → getD (replyInto room bytes) i 0 ≡ getD bytes i 0
-    reply-byte i l = sym (getD-take (length bytes) (replyInto room bytes) i 0 l) ∙ ap (λ (r : List ℕ). getD r i 0) reply-first
-
--- within a buffer the bytes from a place on are its part there
-pub bytes-part : (from : List ℕ) (place count : ℕ) → place + count ≤ length from → bytesAt from place count ≡ take count (drop place from)
-unfolding bytesAt
-bytes-part from place zero h = refl
-bytes-part from place (suc count) h =
-    rw (drop-cons from place 0 (omega arith)) (ap (λ (l : List ℕ). getD from place 0 ∷ l) (bytes-part from (suc place) count (omega arith)))

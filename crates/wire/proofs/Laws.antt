@@ -1,4 +1,4 @@
--- What each way through gathering and reading a message gives, as a law of the definition that its contract cites.
+-- What each way through gathering and reading a message and giving a reply gives, as a law of the definition that its contract cites.
 -- Assumes nothing.
 use mathlib.Core.Path.{_≡_, _∙_}
 use mathlib.Core.Bool.{Bool, true, false}
@@ -12,11 +12,14 @@ use Rattle.base.specs.Choice.{within}
 use Rattle.base.proofs.Choices.{and-left, and-right}
 use Rattle.blocks.specs.declared.Gather.{Gather}
 use Rattle.blocks.specs.declared.Phase.{Phase}
-use Rattle.blocks.specs.declared.Phase.the-variants.{Gathering}
+use Rattle.blocks.specs.declared.Reply.{Reply}
+use Rattle.blocks.specs.declared.Phase.the-variants.{Gathering, Replying}
+use Rattle.blocks.specs.Blocks.{freshGather}
 use Rattle.blocks.specs.declared.Header.{Header}
 use Rattle.wire.specs.declared.Call.{Call}
 use Rattle.wire.specs.declared.Message.the-variants as says
 use Rattle.wire.specs.Messages.{wordOf, goodField, gatherOf, gathered, afterOf, keptOf, takeOf, goesOn, wordAt, callOf, senseOf, badStatus, messageOf}
+use Rattle.wire.specs.Giving.{giveOf}
 
 module _ (tag length : ℕ) (room : List ℕ) (place byte : ℕ) (good : Bool) (e : good ≡ goodField tag length) where
   pub keep-good : (next : List ℕ) → next ≡ set room place byte → good ≡ true → next ≡ keptOf tag length room place byte
@@ -108,3 +111,13 @@ module _ (header : Header) (room : List ℕ) (good : Bool) (e : good ≡ goodFie
       pub says-fetch : (address count : ℕ) → (header .tag ≡ 0x11 → ⊥) → address ≡ wordAt room 0 → count ≡ wordAt room 2 → says.Fetch address count ≡ messageOf header room
       unfolding messageOf senseOf
       says-fetch address count l f g = rw (f, g, ← e, t, ne-eqb (header .tag) 0x10 c, ne-eqb (header .tag) 0x11 l)
+
+-- a reply's byte, the last and another
+module _ (reply : Reply) (room : List ℕ) (byte : ℕ) (e : byte ≡ getD room (reply .given) 0) where
+  pub give-last : (gather : Gather) → gather ≡ freshGather → reply .length ≤ reply .given + 1 → record { byte = byte; phase = Gathering gather } ≡ giveOf reply room
+  unfolding giveOf
+  give-last gather f h = rw (e, f, le-leb (reply .length) (reply .given + 1) h)
+
+  pub give-more : reply .given + 1 < reply .length → record { byte = byte; phase = Replying (record { length = reply .length; given = reply .given + 1 }) } ≡ giveOf reply room
+  unfolding giveOf
+  give-more h = rw (e, lt-leb (reply .length) (reply .given + 1) h)

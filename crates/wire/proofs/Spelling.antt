@@ -15,11 +15,11 @@ use Rattle.base.specs.Choice.{pick, within}
 use Rattle.base.proofs.Choices.{pick-go, pick-eq, and-left, and-right}
 use Rattle.blocks.specs.declared.Phase.{Phase}
 use Rattle.blocks.specs.declared.Phase.the-variants.{Gathering, Ready}
+use Rattle.replies.specs.Replies.{replyInto}
+use Rattle.replies.proofs.Keeps.{reply-first, reply-byte}
 use Rattle.wire.specs.declared.Message.the-variants as says
 use Rattle.wire.specs.Messages.{roomLength, wordOf, goodField, gatherOf, headerOf, Gathered, gathered, afterOf, keptOf, takeOf, wordAt, callOf, loadData, senseOf, messageOf}
-use Rattle.wire.specs.Replies.{replyInto}
 use Rattle.wire.specs.Spelling.{offered, takes, noneTaken, valued}
-use Rattle.wire.proofs.Keeps.{reply-first, reply-byte}
 
 -- the phase with n bytes of the value taken
 whole : (tag length n : ℕ) → length ≤ n → afterOf tag length (3 + n) ≡ Ready (headerOf tag length)

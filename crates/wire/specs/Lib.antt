@@ -1,4 +1,4 @@
 pub mod Messages
-pub mod Replies
+pub mod Giving
 pub mod Fits
 pub mod Spelling

@@ -1,14 +1,13 @@
--- A port's bytes one after the other: what it has gathered after a list of them, and what a reply gives.
+-- A port's bytes one after the other: what it has gathered after a list of them.
 -- Assumes nothing.
 use mathlib.Core.List.{List, [], _∷_}
-use Prim.Native.Nat.{ℕ, zero, suc}
+use Prim.Native.Nat.{ℕ}
 use lib.Seq.{sets}
 use Rattle.base.specs.Choice.{pick}
 use Rattle.blocks.specs.declared.Phase.{Phase}
 use Rattle.blocks.specs.declared.Phase.the-variants.{Gathering, Ready, Running, Replying}
 use Rattle.blocks.specs.Blocks.{freshGather}
 use Rattle.wire.specs.Messages.{goodField, Gathered, gathered, takeOf}
-use Rattle.wire.specs.Replies.{giveOf}
 
 -- a byte offered: "4, byte offered while not gathering" changes nothing
 abbrev pub offered : Phase → List ℕ → ℕ → Gathered
@@ -28,21 +27,3 @@ noneTaken room = gathered (Gathering freshGather) room
 -- the room with a good field's value from this place on; a bad field's is dropped
 unfoldable pub valued : ℕ → ℕ → List ℕ → ℕ → List ℕ → List ℕ
 valued tag length room place value = pick (goodField tag length) (sets room place value) room
-
--- the bytes of so many gives, and the phase after them: "5, no reply byte to give" changes nothing
-pub record Gave : Type 0 where
-  pub bytes : List ℕ
-  pub phase : Phase
-
-abbrev pub gave : List ℕ → Phase → Gave
-gave bytes phase = record { bytes = bytes; phase = phase }
-
-abbrev pub first : ℕ → Gave → Gave
-first byte g = gave (byte ∷ g .bytes) (g .phase)
-
-abbrev pub gives : ℕ → Phase → List ℕ → Gave
-gives zero phase room = gave [] phase
-gives (suc n) (Gathering gather) room = gave [] (Gathering gather)
-gives (suc n) (Ready header) room = gave [] (Ready header)
-gives (suc n) (Running run) room = gave [] (Running run)
-gives (suc n) (Replying reply) room = first (giveOf reply room .byte) (gives n (giveOf reply room .phase) room)

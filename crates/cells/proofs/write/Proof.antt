@@ -1,18 +1,15 @@
--- `write` meets its contract, by `shape-colours` and `write-law`.
+-- `write` meets its contract, by `write-law`.
 -- Assumes nothing.
-use Rattle.cells.proofs.Shapes.{shape-colours, write-law}
+use Rattle.cells.proofs.Shapes.{write-law}
 use borrow.Author.Needs.{needs}
 use Rattle.cells.proofs.write.Statement.{statement}
 use Rattle.cells.proofs.write.Tie as tie
-
-shape-of-requires : tie.Need-shape-of-requires
-shape-of-requires c κs = search needs
 
 place-requires : tie.Need-place-requires
 place-requires c κs = search needs
 
 colour-requires : tie.Need-colour-requires
-colour-requires c κs = search shape-colours
+colour-requires c κs = search needs
 
 set-byte-requires : tie.Need-set-byte-requires
 set-byte-requires c κs = search needs
@@ -25,11 +22,4 @@ returns c = search write-law
 
 pub write-spec : {M : Type 1} → statement M
 write-spec =
-    tie.close
-    (tie.spec
-    shape-of-requires
-    place-requires
-    colour-requires
-    set-byte-requires
-    same-length
-    returns)
+    tie.close (tie.spec place-requires colour-requires set-byte-requires same-length returns)

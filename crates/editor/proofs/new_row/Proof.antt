@@ -1,6 +1,6 @@
 -- `new_row` meets its contract, by `new-row-last` and `new-row-next`.
 -- Assumes nothing.
-use Rattle.editor.proofs.Puts.{new-row-last, new-row-next}
+use Rattle.editor.proofs.Rows.{new-row-last, new-row-next}
 use borrow.Author.Needs.{needs}
 use Rattle.editor.proofs.new_row.Statement.{statement}
 use Rattle.editor.proofs.new_row.Tie as tie

@@ -1,6 +1,6 @@
 -- `open` meets its contract, by `open-law`.
 -- Assumes nothing.
-use Rattle.editor.proofs.Puts.{open-law}
+use Rattle.editor.proofs.Rows.{open-law}
 use borrow.Author.Needs.{needs}
 use Rattle.editor.proofs.open.Statement.{statement}
 use Rattle.editor.proofs.open.Tie as tie

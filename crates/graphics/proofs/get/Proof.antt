@@ -1,5 +1,6 @@
--- `get` meets its contract, by `get-cell` and `get-past`.
+-- `get` meets its contract, by `shape-colours`, `get-cell` and `get-past`.
 -- Assumes nothing.
+use Rattle.cells.proofs.Shapes.{shape-colours}
 use Rattle.graphics.proofs.Acts.{get-cell, get-past}
 use borrow.Author.Needs.{needs}
 use Rattle.graphics.proofs.get.Statement.{statement}
@@ -9,7 +10,7 @@ shape-of-requires : tie.Need-shape-of-requires
 shape-of-requires c κs = search needs
 
 read-requires : tie.Need-read-requires
-read-requires c κs = search needs
+read-requires c κs = search shape-colours
 
 move-on-requires : tie.Need-move-on-requires
 move-on-requires c κs = search needs

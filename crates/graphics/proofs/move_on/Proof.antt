@@ -11,9 +11,6 @@ cast-right c = search needs
 add-right : tie.Need-add-right
 add-right c = search needs
 
-shape-of-requires : tie.Need-shape-of-requires
-shape-of-requires c κs = search needs
-
 cast-if1 : tie.Need-cast-if1
 cast-if1 c = search needs
 
@@ -41,7 +38,6 @@ move-on-spec =
     (tie.spec
     cast-right
     add-right
-    shape-of-requires
     cast-if1
     cast-place
     place-requires

@@ -1,6 +1,6 @@
--- `put` meets its contract, by `put-clear`, `put-past`, `put-row` and `put-data`.
+-- `put` meets its contract, by `drawn`, `put-clear`, `put-past`, `put-row` and `put-data`.
 -- Assumes nothing.
-use Rattle.graphics.proofs.Acts.{put-clear, put-past, put-row, put-data}
+use Rattle.graphics.proofs.Acts.{drawn, put-clear, put-past, put-row, put-data}
 use borrow.Author.Needs.{needs}
 use Rattle.graphics.proofs.put.Statement.{statement}
 use Rattle.graphics.proofs.put.Tie as tie
@@ -30,7 +30,7 @@ returns-3 : tie.Need-returns-3
 returns-3 c = search put-row
 
 data-byte-requires : tie.Need-data-byte-requires
-data-byte-requires c κs = search needs
+data-byte-requires c κs = search drawn
 
 same-length-2 : tie.Need-same-length-2
 same-length-2 c = search needs

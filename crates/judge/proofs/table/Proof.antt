@@ -1,24 +1,56 @@
--- `table` meets its contract, by `calls`.
+-- `table` meets its contract, by `table-yes`, `table-no` and `table-last`.
 -- Assumes nothing.
-use Rattle.judge.proofs.Calls.{calls}
+use mathlib.Core.Path.{_≡_, refl}
+use Prim.Native.Nat.{_+_, _*_}
+use Rattle.layout.specs.Places.{blockLength, portLength}
 use Rattle.damage.specs.Whole.{tableWhole}
+use Rattle.judge.proofs.Calls.{TableFrom, table-yes, table-no, table-last}
 use borrow.Author.Needs.{needs}
 use Rattle.judge.proofs.table.Statement.{statement}
 use Rattle.judge.proofs.table.Tie as tie
 
-four-blocks-requires : tie.Need-four-blocks-requires
-four-blocks-requires c κs = search needs
+abbrev Inv-loop : tie.InvT-loop
+Inv-loop bytes place₀ left₀ place left = (place + 2 * blockLength * left ≡ portLength) × TableFrom bytes place left
 
-four-blocks-requires-2 : tie.Need-four-blocks-requires-2
-four-blocks-requires-2 c κs = search needs
+abbrev μ-loop : tie.MeasureT-loop
+μ-loop bytes place₀ left₀ place left = left
 
-returns : tie.Need-returns
+loop-holds : tie.Need-loop-holds Inv-loop μ-loop
 unfolding tableWhole
-returns c = search calls
+loop-holds c = (search needs, refl)
 
-returns-2 : tie.Need-returns-2
-unfolding tableWhole
-returns-2 c = search calls
+two-requires : tie.Need-two-requires Inv-loop μ-loop
+two-requires c κs = search needs
+
+add-place : tie.Need-add-place Inv-loop μ-loop
+add-place c = search needs
+
+sub-left : tie.Need-sub-left Inv-loop μ-loop
+sub-left c = search needs
+
+loop-less : tie.Need-loop-less Inv-loop μ-loop
+loop-less c = search needs
+
+loop-again : tie.Need-loop-again Inv-loop μ-loop
+loop-again c = (search needs, search table-yes)
+
+returns : tie.Need-returns Inv-loop μ-loop
+returns c = search table-no
+
+returns-2 : tie.Need-returns-2 Inv-loop μ-loop
+returns-2 c = search table-last
 
 pub table-spec : {M : Type 1} → statement M
-table-spec = tie.close (tie.spec four-blocks-requires four-blocks-requires-2 returns returns-2)
+table-spec =
+    tie.close
+    (tie.spec
+    Inv-loop
+    μ-loop
+    loop-holds
+    two-requires
+    add-place
+    sub-left
+    loop-less
+    loop-again
+    returns
+    returns-2)

@@ -14,9 +14,6 @@ enum-told-2 c = search needs
 enum-told-3 : tie.Need-enum-told-3
 enum-told-3 c = search needs
 
-specification-at-requires : tie.Need-specification-at-requires
-specification-at-requires c κs = search needs
-
 open-plan-requires : tie.Need-open-plan-requires
 open-plan-requires c κs = search needs
 
@@ -41,9 +38,6 @@ enum-told-6 c = search needs
 enum-told-7 : tie.Need-enum-told-7
 enum-told-7 c = search needs
 
-specification-at-requires-2 : tie.Need-specification-at-requires-2
-specification-at-requires-2 c κs = search needs
-
 open-plan-requires-2 : tie.Need-open-plan-requires-2
 open-plan-requires-2 c κs = search needs
 
@@ -58,9 +52,6 @@ enum-told-8 c = search needs
 
 enum-told-9 : tie.Need-enum-told-9
 enum-told-9 c = search needs
-
-specification-at-requires-3 : tie.Need-specification-at-requires-3
-specification-at-requires-3 c κs = search needs
 
 open-plan-requires-3 : tie.Need-open-plan-requires-3
 open-plan-requires-3 c κs = search needs
@@ -123,7 +114,6 @@ block-plan-spec =
     enum-told
     enum-told-2
     enum-told-3
-    specification-at-requires
     open-plan-requires
     enum-known-state
     enum-told-4
@@ -132,13 +122,11 @@ block-plan-spec =
     planned-requires
     enum-told-6
     enum-told-7
-    specification-at-requires-2
     open-plan-requires-2
     enum-known-state-3
     planned-requires-2
     enum-told-8
     enum-told-9
-    specification-at-requires-3
     open-plan-requires-3
     enum-known-state-4
     planned-requires-3

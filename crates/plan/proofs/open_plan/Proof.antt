@@ -5,6 +5,9 @@ use borrow.Author.Needs.{needs}
 use Rattle.plan.proofs.open_plan.Statement.{statement}
 use Rattle.plan.proofs.open_plan.Tie as tie
 
+specification-at-requires : tie.Need-specification-at-requires
+specification-at-requires c κs = search needs
+
 enum-known-specification : tie.Need-enum-known-specification
 enum-known-specification c = search needs
 
@@ -27,6 +30,7 @@ pub open-plan-spec : {M : Type 1} → statement M
 open-plan-spec =
     tie.close
     (tie.spec
+    specification-at-requires
     enum-known-specification
     enum-known-specification-2
     name-at-requires

@@ -32,8 +32,8 @@ part-advance-end-2 c = search needs
 advance-requires : tie.Need-advance-requires
 advance-requires c κs = search needs
 
-land-at-requires : tie.Need-land-at-requires
-land-at-requires c κs = search needs
+carry-at-requires : tie.Need-carry-at-requires
+carry-at-requires c κs = search needs
 
 same-length : tie.Need-same-length
 same-length c = search needs
@@ -63,7 +63,7 @@ advance-at-spec =
     part-advance-start-2
     part-advance-end-2
     advance-requires
-    land-at-requires
+    carry-at-requires
     same-length
     same-length-2
     same-length-3

@@ -1,43 +1,51 @@
--- `land_at` meets its contract, by `land-goes` and `land-ends`.
+-- `land_at` meets its contract, by `land-law`.
 -- Assumes nothing.
-use Rattle.calls.proofs.Stores.{land-goes, land-ends}
+use Rattle.calls.proofs.Stores.{land-law}
 use borrow.Author.Needs.{needs}
 use Rattle.ticks.proofs.land_at.Statement.{statement}
 use Rattle.ticks.proofs.land_at.Tie as tie
 
-enum-known-next : tie.Need-enum-known-next
-enum-known-next c = search needs
+mul-room : tie.Need-mul-room
+mul-room c = search needs
 
-set-run-requires : tie.Need-set-run-requires
-set-run-requires c κs = search needs
+add-room : tie.Need-add-room
+add-room c = search needs
 
-enum-known-next-2 : tie.Need-enum-known-next-2
-enum-known-next-2 c = search needs
+add-past : tie.Need-add-past
+add-past c = search needs
 
-end-at-requires : tie.Need-end-at-requires
-end-at-requires c κs = search needs
+sub-land : tie.Need-sub-land
+sub-land c = search needs
+
+part-land-start : tie.Need-part-land-start
+part-land-start c = search needs
+
+part-land-end : tie.Need-part-land-end
+part-land-end c = search needs
+
+land-requires : tie.Need-land-requires
+land-requires c κs = search needs
+
+set-phase-requires : tie.Need-set-phase-requires
+set-phase-requires c κs = search needs
 
 same-length : tie.Need-same-length
 same-length c = search needs
 
 returns : tie.Need-returns
-returns c = search land-goes
-
-same-length-2 : tie.Need-same-length-2
-same-length-2 c = search needs
-
-returns-2 : tie.Need-returns-2
-returns-2 c = search land-ends
+returns c = search land-law
 
 pub land-at-spec : {M : Type 1} → statement M
 land-at-spec =
     tie.close
     (tie.spec
-    enum-known-next
-    set-run-requires
-    enum-known-next-2
-    end-at-requires
+    mul-room
+    add-room
+    add-past
+    sub-land
+    part-land-start
+    part-land-end
+    land-requires
+    set-phase-requires
     same-length
-    returns
-    same-length-2
-    returns-2)
+    returns)

@@ -11,6 +11,9 @@ ended-requires c κs = search needs
 returns : tie.Need-returns
 returns c = search drop-end
 
+goes-on-requires : tie.Need-goes-on-requires
+goes-on-requires c κs = search needs
+
 returns-2 : tie.Need-returns-2
 returns-2 c = search drop-on
 
@@ -38,6 +41,7 @@ get-record-spec =
     (tie.spec
     ended-requires
     returns
+    goes-on-requires
     returns-2
     cast-set-byte
     set-byte-requires

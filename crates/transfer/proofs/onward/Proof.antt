@@ -11,8 +11,11 @@ ended-requires c κs = search needs
 returns : tie.Need-returns
 returns c = search onward-end
 
+goes-on-requires : tie.Need-goes-on-requires
+goes-on-requires c κs = search needs
+
 returns-2 : tie.Need-returns-2
 returns-2 c = search onward-on
 
 pub onward-spec : {M : Type 1} → statement M
-onward-spec = tie.close (tie.spec ended-requires returns returns-2)
+onward-spec = tie.close (tie.spec ended-requires returns goes-on-requires returns-2)

@@ -1,6 +1,6 @@
 -- `give` meets its contract, by `give-last` and `give-more`.
 -- Assumes nothing.
-use Rattle.wire.proofs.Stores.{give-last, give-more}
+use Rattle.wire.proofs.Laws.{give-last, give-more}
 use borrow.Author.Needs.{needs}
 use Rattle.wire.proofs.give.Statement.{statement}
 use Rattle.wire.proofs.give.Tie as tie

@@ -14,9 +14,6 @@ open-requires c κs = search needs
 with-editor-requires : tie.Need-with-editor-requires
 with-editor-requires c κs = search needs
 
-with-mode-requires : tie.Need-with-mode-requires
-with-mode-requires c κs = search needs
-
 same-length : tie.Need-same-length
 same-length c = search needs
 
@@ -30,6 +27,5 @@ open-editor-spec =
     editor-requires
     open-requires
     with-editor-requires
-    with-mode-requires
     same-length
     returns)

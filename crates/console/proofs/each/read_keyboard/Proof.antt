@@ -8,11 +8,8 @@ use Rattle.console.proofs.each.read_keyboard.Tie as tie
 get-requires : tie.Need-get-requires
 get-requires c κs = search needs
 
-with-keyboard-requires : tie.Need-with-keyboard-requires
-with-keyboard-requires c κs = search needs
-
 returns : tie.Need-returns
 returns c = search read-K
 
 pub read-keyboard-spec : {M : Type 1} → statement M
-read-keyboard-spec = tie.close (tie.spec get-requires with-keyboard-requires returns)
+read-keyboard-spec = tie.close (tie.spec get-requires returns)

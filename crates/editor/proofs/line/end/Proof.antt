@@ -26,14 +26,14 @@ loop-holds c = (search needs, refl)
 sub-m : tie.Need-sub-m Inv-loop μ-loop
 sub-m c = search needs
 
-cast-byte-at : tie.Need-cast-byte-at Inv-loop μ-loop
-cast-byte-at c = search needs
-
 add-byte-at : tie.Need-add-byte-at Inv-loop μ-loop
 add-byte-at c = search needs
 
 byte-at-requires : tie.Need-byte-at-requires Inv-loop μ-loop
 byte-at-requires c κs = search needs
+
+cast-result : tie.Need-cast-result Inv-loop μ-loop
+cast-result c = search needs
 
 add-result : tie.Need-add-result Inv-loop μ-loop
 add-result c = search needs
@@ -60,9 +60,9 @@ end-spec =
     add-first
     loop-holds
     sub-m
-    cast-byte-at
     add-byte-at
     byte-at-requires
+    cast-result
     add-result
     returns
     loop-less

@@ -1,6 +1,6 @@
--- `entry` meets its contract, by `none-there`, `own-past`, `own-below`, `own-above`, `letter-none` and `letter-there`.
+-- `entry` meets its contract, by `none-there`, `own-past`, `own-below`, `own-above`, `letter-plain`, `letter-shift`, `letter-control` and `letter-none`.
 -- Assumes nothing.
-use Rattle.keys.proofs.Laws.{none-there, own-past, own-below, own-above, letter-none, letter-there}
+use Rattle.keys.proofs.Laws.{none-there, own-past, own-below, own-above, letter-plain, letter-shift, letter-control, letter-none}
 use borrow.Author.Needs.{needs}
 use Rattle.keys.specs.Table.{keys}
 use Rattle.keys.proofs.table.entry.Statement.{statement}
@@ -25,22 +25,27 @@ returns-4 : tie.Need-returns-4
 unfolding keys
 returns-4 c = search own-above
 
-mul-other : tie.Need-mul-other
-mul-other c = search needs
-
-add-other : tie.Need-add-other
-add-other c = search needs
-
 returns-5 : tie.Need-returns-5
 unfolding keys
-returns-5 c = search letter-none
+returns-5 c = search letter-plain
 
-array-read-result : tie.Need-array-read-result
-array-read-result c = search needs
+sub-result : tie.Need-sub-result
+sub-result c = search needs
 
 returns-6 : tie.Need-returns-6
 unfolding keys
-returns-6 c = search letter-there
+returns-6 c = search letter-shift
+
+sub-result-2 : tie.Need-sub-result-2
+sub-result-2 c = search needs
+
+returns-7 : tie.Need-returns-7
+unfolding keys
+returns-7 c = search letter-control
+
+returns-8 : tie.Need-returns-8
+unfolding keys
+returns-8 c = search letter-none
 
 pub entry-spec : {M : Type 1} → statement M
 entry-spec =
@@ -51,8 +56,9 @@ entry-spec =
     returns-2
     returns-3
     returns-4
-    mul-other
-    add-other
     returns-5
-    array-read-result
-    returns-6)
+    sub-result
+    returns-6
+    sub-result-2
+    returns-7
+    returns-8)

@@ -8,11 +8,8 @@ use Rattle.console.proofs.state.Console.press.Tie as tie
 press-requires : tie.Need-press-requires
 press-requires c κs = search needs
 
-with-keyboard-requires : tie.Need-with-keyboard-requires
-with-keyboard-requires c κs = search needs
-
 returns : tie.Need-returns
 returns c = search press-law
 
 pub press-spec : {M : Type 1} → statement M
-press-spec = tie.close (tie.spec press-requires with-keyboard-requires returns)
+press-spec = tie.close (tie.spec press-requires returns)

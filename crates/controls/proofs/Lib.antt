@@ -1,0 +1,4 @@
+pub mod Acts
+pub mod Puts
+pub mod Keeps
+pub mod Decided

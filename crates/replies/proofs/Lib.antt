@@ -1,0 +1,5 @@
+pub mod Stores
+pub mod Keeps
+pub mod Copies
+pub mod Cases
+pub mod Decided
