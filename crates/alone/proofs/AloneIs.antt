@@ -36,8 +36,8 @@ use Rattle.plan.specs.declared.Plan.the-variants as plan
 use Rattle.plan.specs.declared.Work.{Work}
 use Rattle.plan.specs.declared.Work.the-variants as work
 use Rattle.plan.specs.Plan.{callPlan, planOf, planIn}
+use Rattle.moves.specs.Move.{went, Went}
 use Rattle.cio.specs.Start.{overOut, loadedOf, loadOf, errandOf, begun, over, runOf, openingOf, preparedOut, transferOf, workOf, blockAfter, openedOf}
-use Rattle.cio.specs.Move.{went, Went}
 use Rattle.alone.specs.Transfer.{Point, onDone, transferred}
 use Rattle.alone.specs.Alone.{saidOf, Local, answered, replying, aloneOpening, aloneTransfer, aloneWork, aloneJob, loaded, aloneErrand, alonePlan, aloneOf, withOwnBlock}
 use Rattle.alone.specs.Moves.{moves, Lines, Starts, Comes, Finishes, Ends, JobEnds, IsAlone, mostMoves}

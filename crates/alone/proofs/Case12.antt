@@ -37,7 +37,7 @@ use Rattle.devices.specs.Groups.{ownActs}
 use Rattle.plan.specs.declared.Job.{Job}
 use Rattle.plan.specs.declared.Work.the-variants as work
 use Rattle.plan.specs.Plan.{jobOf}
-use Rattle.cio.specs.Move.{went}
+use Rattle.moves.specs.Move.{went}
 use Rattle.alone.specs.Transfer.{Point, point, TransferEnd, next, onGot, dropLine, getRecord, getting, transferred}
 use Rattle.alone.specs.Left.{leftS, consoleLeft}
 use Rattle.alone.specs.Alone.{Local, AloneOn, aloneTransfer, aloneWork, aloneJob}

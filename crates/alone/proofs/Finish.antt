@@ -15,7 +15,7 @@ use Rattle.transfer.specs.declared.Next.{Next}
 use Rattle.transfer.specs.declared.Next.the-variants.{On, Off}
 use Rattle.transfer.specs.Transfer.{sentByte, goes, ends, outOf}
 use Rattle.transfer.specs.Spans.{wayIn}
-use Rattle.cio.specs.Move.{Went, went, advanceOf, goOf}
+use Rattle.moves.specs.Move.{Went, went, advanceOf, goOf}
 use Rattle.alone.specs.Transfer.{Point, point, TransferEnd}
 use Rattle.alone.specs.Moves.{moves, wholeOf, Lines, RunsAt, lands}
 use Rattle.alone.proofs.Rest.{stepOf, go-is, restNext, restOf, rest-is}

@@ -44,8 +44,8 @@ use Rattle.plan.specs.declared.Plan.the-variants as plan
 use Rattle.plan.specs.declared.Work.{Work}
 use Rattle.plan.specs.declared.Work.the-variants as work
 use Rattle.plan.specs.Plan.{callPlan, planOf, planIn}
+use Rattle.moves.specs.Move.{Went, goOf, advanceOf}
 use Rattle.cio.specs.Start.{loadFits, loadStatus, runOf, blockAfter, openedBy, openedOf, thenOf}
-use Rattle.cio.specs.Move.{Went, goOf, advanceOf}
 use Rattle.alone.specs.Transfer.{onDone, transferred}
 use Rattle.alone.specs.Alone.{Said, call, load, fetch, bad, Local, local, Alone, AloneOn, answered, replying, aloneOpening, aloneTransfer, aloneWork, loaded, aloneErrand, alonePlan, aloneOf, withOwnBlock}
 use Rattle.alone.specs.Fit.{FitLocal, FitOwn}

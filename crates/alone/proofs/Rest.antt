@@ -23,7 +23,7 @@ use Rattle.blocks.specs.declared.Way.the-variants.{One, Characters, Record}
 use Rattle.transfer.specs.declared.Next.{Next}
 use Rattle.transfer.specs.declared.Next.the-variants.{On, Off}
 use Rattle.transfer.specs.Transfer.{Progress, progress, furtherOf, endedOf, onwardOf, eol, recordOf, gotCharacter, gotOf, sentByte, sentRecord, sentNext, sentOf, outOf}
-use Rattle.cio.specs.Move.{Went, went, getOf, putOf, goOf}
+use Rattle.moves.specs.Move.{Went, went, getOf, putOf, goOf}
 use Rattle.alone.specs.Transfer.{point, TransferEnd, last, next, onGot, onDone, getOne, putOne, getCharacters, dropLine, getRecord, putCharacters, putRecord, getting, putting, transferred}
 use Rattle.alone.specs.Moves.{wholeOf, Lines}
 

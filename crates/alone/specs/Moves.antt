@@ -1,4 +1,4 @@
--- A request by its start and its moves of one character (`cio`), for the theorems; and what is asked of a handler for them.
+-- A request by its start and its moves of one character (`cio`, `moves`), for the theorems; and what is asked of a handler for them.
 -- Assumes nothing.
 use mathlib.Core.Path.{_≡_}
 use mathlib.Core.Bool.{false}
@@ -19,8 +19,8 @@ use Rattle.devices.specs.Groups.{Groups, getGroup, groupOf, deviceActs}
 use Rattle.plan.specs.declared.Job.{Job}
 use Rattle.plan.specs.declared.Plan.{Plan}
 use Rattle.plan.specs.declared.Plan.the-variants as plan
+use Rattle.moves.specs.Move.{Went, went, advanceOf}
 use Rattle.cio.specs.Start.{Begun, repliedWith, errandOf, jobBegun}
-use Rattle.cio.specs.Move.{Went, went, advanceOf}
 use Rattle.alone.specs.Transfer.{Point, point, TransferEnd, transferred}
 use Rattle.alone.specs.Alone.{Local, withArea, Alone, AloneOn, putBack, aloneOnDevice}
 

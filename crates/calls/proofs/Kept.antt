@@ -20,8 +20,8 @@ use Rattle.replies.specs.Replies.{bytesAt, callReply, statusReply, fetchReply}
 use Rattle.plan.specs.declared.Errand.{Errand}
 use Rattle.plan.specs.declared.Errand.the-variants as errand
 use Rattle.transfer.specs.Transfer.{Progress, gotCharacter, gotOf, Out, goes, ends, landed}
+use Rattle.moves.specs.Move.{getOf, putOf, goOf, advanceOf}
 use Rattle.cio.specs.Start.{loadFits, loadStatus, loadedOf, loadOf, errandOf}
-use Rattle.cio.specs.Move.{getOf, putOf, goOf, advanceOf}
 
 character-long : (way : Way) (run : Run) (byte : ℕ) (area : List ℕ) → length (gotCharacter way run byte area .area) ≡ length area
 unfolding gotCharacter

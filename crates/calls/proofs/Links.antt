@@ -55,9 +55,10 @@ use Rattle.plan.specs.declared.Plan.{Plan}
 use Rattle.plan.specs.declared.Plan.the-variants as plan
 use Rattle.plan.specs.Plan.{planIn, planOf, iocbOf, groupNeeded}
 use Rattle.transfer.specs.Transfer.{Out, InPort, landed}
+use Rattle.moves.specs.Move.{Went, went, advanceOf}
+use Rattle.moves.proofs.Through.{seenWent, advance-through}
 use Rattle.cio.specs.Start.{Begun, begun, Freed, errandOf, jobBegun, startOf}
-use Rattle.cio.specs.Move.{Went, went, advanceOf}
-use Rattle.cio.proofs.Through.{seenWent, seenBegun, advance-through, Starting, work-through}
+use Rattle.cio.proofs.Through.{seenBegun, Starting, work-through}
 use Rattle.damage.specs.Fits.{portFits, stickFits}
 use Rattle.calls.specs.Port.{Reach, reach, portWith, startPlan, moveRun}
 use Rattle.calls.specs.Stick.{Outcome, outcome, areaAt, roomAt, groupsAt, withGroups, reachAt, withReach, lentReach}

@@ -3,7 +3,7 @@
 use mathlib.Core.Path.{_≡_, _∙_, refl, sym, ap}
 use mathlib.Core.Bool.{Bool, true, false}
 use mathlib.Core.List.{List, _++_}
-use Prim.Native.Nat.{ℕ, _+_, _-_, _≤_, _<_}
+use Prim.Native.Nat.{ℕ, _+_, _-_, _*_, _≤_, _<_}
 use native.Mathlib.Omega.{arith}
 use borrow.Author.Tests.{eq-eqb, ne-eqb}
 use lib.ListN.{length, take, drop}
@@ -28,6 +28,7 @@ use Rattle.devices.specs.Groups.{heldOf, clash}
 use Rattle.plan.specs.declared.Plan.{Plan}
 use Rattle.plan.specs.Plan.{groupNeeded}
 use Rattle.calls.specs.Calls.{takeAt, tickAt, giveAt}
+use Rattle.calls.specs.Returned.{returned, bothOf}
 use Rattle.calls.specs.Bytes.{Buffers, buffers, Left, left, leftAlone, leftOf, stickBy, lentBy}
 use Rattle.calls.specs.Parts.{Called, Going, waitsOn, consoleHeldOn, readyOn, advanceOn}
 use Rattle.calls.proofs.TickAnswers.{going, tick-gathering, tick-ready, tick-running, tick-replying}
@@ -112,14 +113,20 @@ module _ (port : ℕ) (state area screen paper : List ℕ) (c : Called port (buf
       (λ k. by-eq n 2 (λ z. take-running port state area screen paper c (phaseIn here) refl byte (runIn here) (is-running here n e z))
       (λ l. take-replying port state area screen paper c (phaseIn here) refl byte (replyIn here) (is-replying here n e m k l)))
 
-  pub give-replies : (r : Reply) (g : Given) (state′ : List ℕ) → 3 ≤ n → r ≡ replyIn here → g ≡ replies.giveOf r (part (roomPlace port) (roomPlace port + roomLength - roomPlace port) state)
-      → state′ ≡ sets state (phasePlace port) (phaseBytes (g .phase)) → left 0 (g .byte) (buffers state′ area screen paper) ≡ leftOf (giveAt port (stickBy b) (lentBy b))
-  give-replies r g state′ h i q f =
-      give-replying port state area screen paper c (phaseIn here) refl r g state′
-      (is-replying here n e (λ z. omega arith) (λ z. omega arith) (λ z. omega arith) ∙ ap Replying (sym i)) q f
+  pub give-replies : (r : Reply) (g : Given) (state′ : List ℕ) (number : ℕ) → 3 ≤ n → r ≡ replyIn here → g ≡ replies.giveOf r (part (roomPlace port) (roomPlace port + roomLength - roomPlace port) state)
+      → state′ ≡ sets state (phasePlace port) (phaseBytes (g .phase)) → number ≡ 0 + 256 * g .byte
+      → returned number (buffers state′ area screen paper) ≡ bothOf (leftOf (giveAt port (stickBy b) (lentBy b)))
+  give-replies r g state′ number h i q f k =
+      ap (λ (x : ℕ). returned x (buffers state′ area screen paper)) k
+      ∙ ap bothOf
+      (give-replying port state area screen paper c (phaseIn here) refl r g state′
+      (is-replying here n e (λ z. omega arith) (λ z. omega arith) (λ z. omega arith) ∙ ap Replying (sym i)) q f)
 
-  pub give-not : n < 3 → leftAlone 5 b ≡ leftOf (giveAt port (stickBy b) (lentBy b))
-  give-not h =
+  not-replying : n < 3 → leftAlone 5 b ≡ leftOf (giveAt port (stickBy b) (lentBy b))
+  not-replying h =
       by-eq n 0 (λ z. give-gathering port state area screen paper c (phaseIn here) refl (gatherIn here) (is-gathering here n e z))
       (λ m. by-eq n 1 (λ z. give-ready port state area screen paper c (phaseIn here) refl (headerIn here) (is-ready here n e z))
       (λ k. give-running port state area screen paper c (phaseIn here) refl (runIn here) (is-running here n e (omega arith))))
+
+  pub give-not : (number : ℕ) → n < 3 → number ≡ 5 + 256 * 0 → returned number b ≡ bothOf (leftOf (giveAt port (stickBy b) (lentBy b)))
+  give-not number h k = ap (λ (x : ℕ). returned x b) k ∙ ap bothOf (not-replying h)

@@ -3,7 +3,7 @@
 use mathlib.Core.Path.{_≡_, _∙_, refl, sym, ap}
 use mathlib.Core.Bool.{Bool, true, false}
 use mathlib.Core.List.{List, [], _++_, append-assoc, append-nil}
-use Prim.Native.Nat.{ℕ, _+_, _-_, _*_, _≤_, _<_}
+use Prim.Native.Nat.{ℕ, _+_, _-_, _*_, _≤_, _<_, _/_, _%_}
 use native.Mathlib.Nat.{zero-add}
 use native.Mathlib.Omega.{arith}
 use borrow.Author.Tests.{lt-ltb, le-ltb, eq-eqb, ne-eqb, eqb-true, ltb-true}
@@ -35,6 +35,7 @@ use Rattle.devices.specs.Lent.{DevicesLent, devicesLent, lentOf, freshGroups, F
 use Rattle.damage.specs.Fits.{stickFits}
 use Rattle.calls.specs.Stick.{Outcome, outcome, refused, screenLength, paperLength, lengthsFit, refusalOf}
 use Rattle.calls.specs.Calls.{freshLent, freshCall, guarded, takeAt, takeCall, tickAt, tickCall, giveAt, giveCall, pressAt, pressCall}
+use Rattle.calls.specs.Returned.{returned, answerOf, bothOf}
 use Rattle.calls.specs.Bytes.{Buffers, buffers, Left, left, leftAlone, fourFit, buffersFit, stickBy, lentBy, undamagedIn, leftOf, bytesRefusal, overBytes, freshBytes, takeBytes, tickBytes, giveBytes, pressBytes}
 use Rattle.calls.specs.Parts.{Called, Lengths, Long, portsFresh, freshOn}
 
@@ -179,47 +180,58 @@ module _ (body : Stick → Lent → Outcome) (b : Buffers) (w : Bytes (b .state)
       (λ e. let q : r ≡ 2 = p ∙ rw e in rw (q, e))
 
 -- the calls
-module _ (state area screen paper : List ℕ) (port r : ℕ) (p : r ≡ bytesRefusal (buffers state area screen paper) port) (z : r ≡ 0) (o : Left) where
+module _ (state area screen paper : List ℕ) (port r : ℕ) (p : r ≡ bytesRefusal (buffers state area screen paper) port) (z : r ≡ 0) (answer : ℕ) (b′ : Buffers) where
   abbrev held : Buffers
   held = buffers state area screen paper
 
-  pub take-passed : (byte : ℕ) → o ≡ leftOf (takeAt port (stickBy held) (lentBy held) byte) → o ≡ takeBytes held port byte
+  pub take-passed : (byte : ℕ) → left answer 0 b′ ≡ leftOf (takeAt port (stickBy held) (lentBy held) byte) → returned answer b′ ≡ answerOf (takeBytes held port byte)
   unfolding takeBytes takeCall
-  take-passed byte q = q ∙ over-passed held port r p z (λ s l. takeAt port s l byte)
+  take-passed byte q = ap answerOf (q ∙ over-passed held port r p z (λ s l. takeAt port s l byte))
 
-  pub tick-passed : o ≡ leftOf (tickAt port (stickBy held) (lentBy held)) → o ≡ tickBytes held port
+  pub tick-passed : left answer 0 b′ ≡ leftOf (tickAt port (stickBy held) (lentBy held)) → returned answer b′ ≡ answerOf (tickBytes held port)
   unfolding tickBytes tickCall
-  tick-passed q = q ∙ over-passed held port r p z (λ s l. tickAt port s l)
+  tick-passed q = ap answerOf (q ∙ over-passed held port r p z (λ s l. tickAt port s l))
 
-  pub give-passed : o ≡ leftOf (giveAt port (stickBy held) (lentBy held)) → o ≡ giveBytes held port
+  pub give-passed : returned answer b′ ≡ bothOf (leftOf (giveAt port (stickBy held) (lentBy held))) → returned answer b′ ≡ bothOf (giveBytes held port)
   unfolding giveBytes giveCall
-  give-passed q = q ∙ over-passed held port r p z (λ s l. giveAt port s l)
+  give-passed q = q ∙ ap bothOf (over-passed held port r p z (λ s l. giveAt port s l))
 
-module _ (state area screen paper : List ℕ) (r : ℕ) (p : r ≡ bytesRefusal (buffers state area screen paper) 0) (z : r ≡ 0) (o : Left) where
-  pub press-passed : (code : ℕ) → o ≡ leftOf (pressAt (stickBy (buffers state area screen paper)) (lentBy (buffers state area screen paper)) code) → o ≡ pressBytes (buffers state area screen paper) code
+module _ (state area screen paper : List ℕ) (r : ℕ) (p : r ≡ bytesRefusal (buffers state area screen paper) 0) (z : r ≡ 0) (answer : ℕ) (b′ : Buffers) where
+  pub press-passed : (code : ℕ) → left answer 0 b′ ≡ leftOf (pressAt (stickBy (buffers state area screen paper)) (lentBy (buffers state area screen paper)) code)
+      → returned answer b′ ≡ answerOf (pressBytes (buffers state area screen paper) code)
   unfolding pressBytes pressCall
-  press-passed code q = q ∙ over-passed (buffers state area screen paper) 0 r p z (λ s l. pressAt s l code)
+  press-passed code q = ap answerOf (q ∙ over-passed (buffers state area screen paper) 0 r p z (λ s l. pressAt s l code))
 
 module _ (state : List ℕ) (k : Known state) (area screen paper : List ℕ) (r : ℕ) where
   abbrev given : Buffers
   given = buffers state area screen paper
 
   module _ (port : ℕ) (p : r ≡ bytesRefusal given port) (z : r ≡ 0 → ⊥) where
-    pub take-refused : (byte : ℕ) → leftAlone r given ≡ takeBytes given port byte
+    pub take-refused : (byte : ℕ) → returned r given ≡ answerOf (takeBytes given port byte)
     unfolding takeBytes takeCall
-    take-refused byte = over-refused (λ s l. takeAt port s l byte) given (bytes-of state k) port r p z
+    take-refused byte = ap answerOf (over-refused (λ s l. takeAt port s l byte) given (bytes-of state k) port r p z)
 
-    pub tick-refused : leftAlone r given ≡ tickBytes given port
+    pub tick-refused : returned r given ≡ answerOf (tickBytes given port)
     unfolding tickBytes tickCall
-    tick-refused = over-refused (λ s l. tickAt port s l) given (bytes-of state k) port r p z
+    tick-refused = ap answerOf (over-refused (λ s l. tickAt port s l) given (bytes-of state k) port r p z)
 
-    pub give-refused : leftAlone r given ≡ giveBytes given port
+    pub give-refused : returned r given ≡ bothOf (giveBytes given port)
     unfolding giveBytes giveCall
-    give-refused = over-refused (λ s l. giveAt port s l) given (bytes-of state k) port r p z
+    give-refused =
+        let low : r ≡ r + 256 * 0 = omega arith in
+        ap (λ (n : ℕ). returned n given) low ∙ ap bothOf (over-refused (λ s l. giveAt port s l) given (bytes-of state k) port r p z)
 
-  pub press-refused : (code : ℕ) → r ≡ bytesRefusal given 0 → (r ≡ 0 → ⊥) → leftAlone r given ≡ pressBytes given code
+  pub press-refused : (code : ℕ) → r ≡ bytesRefusal given 0 → (r ≡ 0 → ⊥) → returned r given ≡ answerOf (pressBytes given code)
   unfolding pressBytes pressCall
-  press-refused code p z = over-refused (λ s l. pressAt s l code) given (bytes-of state k) 0 r p z
+  press-refused code p z = ap answerOf (over-refused (λ s l. pressAt s l code) given (bytes-of state k) 0 r p z)
+
+-- the number of a give: the answer in the low byte, the reply byte in the high
+module _ (l : Left) (h : l .answer < 256) where
+  pub low-is-answer : bothOf l .number % 256 ≡ l .answer
+  low-is-answer = omega arith
+
+  pub high-is-byte : bothOf l .number / 256 ≡ l .byte
+  high-is-byte = omega arith
 
 -- a fresh start writes every byte of the state
 module _ (state : List ℕ) (l : Long state) where
@@ -272,15 +284,15 @@ module _ (state area screen paper : List ℕ) (l : Lengths (buffers state area s
       record { exact = part-length devicesPlace devicesLength s1 (omega arith); whole = l .whole }
 
 module _ (state area screen paper : List ℕ) (t : Bool) (p : t ≡ buffersFit (buffers state area screen paper)) where
-  pub fresh-refused : t ≡ false → leftAlone 2 (buffers state area screen paper) ≡ freshBytes (buffers state area screen paper)
+  pub fresh-refused : t ≡ false → returned 2 (buffers state area screen paper) ≡ answerOf (freshBytes (buffers state area screen paper))
   unfolding freshBytes
   fresh-refused e = rw (← p, e)
 
-  pub fresh-done : (b′ : Buffers) → t ≡ true → b′ ≡ freshOn (buffers state area screen paper) → left 0 0 b′ ≡ freshBytes (buffers state area screen paper)
+  pub fresh-done : (b′ : Buffers) → t ≡ true → b′ ≡ freshOn (buffers state area screen paper) → returned 0 b′ ≡ answerOf (freshBytes (buffers state area screen paper))
   unfolding freshBytes freshCall freshOn
   fresh-done b′ e q =
       let b = buffers state area screen paper in
       let l = lengths-of b (sym p ∙ e) in
-      ap (left 0 0) q
-      ∙ ap (λ (x : List ℕ). left 0 0 (buffers x (replicate (2 * areaLength) 0) (freshGroup .screen) paper)) (all-written state (record { long = l .long }))
+      ap (returned 0) q
+      ∙ ap (λ (x : List ℕ). returned 0 (buffers x (replicate (2 * areaLength) 0) (freshGroup .screen) paper)) (all-written state (record { long = l .long }))
       ∙ rw (← p, e, lent-fits b l)

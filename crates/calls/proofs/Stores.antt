@@ -34,8 +34,8 @@ use Rattle.transfer.specs.declared.Carried.{Carried}
 use Rattle.transfer.specs.declared.Carried.the-variants as carried
 use Rattle.transfer.specs.declared.Next.the-variants.{Off}
 use Rattle.transfer.specs.Transfer.{nextOf, Out, outOf, InPort, inPort, landed}
+use Rattle.moves.specs.Move.{Went, went, advanceOf}
 use Rattle.cio.specs.Start.{Begun, begun, Freed, freed, errandOf, jobBegun}
-use Rattle.cio.specs.Move.{Went, went, advanceOf}
 use Rattle.calls.specs.Bytes.{Buffers, buffers, Left, left, leftAlone}
 use Rattle.calls.specs.Parts.{Called, Rooms, Halves, Going, roomIn, halfIn, numbersIn, blockOn, withBlockOn, withInPort, landOn, advanceOn, planOn, waitsOn, errandOn, jobOn, startOn, readyOn}
 

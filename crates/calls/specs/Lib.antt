@@ -3,3 +3,4 @@ pub mod Stick
 pub mod Calls
 pub mod Bytes
 pub mod Parts
+pub mod Returned

@@ -33,8 +33,8 @@ use Rattle.plan.specs.declared.Plan.the-variants as plan
 use Rattle.plan.specs.Plan.{planIn, iocbOf, groupNeeded}
 use Rattle.transfer.specs.Transfer.{Out, InPort, landed}
 use Rattle.transfer.specs.Spans.{Spans, wayIn}
+use Rattle.moves.specs.Move.{advanceOf}
 use Rattle.cio.specs.Start.{errandOf, jobBegun}
-use Rattle.cio.specs.Move.{advanceOf}
 use Rattle.damage.specs.Fits.{stickFits}
 use Rattle.calls.specs.Stick.{paperLength}
 use Rattle.calls.specs.Bytes.{Buffers, buffers, Left, left, leftAlone, stickBy, lentBy}

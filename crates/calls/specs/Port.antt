@@ -19,8 +19,8 @@ use Rattle.devices.specs.Groups.{Groups, getGroup, putGroup, clash, groupOf, de
 use Rattle.plan.specs.declared.Plan.{Plan}
 use Rattle.plan.specs.declared.Plan.the-variants as plan
 use Rattle.plan.specs.Plan.{planOf, groupNeeded}
+use Rattle.moves.specs.Move.{moveOf}
 use Rattle.cio.specs.Start.{errandOf, startOf}
-use Rattle.cio.specs.Move.{moveOf}
 
 abbrev pub portWith : Table → Phase → Port
 portWith table phase = record { table = table; phase = phase }

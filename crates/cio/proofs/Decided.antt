@@ -4,22 +4,16 @@ use mathlib.Core.Path.{_≡_, refl, sym, _∙_, ap}
 use mathlib.Core.List.{List}
 use Prim.Native.Nat.{ℕ}
 use Rattle.base.specs.Decides.{Decides, Allows}
-use Rattle.transfer.specs.Transfer.{nextOf}
-use Rattle.transfer.proofs.Outs.{nextIn, out-decides, carriedIn, carried-decides}
+use Rattle.transfer.proofs.Outs.{nextIn, out-decides}
 use Rattle.blocks.specs.declared.ControlBlock.{ControlBlock}
 use Rattle.transfer.specs.declared.Next.{Next}
 use Rattle.devices.specs.Lent.{DevicesLent}
 use Rattle.cio.specs.Start.{Freed, Begun}
-use Rattle.cio.specs.Move.{Went}
-use Rattle.cio.proofs.Outs.{advance-allowed, start-allowed}
+use Rattle.cio.proofs.Outs.{start-allowed}
 use Rattle.cio.proofs.errand.load.Kinds as load-kinds
 use Rattle.cio.proofs.errand.load.Reads as load-reads
 use Rattle.cio.proofs.errand.run_errand.Kinds as run-errand-kinds
 use Rattle.cio.proofs.errand.run_errand.Reads as run-errand-reads
-use Rattle.cio.proofs.moves.on_block.Kinds as on-block-kinds
-use Rattle.cio.proofs.moves.on_block.Reads as on-block-reads
-use Rattle.cio.proofs.moves.advance.Kinds as advance-kinds
-use Rattle.cio.proofs.moves.advance.Reads as advance-reads
 use Rattle.cio.proofs.start.start.Kinds as start-kinds
 use Rattle.cio.proofs.start.start.Reads as start-reads
 
@@ -34,18 +28,6 @@ run-errand-decides κs a z z′ ws ws′ p e e′ = let q = e ∙ sym e′ in (a
 
 pub run-errand-allows : Allows 2 run-errand-kinds.ps run-errand-kinds.r run-errand-reads.Pre run-errand-reads.Learnt
 run-errand-allows κs a p = (_, (_, refl))
-
-pub on-block-decides : Decides 0 on-block-kinds.ps on-block-kinds.r on-block-reads.Pre on-block-reads.Learnt
-on-block-decides κs a z z′ ws ws′ p e e′ = (e ∙ sym e′, refl)
-
-pub on-block-allows : Allows 0 on-block-kinds.ps on-block-kinds.r on-block-reads.Pre on-block-reads.Learnt
-on-block-allows κs a p = (_, (_, refl))
-
-pub advance-decides : Decides 4 advance-kinds.ps advance-kinds.r advance-reads.Pre advance-reads.Learnt
-advance-decides κs a z z′ ws ws′ p e e′ = let q = e ∙ sym e′ in (carried-decides (a .1 .0) z z′ (out-decides (nextOf (a .1 .0) z) (nextOf (a .1 .0) z′) (ap (λ (w : Went DevicesLent). w .out) q)), ap (λ (w : Went DevicesLent). (tt, (tt, (w .area, (w .device .numbers, (w .device .screen, (w .device .paper, tt))))))) q)
-
-pub advance-allows : Allows 4 advance-kinds.ps advance-kinds.r advance-reads.Pre advance-reads.Learnt
-advance-allows κs a p = (carriedIn (nextIn _), (_, advance-allowed _ _ (a .1 .0) _ _))
 
 pub start-decides : Decides 3 start-kinds.ps start-kinds.r start-reads.Pre start-reads.Learnt
 start-decides κs a z z′ ws ws′ p e e′ = let q = e ∙ sym e′ in let same = out-decides (z .next) (z′ .next) (ap (λ (w : Begun DevicesLent). w .out) q) in (ap (λ (b : ControlBlock). record { block = b; next = z .next }) (ap (λ (w : Begun DevicesLent). w .block) q) ∙ ap (λ (n : Next). record { block = z′ .block; next = n }) same, ap (λ (w : Begun DevicesLent). (tt, (tt, (tt, (w .device .numbers, (w .device .screen, (w .device .paper, tt))))))) q)

@@ -1,11 +1,10 @@
--- What each function of a start and of a move returns and leaves is what its definition says, whatever the device.
+-- What each function of a start returns and leaves is what its definition says, whatever the device.
 -- Assumes nothing.
-use mathlib.Core.Path.{_≡_, _∙_, refl, sym, ap, subst}
+use mathlib.Core.Path.{_≡_, _∙_, refl, sym, ap}
 use mathlib.Core.Bool.{Bool, true, false}
 use mathlib.Core.List.{List}
 use Prim.Native.Nat.{ℕ}
 use Rattle.handler.specs.declared.Asked.{Asked}
-use Rattle.handler.specs.declared.Got.{Got}
 use Rattle.handler.specs.declared.Done.{Done}
 use Rattle.handler.specs.declared.Done.the-variants as done
 use Rattle.handler.specs.Answer.{Answer, answer, doneStatus}
@@ -13,9 +12,6 @@ use Rattle.handler.specs.Acts.{Acts, asksOpen, asksOn}
 use Rattle.blocks.specs.declared.Device.{Device}
 use Rattle.blocks.specs.declared.ControlBlock.{ControlBlock}
 use Rattle.blocks.specs.declared.Kind.{Kind}
-use Rattle.blocks.specs.declared.Kind.the-variants.{Get, Put}
-use Rattle.blocks.specs.declared.Way.{Way}
-use Rattle.blocks.specs.declared.Run.{Run}
 use Rattle.blocks.specs.Blocks.{closedBlock, openBlock}
 use Rattle.blocks.specs.Opening.{offersOf}
 use Rattle.wire.specs.declared.Call.{Call}
@@ -26,11 +22,8 @@ use Rattle.plan.specs.declared.Work.the-variants as work
 use Rattle.plan.specs.declared.Job.{Job}
 use Rattle.transfer.specs.declared.Next.{Next}
 use Rattle.transfer.specs.declared.Next.the-variants.{On, Off}
-use Rattle.transfer.specs.Transfer.{outOf, Progress, progress, gotOf, sentByte, sentOf}
-use Rattle.transfer.specs.Spans.{Spans, wayIn}
+use Rattle.transfer.specs.Transfer.{outOf}
 use Rattle.cio.specs.Start.{Begun, begun, overOut, runOf, thenOf, openedBy, openedOf, blockAfter, preparedOut, openingOf, transferOf, workOf, jobBegun}
-use Rattle.cio.specs.Move.{Went, went, getOf, putOf, goOf, advanceOf}
-use Rattle.cio.specs.Lends.{Moves, Goes}
 
 module _ (d : Done) where
   pub status-success : d ≡ done.Success → 0x01 ≡ doneStatus d
@@ -120,29 +113,3 @@ module _ {D : Type 0} (H : Asked → Acts D) (port : ℕ) (job : Job) (b : Contr
     pub start-transfer : (kind : Kind) → job .work ≡ work.Transfer kind → begun c y (outOf next) ≡ transferOf H port kind (job .device) (job .call) b x → begun c y (outOf next) ≡ jobBegun H port job b x
     unfolding workOf
     start-transfer kind e q = q ∙ rw e
-
-module _ {D : Type 0} (A : Acts D) (way : Way) (run : Run) (area mid : List ℕ) (x y : D) (next : Next) where
-  pub get-law : (g : Got) → answer g y ≡ A .reads x → progress next mid ≡ gotOf way run g area → went mid y (outOf next) ≡ getOf A way run area x
-  unfolding getOf
-  get-law g p q = rw (← p, ← q)
-
-  pub put-law : (byte : ℕ) (d : Done) → byte ≡ sentByte way run area → answer d y ≡ A .writes byte x → next ≡ sentOf way run byte d → went area y (outOf next) ≡ putOf A way run area x
-  unfolding putOf
-  put-law byte d b p q = rw (q, ← b, ← p)
-
-module _ {D : Type 0} (H : Asked → Acts D) (port : ℕ) (asked : Asked) (way : Way) (run : Run) (area mid : List ℕ) (x y : D) (next : Next) (a : asked ≡ asksOn port (run .iocb)) where
-  pub go-get : run .kind ≡ Get way → went mid y (outOf next) ≡ getOf (H asked) way run area x → went mid y (outOf next) ≡ advanceOf H port run area x
-  unfolding advanceOf goOf
-  go-get e q = q ∙ rw (e, a)
-
-  pub go-put : run .kind ≡ Put way → went area y (outOf next) ≡ putOf (H asked) way run area x → went area y (outOf next) ≡ advanceOf H port run area x
-  unfolding advanceOf goOf
-  go-put e q = q ∙ rw (e, a)
-
--- what a move asks of its way
-module _ (run : Run) (way : Way) (numbers screen : List ℕ) (g : Goes run numbers screen) where
-  pub moves-get : run .kind ≡ Get way → Moves way run numbers screen
-  moves-get e = record { spans = subst (λ (k : Kind). Spans (wayIn k) run) e (g .spans); lends = g .lends }
-
-  pub moves-put : run .kind ≡ Put way → Moves way run numbers screen
-  moves-put e = record { spans = subst (λ (k : Kind). Spans (wayIn k) run) e (g .spans); lends = g .lends }

@@ -1,9 +1,7 @@
--- A start and a move over a whole, by a handler that takes its part out and puts it back, are the start and the move of the part, put
--- back.
+-- A start over a whole, by a handler that takes its part out and puts it back, is the start of the part, put back.
 -- Assumes nothing.
 use mathlib.Core.Path.{_≡_, _∙_, refl, sym, ap}
 use mathlib.Core.Bool.{Bool, true, false}
-use mathlib.Core.List.{List}
 use Prim.Native.Nat.{ℕ}
 use Rattle.base.specs.Choice.{choose}
 use Rattle.handler.specs.declared.Asked.{Asked}
@@ -14,8 +12,6 @@ use Rattle.handler.specs.Acts.{Acts, asksOpen, asksOn, through}
 use Rattle.blocks.specs.declared.Device.{Device}
 use Rattle.blocks.specs.declared.ControlBlock.{ControlBlock}
 use Rattle.blocks.specs.declared.Kind.{Kind}
-use Rattle.blocks.specs.declared.Kind.the-variants.{Get, Put}
-use Rattle.blocks.specs.declared.Run.{Run}
 use Rattle.blocks.specs.Blocks.{openBlock}
 use Rattle.blocks.specs.Opening.{offersOf}
 use Rattle.wire.specs.declared.Call.{Call}
@@ -25,25 +21,11 @@ use Rattle.plan.specs.declared.Work.{Work}
 use Rattle.plan.specs.declared.Work.the-variants as work
 use Rattle.plan.specs.declared.Job.{Job}
 use Rattle.cio.specs.Start.{Begun, begun, over, thenOf, openedBy, openedOf, blockAfter, preparedOut, openingOf, transferOf, workOf, jobBegun}
-use Rattle.cio.specs.Move.{Went, went, getOf, putOf, goOf, advanceOf}
-
-abbrev pub seenWent : {D E : Type 0} → (D → E) → Went D → Went E
-seenWent f w = went (w .area) (f (w .device)) (w .out)
 
 abbrev pub seenBegun : {D E : Type 0} → (D → E) → Begun D → Begun E
 seenBegun f b = begun (b .block) (f (b .device)) (b .out)
 
 module _ {D E : Type 0} (get : E → D) (put : E → D → E) where
-  go-through : (A : Acts D) (k : Kind) (run : Run) (area : List ℕ) (s : E) → goOf (through get put A) k run area s ≡ seenWent (put s) (goOf A k run area (get s))
-  unfolding goOf getOf putOf
-  go-through A (Get way) run area s = refl
-  go-through A (Put way) run area s = refl
-
-  pub advance-through : (H : Asked → Acts D) (port : ℕ) (run : Run) (area : List ℕ) (s : E)
-      → advanceOf (λ asked. through get put (H asked)) port run area s ≡ seenWent (put s) (advanceOf H port run area (get s))
-  unfolding advanceOf
-  advance-through H port run area s = go-through (H (asksOn port (run .iocb))) (run .kind) run area s
-
   -- of a whole whose part put back is itself, and where the later of two parts put back stays
   module _ (s : E) (still : put s (get s) ≡ s) (later : (x y : D) → put (put s x) y ≡ put s y) where
     -- what is put back is got

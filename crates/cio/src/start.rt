@@ -172,7 +172,7 @@ fn transfer(
 {
     let device = job.device;
     let call = job.call;
-    let asked = crate::moves::on_block(port, call.iocb);
+    let asked = handler::on_block(port, call.iocb);
     let done = devices::prepare(device, asked, numbers, screen, paper);
     let next = prepared(done, kind, device, call);
     Begin {
@@ -196,7 +196,7 @@ pub fn start(
     let work = job.work;
     let call = job.call;
     let device = job.device;
-    let asked = crate::moves::on_block(port, call.iocb);
+    let asked = handler::on_block(port, call.iocb);
     match work {
         Work::Close => {
             devices::close(device, asked, numbers, screen, paper);

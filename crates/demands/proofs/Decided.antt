@@ -12,6 +12,9 @@ use Rattle.base.proofs.byte_at.Reads as base-byte-at-reads
 use Rattle.base.proofs.set_byte.Kinds as base-set-byte-kinds
 use Rattle.base.proofs.set_byte.Reads as base-set-byte-reads
 use Rattle.base.proofs.Decided as base
+use Rattle.handler.proofs.on_block.Kinds as handler-on-block-kinds
+use Rattle.handler.proofs.on_block.Reads as handler-on-block-reads
+use Rattle.handler.proofs.Decided as handler
 use Rattle.keys.proofs.table.entry.Kinds as keys-entry-kinds
 use Rattle.keys.proofs.table.entry.Reads as keys-entry-reads
 use Rattle.keys.proofs.translate.Kinds as keys-translate-kinds
@@ -278,30 +281,19 @@ use Rattle.plan.proofs.plan_in.Reads as plan-plan-in-reads
 use Rattle.plan.proofs.group_needed.Kinds as plan-group-needed-kinds
 use Rattle.plan.proofs.group_needed.Reads as plan-group-needed-reads
 use Rattle.plan.proofs.Decided as plan
+use Rattle.moves.proofs.advance.Kinds as moves-advance-kinds
+use Rattle.moves.proofs.advance.Reads as moves-advance-reads
+use Rattle.moves.proofs.Decided as moves
 use Rattle.cio.proofs.errand.load.Kinds as cio-load-kinds
 use Rattle.cio.proofs.errand.load.Reads as cio-load-reads
 use Rattle.cio.proofs.errand.run_errand.Kinds as cio-run-errand-kinds
 use Rattle.cio.proofs.errand.run_errand.Reads as cio-run-errand-reads
-use Rattle.cio.proofs.moves.on_block.Kinds as cio-on-block-kinds
-use Rattle.cio.proofs.moves.on_block.Reads as cio-on-block-reads
-use Rattle.cio.proofs.moves.advance.Kinds as cio-advance-kinds
-use Rattle.cio.proofs.moves.advance.Reads as cio-advance-reads
 use Rattle.cio.proofs.start.start.Kinds as cio-start-kinds
 use Rattle.cio.proofs.start.start.Reads as cio-start-reads
 use Rattle.cio.proofs.Decided as cio
 use Rattle.ticks.proofs.tick_at.Kinds as ticks-tick-at-kinds
 use Rattle.ticks.proofs.tick_at.Reads as ticks-tick-at-reads
 use Rattle.ticks.proofs.Decided as ticks
-use Rattle.stick.proofs.fresh.Kinds as stick-fresh-kinds
-use Rattle.stick.proofs.fresh.Reads as stick-fresh-reads
-use Rattle.stick.proofs.take.Kinds as stick-take-kinds
-use Rattle.stick.proofs.take.Reads as stick-take-reads
-use Rattle.stick.proofs.tick.Kinds as stick-tick-kinds
-use Rattle.stick.proofs.tick.Reads as stick-tick-reads
-use Rattle.stick.proofs.give.Kinds as stick-give-kinds
-use Rattle.stick.proofs.give.Reads as stick-give-reads
-use Rattle.stick.proofs.press.Kinds as stick-press-kinds
-use Rattle.stick.proofs.press.Reads as stick-press-reads
 use Rattle.stick.proofs.served.take_at.Kinds as stick-take-at-kinds
 use Rattle.stick.proofs.served.take_at.Reads as stick-take-at-reads
 use Rattle.stick.proofs.served.give_at.Kinds as stick-give-at-kinds
@@ -334,13 +326,17 @@ base-decided =
     promise 1 base-byte-at-kinds.ps base-byte-at-kinds.r base-byte-at-reads.Pre base-byte-at-reads.Learnt base.byte-at-decides base.byte-at-allows (
     promise 1 base-set-byte-kinds.ps base-set-byte-kinds.r base-set-byte-reads.Pre base-set-byte-reads.Learnt base.set-byte-decides base.set-byte-allows none)
 
+pub handler-decided : Promises
+handler-decided =
+    promise 0 handler-on-block-kinds.ps handler-on-block-kinds.r handler-on-block-reads.Pre handler-on-block-reads.Learnt handler.on-block-decides handler.on-block-allows base-decided
+
 pub keys-decided : Promises
 keys-decided =
     promise 0 keys-entry-kinds.ps keys-entry-kinds.r keys-entry-reads.Pre keys-entry-reads.Learnt keys.entry-decides keys.entry-allows (
     promise 0 keys-translate-kinds.ps keys-translate-kinds.r keys-translate-reads.Pre keys-translate-reads.Learnt keys.translate-decides keys.translate-allows (
     promise 0 keys-fresh-kinds.ps keys-fresh-kinds.r keys-fresh-reads.Pre keys-fresh-reads.Learnt keys.fresh-decides keys.fresh-allows (
     promise 0 keys-press-kinds.ps keys-press-kinds.r keys-press-reads.Pre keys-press-reads.Learnt keys.press-decides keys.press-allows (
-    promise 0 keys-get-kinds.ps keys-get-kinds.r keys-get-reads.Pre keys-get-reads.Learnt keys.get-decides keys.get-allows base-decided))))
+    promise 0 keys-get-kinds.ps keys-get-kinds.r keys-get-reads.Pre keys-get-reads.Learnt keys.get-decides keys.get-allows handler-decided))))
 
 pub cells-decided : Promises
 cells-decided =
@@ -512,13 +508,15 @@ plan-decided =
     promise 1 plan-plan-in-kinds.ps plan-plan-in-kinds.r plan-plan-in-reads.Pre plan-plan-in-reads.Learnt plan.plan-in-decides plan.plan-in-allows (
     promise 0 plan-group-needed-kinds.ps plan-group-needed-kinds.r plan-group-needed-reads.Pre plan-group-needed-reads.Learnt plan.group-needed-decides plan.group-needed-allows judge-decided))
 
+pub moves-decided : Promises
+moves-decided =
+    promise 4 moves-advance-kinds.ps moves-advance-kinds.r moves-advance-reads.Pre moves-advance-reads.Learnt moves.advance-decides moves.advance-allows plan-decided
+
 pub cio-decided : Promises
 cio-decided =
     promise 2 cio-load-kinds.ps cio-load-kinds.r cio-load-reads.Pre cio-load-reads.Learnt cio.load-decides cio.load-allows (
     promise 2 cio-run-errand-kinds.ps cio-run-errand-kinds.r cio-run-errand-reads.Pre cio-run-errand-reads.Learnt cio.run-errand-decides cio.run-errand-allows (
-    promise 0 cio-on-block-kinds.ps cio-on-block-kinds.r cio-on-block-reads.Pre cio-on-block-reads.Learnt cio.on-block-decides cio.on-block-allows (
-    promise 4 cio-advance-kinds.ps cio-advance-kinds.r cio-advance-reads.Pre cio-advance-reads.Learnt cio.advance-decides cio.advance-allows (
-    promise 3 cio-start-kinds.ps cio-start-kinds.r cio-start-reads.Pre cio-start-reads.Learnt cio.start-decides cio.start-allows plan-decided))))
+    promise 3 cio-start-kinds.ps cio-start-kinds.r cio-start-reads.Pre cio-start-reads.Learnt cio.start-decides cio.start-allows moves-decided))
 
 pub ticks-decided : Promises
 ticks-decided =
@@ -526,15 +524,10 @@ ticks-decided =
 
 pub stick-decided : Promises
 stick-decided =
-    promise 4 stick-fresh-kinds.ps stick-fresh-kinds.r stick-fresh-reads.Pre stick-fresh-reads.Learnt stick.fresh-decides stick.fresh-allows (
-    promise 4 stick-take-kinds.ps stick-take-kinds.r stick-take-reads.Pre stick-take-reads.Learnt stick.take-decides stick.take-allows (
-    promise 4 stick-tick-kinds.ps stick-tick-kinds.r stick-tick-reads.Pre stick-tick-reads.Learnt stick.tick-decides stick.tick-allows (
-    promise 4 stick-give-kinds.ps stick-give-kinds.r stick-give-reads.Pre stick-give-reads.Learnt stick.give-decides stick.give-allows (
-    promise 4 stick-press-kinds.ps stick-press-kinds.r stick-press-reads.Pre stick-press-reads.Learnt stick.press-decides stick.press-allows (
     promise 4 stick-take-at-kinds.ps stick-take-at-kinds.r stick-take-at-reads.Pre stick-take-at-reads.Learnt stick.take-at-decides stick.take-at-allows (
     promise 4 stick-give-at-kinds.ps stick-give-at-kinds.r stick-give-at-reads.Pre stick-give-at-reads.Learnt stick.give-at-decides stick.give-at-allows (
     promise 4 stick-press-at-kinds.ps stick-press-at-kinds.r stick-press-at-reads.Pre stick-press-at-reads.Learnt stick.press-at-decides stick.press-at-allows (
-    promise 4 stick-fresh-all-kinds.ps stick-fresh-all-kinds.r stick-fresh-all-reads.Pre stick-fresh-all-reads.Learnt stick.fresh-all-decides stick.fresh-all-allows ticks-decided))))))))
+    promise 4 stick-fresh-all-kinds.ps stick-fresh-all-kinds.r stick-fresh-all-reads.Pre stick-fresh-all-reads.Learnt stick.fresh-all-decides stick.fresh-all-allows ticks-decided)))
 
 pub firmware-decided : Promises
 firmware-decided =

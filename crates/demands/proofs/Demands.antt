@@ -14,7 +14,7 @@ use Rattle.layout.proofs.Lengths.{head-length}
 use Rattle.layout.proofs.ReadWrite.{read-write, head-stands}
 use Rattle.layout.proofs.WriteRead.{head-back}
 use Rattle.damage.proofs.Undamaged.{in-bytes}
-use Rattle.firmware.specs.Answers.{Returned}
+use Rattle.calls.specs.Returned.{Returned}
 use Rattle.serial.proofs.Follows as follow
 use Rattle.machine.specs.Real.{real}
 use Rattle.machine.proofs.Lawful.{lawful}

@@ -10,7 +10,7 @@ use borrow.Fn.Kind.{PK, RK}
 use borrow.Fn.Kinds.{In, Out, Dens}
 use Rattle.base.specs.Decides.{Told}
 use Rattle.calls.specs.Bytes.{Buffers}
-use Rattle.firmware.specs.Answers.{Returned}
+use Rattle.calls.specs.Returned.{Returned}
 use Rattle.firmware.proofs.Decided as firmware
 use Rattle.firmware.proofs.fixlomand_fresh.Kinds as fresh-kinds
 use Rattle.firmware.proofs.fixlomand_fresh.Reads as fresh-reads

@@ -6,7 +6,7 @@ use mathlib.Core.List.{List}
 use Prim.Native.Nat.{ℕ, _%_}
 use native.Mathlib.Omega.{arith}
 use Rattle.calls.specs.Bytes.{Buffers, buffers, Left}
-use Rattle.firmware.specs.Answers.{Returned}
+use Rattle.calls.specs.Returned.{Returned}
 use Rattle.serial.specs.Core.{Call, take, tick, give, press}
 use Rattle.serial.specs.Run.{State, OkCalls, one-more, Begun, Reached, next, after, begin}
 use Rattle.serial.proofs.Runs.{reached-first, reached-next}

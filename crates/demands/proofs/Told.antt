@@ -8,7 +8,7 @@ use Rattle.layout.specs.InBytes.{Bytes}
 use Rattle.layout.proofs.WriteRead.{state-back}
 use Rattle.calls.specs.Bytes.{Buffers, Left, takeBytes, tickBytes, giveBytes}
 use Rattle.calls.specs.Parts.{Lengths}
-use Rattle.firmware.specs.Answers.{Returned, returned, answerOf, bothOf}
+use Rattle.calls.specs.Returned.{Returned, returned, answerOf, bothOf}
 use Rattle.rules.specs.Answers.{TakeAnswers, TickAnswers, GiveAnswers, PressAnswers}
 use Rattle.serial.specs.Core.{Call}
 use Rattle.serial.specs.Run.{Reached}

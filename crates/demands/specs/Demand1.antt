@@ -16,7 +16,7 @@ use Rattle.layout.specs.Stick.{Stick, Lent}
 use Rattle.layout.specs.Stands.{stands}
 use Rattle.calls.specs.Bytes.{Buffers, stickBy, lentBy}
 use Rattle.calls.specs.Parts.{Lengths}
-use Rattle.firmware.specs.Answers.{Returned}
+use Rattle.calls.specs.Returned.{Returned}
 use Rattle.rules.specs.Answers.{TakeAnswers, TickAnswers, GiveAnswers, PressAnswers, oneOf}
 use Rattle.demands.specs.Bytes.{SoundBuffers}
 use Rattle.demands.specs.Told.{lends, leaves, answerIn, portNamed, byteOffered, AnyCall, any-fresh, any-take, any-tick, any-give, any-press}

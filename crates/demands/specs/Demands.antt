@@ -17,7 +17,7 @@ use Rattle.layout.specs.Stands.{stands}
 use Rattle.layout.specs.InBytes.{Bytes, InBytes, Typed}
 use Rattle.damage.specs.Fits.{stickFits}
 use Rattle.calls.specs.Bytes.{Buffers, freshBytes, giveBytes}
-use Rattle.firmware.specs.Answers.{Returned, returned, answerOf}
+use Rattle.calls.specs.Returned.{Returned, returned, answerOf}
 use Rattle.firmware.proofs.fixlomand_fresh.Kinds as fresh-kinds
 use Rattle.firmware.proofs.fixlomand_fresh.Reads as fresh-reads
 use Rattle.firmware.proofs.fixlomand_take.Kinds as take-kinds

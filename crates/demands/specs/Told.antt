@@ -11,7 +11,7 @@ use borrow.Kind.MutSlice.{pMutS}
 use borrow.Fn.Kinds.{PK, Out, pNum, rNum}
 use Rattle.base.specs.Decides.{Told}
 use Rattle.calls.specs.Bytes.{Buffers, buffers, Left}
-use Rattle.firmware.specs.Answers.{Returned, returned, answerOf, bothOf}
+use Rattle.calls.specs.Returned.{Returned, returned, answerOf, bothOf}
 use Rattle.firmware.proofs.fixlomand_fresh.Kinds as fresh-kinds
 use Rattle.firmware.proofs.fixlomand_fresh.Reads as fresh-reads
 use Rattle.firmware.proofs.fixlomand_take.Kinds as take-kinds

@@ -2,7 +2,7 @@
 -- Assumes nothing.
 use mathlib.Core.Path.{refl, sym, _∙_, ap}
 use Rattle.base.specs.Decides.{Decides, Allows}
-use Rattle.firmware.specs.Answers.{Returned}
+use Rattle.calls.specs.Returned.{Returned}
 use Rattle.firmware.proofs.fixlomand_translate.Kinds as translate-kinds
 use Rattle.firmware.proofs.fixlomand_translate.Reads as translate-reads
 use Rattle.firmware.proofs.fixlomand_fresh.Kinds as fresh-kinds

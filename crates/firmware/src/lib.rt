@@ -1,10 +1,17 @@
 // What the port firmware, written in C, calls: key translation, and the five calls over a state that is lent as bytes. For C a
-// `&mut [u8]` is a pointer and a length.
+// `&mut [u8]` is a pointer and a length. No call trusts its caller to have checked anything: a buffer of another length is answered 2,
+// bytes that stand for no undamaged stick 3, a port above 1 with 1, and none of them changes a byte.
+use layout::places::AREA;
+use layout::places::STATE;
 ghost use mathlib.Core.Path.{_≡_};
-ghost use Prim.Native.Nat.{_+_, _*_};
 ghost use Rattle.keys.specs.Translation.{translateOf};
-ghost use Rattle.calls.specs.Bytes.{buffers, freshBytes, takeBytes, tickBytes, giveBytes, pressBytes};
-ghost use Rattle.firmware.specs.Answers.{returned, answerOf, bothOf};
+ghost use Rattle.calls.specs.Bytes.{buffers, fourFit, bytesRefusal, freshBytes, takeBytes, tickBytes, giveBytes, pressBytes};
+ghost use Rattle.calls.specs.Returned.{returned, answerOf, bothOf};
+
+// The cells of the lent screen, and the bytes of the lent paper.
+pub const SCREEN: usize = 61440;
+
+pub const PAPER: usize = 4096;
 
 // uint16_t fixlomand_translate(uint8_t code, uint8_t lock, uint8_t inverse)
 #[no_mangle]
@@ -14,7 +21,42 @@ pub extern "C" fn fixlomand_translate(code: u8, lock: u8, inverse: u8) -> u16
     keys::translate(code, lock, inverse)
 }
 
+fn lengths_fit(state: usize, area: usize, screen: usize, paper: usize) -> bool
+    ensures { λ r. ⌜ r ≡ fourFit state area screen paper ⌝ }
+{
+    if state == STATE {
+        if area == 2 * AREA {
+            if screen == SCREEN {
+                if paper == PAPER {
+                    return true;
+                }
+                return false;
+            }
+            return false;
+        }
+        return false;
+    }
+    false
+}
+
+// 2, 3 or 1, in this order, or 0.
+fn guard(state: &[u8], area: &[u8], screen: &[u8], paper: &[u8], port: u8) -> u8
+    ensures { λ r. ⌜ r ≡ bytesRefusal (buffers (now (state .entry)) (now (area .entry)) (now (screen .entry)) (now (paper .entry))) port ⌝ }
+{
+    if lengths_fit(state.len(), area.len(), screen.len(), paper.len()) {
+        if judge::undamaged(&state[..], &area[..], &screen[..], &paper[..]) {
+            if port < 2 {
+                return 0;
+            }
+            return 1;
+        }
+        return 3;
+    }
+    2
+}
+
 // uint8_t fixlomand_fresh(state, area, screen, paper), each a pointer and a length; the same eight in each call
+// Everything as it is when the stick is plugged in, whatever the state held.
 #[no_mangle]
 pub extern "C" fn fixlomand_fresh(
     state: &mut [u8],
@@ -24,11 +66,15 @@ pub extern "C" fn fixlomand_fresh(
 ) -> u8
     ensures { λ r. ⌜ returned r (buffers (now (state .exit)) (now (area .exit)) (now (screen .exit)) (now (paper .exit))) ≡ answerOf (freshBytes (buffers (now (state .entry)) (now (area .entry)) (now (screen .entry)) (now (paper .entry)))) ⌝ }
 {
-    let called = stick::fresh(state, area, screen, paper);
-    called.answer
+    if lengths_fit(state.len(), area.len(), screen.len(), paper.len()) {
+        stick::started::fresh_all(state, area, screen, paper);
+        return 0;
+    }
+    2
 }
 
 // uint8_t fixlomand_take(.., uint8_t port, uint8_t byte)
+// A byte offered by a port's host.
 #[no_mangle]
 pub extern "C" fn fixlomand_take(
     state: &mut [u8],
@@ -40,11 +86,15 @@ pub extern "C" fn fixlomand_take(
 ) -> u8
     ensures { λ r. ⌜ returned r (buffers (now (state .exit)) (now (area .exit)) (now (screen .exit)) (now (paper .exit))) ≡ answerOf (takeBytes (buffers (now (state .entry)) (now (area .entry)) (now (screen .entry)) (now (paper .entry))) port byte) ⌝ }
 {
-    let called = stick::take(state, area, screen, paper, port, byte);
-    called.answer
+    let refused = guard(state, area, screen, paper, port);
+    if refused == 0 {
+        return stick::served::take_at(port, byte, state, area, screen, paper);
+    }
+    refused
 }
 
 // uint8_t fixlomand_tick(.., uint8_t port)
+// A ready request starts, or a running one moves one character.
 #[no_mangle]
 pub extern "C" fn fixlomand_tick(
     state: &mut [u8],
@@ -55,18 +105,15 @@ pub extern "C" fn fixlomand_tick(
 ) -> u8
     ensures { λ r. ⌜ returned r (buffers (now (state .exit)) (now (area .exit)) (now (screen .exit)) (now (paper .exit))) ≡ answerOf (tickBytes (buffers (now (state .entry)) (now (area .entry)) (now (screen .entry)) (now (paper .entry))) port) ⌝ }
 {
-    let called = stick::tick(state, area, screen, paper, port);
-    called.answer
-}
-
-// The answer in the low byte, the reply byte in the high.
-fn both(answer: u8, byte: u8) -> u16
-    ensures { λ r. ⌜ r ≡ answer + 256 * byte ⌝ }
-{
-    answer as u16 + 256 * (byte as u16)
+    let refused = guard(state, area, screen, paper, port);
+    if refused == 0 {
+        return ticks::tick_at(port, state, area, screen, paper);
+    }
+    refused
 }
 
 // uint16_t fixlomand_give(.., uint8_t port)
+// The next byte of a port's reply: the answer in the low byte, the reply byte in the high.
 #[no_mangle]
 pub extern "C" fn fixlomand_give(
     state: &mut [u8],
@@ -77,11 +124,15 @@ pub extern "C" fn fixlomand_give(
 ) -> u16
     ensures { λ r. ⌜ returned r (buffers (now (state .exit)) (now (area .exit)) (now (screen .exit)) (now (paper .exit))) ≡ bothOf (giveBytes (buffers (now (state .entry)) (now (area .entry)) (now (screen .entry)) (now (paper .entry))) port) ⌝ }
 {
-    let called = stick::give(state, area, screen, paper, port);
-    both(called.answer, called.byte)
+    let refused = guard(state, area, screen, paper, port);
+    if refused == 0 {
+        return stick::served::give_at(port, state, area, screen, paper);
+    }
+    refused as u16
 }
 
 // uint8_t fixlomand_press(.., uint8_t code)
+// A key of the console.
 #[no_mangle]
 pub extern "C" fn fixlomand_press(
     state: &mut [u8],
@@ -92,6 +143,9 @@ pub extern "C" fn fixlomand_press(
 ) -> u8
     ensures { λ r. ⌜ returned r (buffers (now (state .exit)) (now (area .exit)) (now (screen .exit)) (now (paper .exit))) ≡ answerOf (pressBytes (buffers (now (state .entry)) (now (area .entry)) (now (screen .entry)) (now (paper .entry))) code) ⌝ }
 {
-    let called = stick::press(state, area, screen, paper, code);
-    called.answer
+    let refused = guard(state, area, screen, paper, 0);
+    if refused == 0 {
+        return stick::served::press_at(code, state, area, screen, paper);
+    }
+    refused
 }

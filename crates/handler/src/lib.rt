@@ -1,5 +1,7 @@
 // What CIO tells a device handler, and what the handler answers: for a character read, and for a character written or a device
 // opened.
+ghost use mathlib.Core.Path.{_≡_};
+ghost use Rattle.handler.specs.Acts.{asksOn};
 
 // What an act of a handler may know: the port and the IOCB that it is for; of an opening also AUX1, AUX2 and where in the area the
 // name behind the specification begins. Of an act on an open block those three are 0.
@@ -9,6 +11,19 @@ pub struct Asked {
     pub aux1: u8,
     pub aux2: u8,
     pub name: u32,
+}
+
+// What an act on an open block may know.
+pub fn on_block(port: u8, iocb: u8) -> Asked
+    ensures { λ r. ⌜ r ≡ asksOn port iocb ⌝ }
+{
+    Asked {
+        port: port,
+        iocb: iocb,
+        aux1: 0,
+        aux2: 0,
+        name: 0,
+    }
 }
 
 // A GET: the character, or a refusal with its status from $80.

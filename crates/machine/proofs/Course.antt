@@ -26,8 +26,8 @@ use Rattle.plan.specs.declared.Plan.the-variants as plan
 use Rattle.plan.specs.declared.Work.{Work}
 use Rattle.plan.specs.declared.Work.the-variants as work
 use Rattle.plan.specs.Plan.{planOf, groupNeeded}
+use Rattle.moves.specs.Move.{Went, went}
 use Rattle.cio.specs.Start.{loadStatus, Begun, transferOf, workOf}
-use Rattle.cio.specs.Move.{Went, went}
 use Rattle.alone.specs.Transfer.{point}
 use Rattle.alone.specs.Left.{deviceLeft}
 use Rattle.alone.specs.Alone.{Said, askedOf, bytesOf, Local, AloneOn, aloneOpening, aloneWork, aloneOnDevice, aloneErrand, alonePlan, aloneOf}

@@ -31,8 +31,8 @@ use Rattle.plan.specs.declared.Job.{Job}
 use Rattle.plan.specs.declared.Plan.{Plan}
 use Rattle.plan.specs.declared.Plan.the-variants as plan
 use Rattle.plan.specs.Plan.{planOf, groupNeeded}
+use Rattle.moves.specs.Move.{advanceOf}
 use Rattle.cio.specs.Start.{loadStatus, Begun}
-use Rattle.cio.specs.Move.{advanceOf}
 use Rattle.alone.specs.Alone.{Said, askedOf, bytesOf, Local, local, withArea, withOwnBlock, AloneOn, aloneOnDevice, aloneErrand, alonePlan, aloneOf}
 use Rattle.alone.specs.Fit.{FitLocal, UsedBy}
 use Rattle.alone.specs.Moves.{mostMoves, moves, begunBy, JobEnds, IsAlone}
@@ -104,14 +104,14 @@ module _ (device : Device) where
   }
   out-fit (transfer.ends reply) l x f = tt
 
-  -- a move as `cio` makes it, and as the machine does
+  -- a move as `moves` makes it, and as the machine does
   pub move-is : (run : Run) → run .device ≡ device → (l : Local) (x : Part own) → moveBy own run l x ≡ wentBy l (advanceOf (deviceActs device) (l .number) run (l .area) x)
   unfolding moveBy
   move-is run e l x =
       ap (λ (d : Device). wentBy l (advanceOf (actsIn own (ownerOf d)) (l .number) run (l .area) x)) e
       ∙ ap (λ (H : Asked → Acts (Part own)). wentBy l (advanceOf H (l .number) run (l .area) x)) (own-acts device)
 
-  -- n moves of the machine are n of `cio`
+  -- n moves of the machine are n of `moves`
   finish-moves : (n : ℕ) (out : transfer.Out) (l : Local) (x : Part own) → FitPart own x → FitOut device out (l .table) x
       → finishOut real n own (outBy out) l x ≡ wentBy l (moves (deviceActs device) (l .number) n out (l .area) x)
   unfolding finishOut moves

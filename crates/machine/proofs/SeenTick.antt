@@ -33,8 +33,8 @@ use Rattle.plan.specs.declared.Errand.the-variants as errand
 use Rattle.plan.specs.declared.Plan.{Plan}
 use Rattle.plan.specs.declared.Plan.the-variants as plan
 use Rattle.plan.specs.Plan.{planOf, groupNeeded}
+use Rattle.moves.specs.Move.{advanceOf}
 use Rattle.cio.specs.Start.{Freed, startOf}
-use Rattle.cio.specs.Move.{advanceOf}
 use Rattle.calls.specs.Port.{portWith, Reach, reach, startPlan, moveRun, Ticked, ticked, readyTick, tickPort}
 use Rattle.alone.specs.Alone.{Said, askedOf, bytesOf, saidOf, Local, local, aloneErrand, alonePlan, aloneOf}
 use Rattle.alone.specs.Fit.{FitLocal}

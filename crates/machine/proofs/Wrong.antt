@@ -30,8 +30,8 @@ use Rattle.transfer.specs.Transfer.{onwardOf, recordOf, gotCharacter, gotOf, se
 use Rattle.devices.specs.declared.Group.{Group}
 use Rattle.devices.specs.declared.Group.the-variants as groups
 use Rattle.plan.specs.Plan.{commandOf, wayOf, nameOf, areaPlan, transferPlan, blockPlan, callPlan, planIn, planOf}
+use Rattle.moves.specs.Move as moves
 use Rattle.cio.specs.Start.{loadedOf, loadStatus, thenOf, openedOf, openingOf, transferOf, workOf}
-use Rattle.cio.specs.Move as moves
 use Rattle.alone.specs.Transfer.{getOne, putOne, getCharacters, dropLine, getRecord, putCharacters, putRecord, getting, putting, transferred}
 use Rattle.alone.specs.Left.{leftE, leftK, consoleLeft}
 use Rattle.alone.specs.Alone.{Said, call, load, fetch, aloneOpening, aloneTransfer, aloneWork, loaded, aloneErrand, alonePlan, aloneOf}

@@ -30,8 +30,8 @@ use Rattle.plan.specs.declared.Job.{Job}
 use Rattle.plan.specs.declared.Plan.{Plan}
 use Rattle.plan.specs.declared.Plan.the-variants as plan
 use Rattle.plan.specs.Plan.{planOf, needOf}
+use Rattle.moves.specs.Move.{Went, advanceOf}
 use Rattle.cio.specs.Start.{loadStatus, Begun}
-use Rattle.cio.specs.Move.{Went, advanceOf}
 use Rattle.alone.specs.Alone.{Said, askedOf, bytesOf, Local, withArea, withOwnBlock, loaded, aloneOf}
 use Rattle.alone.specs.Fit.{FitLocal}
 use Rattle.alone.specs.Moves.{mostMoves, begunBy}

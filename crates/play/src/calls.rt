@@ -1,9 +1,8 @@
 // The stick's calls, and what is written for each.
 use crate::lengths::LentLengths;
-use crate::ops::Operation;
-use crate::say;
 use layout::places;
-use stick::Answered;
+use script::ops::Operation;
+use script::say;
 ghost use Prim.Native.Nat.{_≤_};
 
 // A port's first byte, while it runs.
@@ -30,48 +29,51 @@ fn ticks(
     paper: &mut [u8],
     port: u8,
     most: u16,
-) -> Answered {
+) -> u8 {
     let mut answer: u8 = 0;
     let mut ticks: u16 = 0;
     let mut left = most;
     while 0 < left {
-        let ticked = stick::tick(state, area, screen, paper, port);
-        answer = ticked.answer;
+        answer = firmware::fixlomand_tick(state, area, screen, paper, port);
         ticks += 1;
         left = following(state, port, answer, left - 1);
     }
     say::word(ticks);
-    Answered {
-        answer: answer,
-        byte: 0,
-    }
+    answer
 }
 
+// The answer in the low byte; of a give the reply byte in the high one.
 fn perform(
     call: Operation,
     state: &mut [u8],
     area: &mut [u8],
     screen: &mut [u8],
     paper: &mut [u8],
-) -> Answered {
+) -> u16 {
     match call {
-        Operation::Fresh => stick::fresh(state, area, screen, paper),
-        Operation::Take(port, byte) => stick::take(state, area, screen, paper, port, byte),
-        Operation::Tick(port) => stick::tick(state, area, screen, paper, port),
-        Operation::Give(port) => stick::give(state, area, screen, paper, port),
-        Operation::Press(code) => stick::press(state, area, screen, paper, code),
-        Operation::Ticks(port, most) => ticks(state, area, screen, paper, port, most),
+        Operation::Fresh => firmware::fixlomand_fresh(state, area, screen, paper) as u16,
+        Operation::Take(port, byte) => {
+            firmware::fixlomand_take(state, area, screen, paper, port, byte) as u16
+        }
+        Operation::Tick(port) => {
+            firmware::fixlomand_tick(state, area, screen, paper, port) as u16
+        }
+        Operation::Give(port) => firmware::fixlomand_give(state, area, screen, paper, port),
+        Operation::Press(code) => {
+            firmware::fixlomand_press(state, area, screen, paper, code) as u16
+        }
+        Operation::Ticks(port, most) => ticks(state, area, screen, paper, port, most) as u16,
     }
 }
 
 // A call's answer, and the reply byte if it asks for one.
-fn write(call: Operation, answered: Answered) {
-    say::byte(answered.answer);
+fn write(call: Operation, number: u16) {
+    say::byte((number % 256) as u8);
     match call {
         Operation::Fresh => {}
         Operation::Take(port, byte) => {}
         Operation::Tick(port) => {}
-        Operation::Give(port) => say::byte(answered.byte),
+        Operation::Give(port) => say::byte((number / 256) as u8),
         Operation::Press(code) => {}
         Operation::Ticks(port, most) => {}
     }
@@ -90,12 +92,12 @@ pub fn perform_cut(
     let area_end = io::count(lengths.area as isize, area);
     let screen_end = io::count(lengths.screen as isize, screen);
     let paper_end = io::count(lengths.paper as isize, paper);
-    let answered = perform(
+    let number = perform(
         call,
         &mut state[..state_end],
         &mut area[..area_end],
         &mut screen[..screen_end],
         &mut paper[..paper_end],
     );
-    write(call, answered);
+    write(call, number);
 }

@@ -12,8 +12,8 @@ impl LentLengths {
     pub fn whole() -> LentLengths {
         LentLengths {
             area: 2 * places::AREA as u32,
-            screen: stick::SCREEN as u32,
-            paper: stick::PAPER as u32,
+            screen: firmware::SCREEN as u32,
+            paper: firmware::PAPER as u32,
             state: places::STATE as u32,
         }
     }

@@ -2,13 +2,10 @@
 // read. It ends with the input, with an op cut by its end, or with a byte that is no op.
 use layout::places;
 use lengths::LentLengths;
-use ops::Op;
+use script::ops::Op;
 
 mod calls;
-mod dump;
 mod lengths;
-mod ops;
-mod say;
 
 // Plays an op; how much of each buffer is lent after it.
 fn play(
@@ -23,7 +20,7 @@ fn play(
         Op::End => lengths,
         Op::Lend(which, length) => lengths.lend(which, length),
         Op::Dump => {
-            dump::write(state, area, screen, paper);
+            script::dump::write(state, area, screen, paper);
             lengths
         }
         Op::Operation(call) => {
@@ -37,18 +34,18 @@ fn play(
 fn main() {
     let mut some_state = [0u8; places::STATE];
     let mut some_area = [0u8; 2 * places::AREA];
-    let mut some_screen = [0u8; stick::SCREEN];
-    let mut some_paper = [0u8; stick::PAPER];
+    let mut some_screen = [0u8; firmware::SCREEN];
+    let mut some_paper = [0u8; firmware::PAPER];
     let state: &mut [u8] = &mut some_state;
     let area: &mut [u8] = &mut some_area;
     let screen: &mut [u8] = &mut some_screen;
     let paper: &mut [u8] = &mut some_paper;
-    stick::fresh(state, area, screen, paper);
+    firmware::fixlomand_fresh(state, area, screen, paper);
     let mut lengths = LentLengths::whole();
     let mut i: u64 = 0;
     while i < u64::MAX {
-        let op = ops::read();
-        if ops::ends(op) {
+        let op = script::ops::read();
+        if script::ops::ends(op) {
             return;
         }
         lengths = play(op, lengths, state, area, screen, paper);

@@ -44,8 +44,8 @@ use Rattle.devices.proofs.Frame.{get-apart, clash-swap}
 use Rattle.plan.specs.declared.Plan.{Plan}
 use Rattle.plan.specs.declared.Plan.the-variants as plan
 use Rattle.plan.specs.Plan.{planOf, groupNeeded}
+use Rattle.moves.specs.Move.{advanceOf}
 use Rattle.cio.specs.Start.{errandOf, jobBegun, startOf}
-use Rattle.cio.specs.Move.{advanceOf}
 use Rattle.damage.specs.Fits.{allows, openFor, inUse, spans, runFits, phaseFits, portFits}
 use Rattle.calls.specs.Port.{portWith, Reach, reach, startPlan, moveRun, Ticked, readyTick, tickPort, takePort, givePort}
 use Rattle.alone.specs.Fit.{UsedBy}

@@ -37,8 +37,8 @@ use Rattle.plan.specs.declared.Errand.the-variants as errand
 use Rattle.plan.specs.declared.Plan.{Plan}
 use Rattle.plan.specs.declared.Plan.the-variants as plan
 use Rattle.plan.specs.Plan.{planOf, groupNeeded}
+use Rattle.moves.specs.Move.{getOf, putOf, goOf, advanceOf}
 use Rattle.cio.specs.Start.{loadFits, loadedOf, loadStatus, loadOf, errandOf, jobBegun, startOf}
-use Rattle.cio.specs.Move.{getOf, putOf, goOf, advanceOf}
 use Rattle.calls.specs.Port.{Reach, startPlan, moveRun, Ticked, ticked, readyTick, tickPort, takePort, givePort}
 use Rattle.calls.specs.Stick.{refused, areaAt, roomAt, withGroups, reachAt, withReach}
 use Rattle.calls.specs.Calls.{takeAt, takeCall, tickAt, tickCall, giveAt, giveCall, consoleHeld, pressAt, pressCall}

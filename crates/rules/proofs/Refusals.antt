@@ -59,8 +59,8 @@ use Rattle.plan.specs.declared.Job.{Job}
 use Rattle.plan.specs.declared.Work.{Work}
 use Rattle.plan.specs.declared.Work.the-variants as work
 use Rattle.plan.specs.Plan.{wayOf}
+use Rattle.moves.specs.Move.{went, getOf, putOf, goOf, moveOf, advanceOf}
 use Rattle.cio.specs.Start.{loadFits, loadStatus, loadedOf, loadOf, errandOf, Begun, over, openingOf, preparedOut, transferOf, workOf, runOf, startOf, blockAfter, jobBegun, openedBy, openedOf, thenOf}
-use Rattle.cio.specs.Move.{went, getOf, putOf, goOf, moveOf, advanceOf}
 use Rattle.calls.specs.Stick.{paperLength}
 use Rattle.rules.proofs.Statuses.{statusIn, never, openingOn, says-01, says-84}
 

@@ -57,8 +57,8 @@ use Rattle.plan.specs.declared.Plan.the-variants as plan
 use Rattle.plan.specs.declared.Work.{Work}
 use Rattle.plan.specs.declared.Work.the-variants as work
 use Rattle.plan.specs.Plan.{commandOf, wayOf, kindOf, openPlan, areaPlan, transferPlan, blockPlan, callPlan, planIn, planOf}
+use Rattle.moves.specs.Move.{Went, advanceOf}
 use Rattle.cio.specs.Start.{loadFits, loadedOf, loadStatus, Freed, loadOf, errandOf, Begun, over, runOf, openedOf, openingOf, preparedOut, transferOf, workOf, jobBegun}
-use Rattle.cio.specs.Move.{Went, advanceOf}
 use Rattle.alone.specs.Left.{deviceLeft}
 use Rattle.alone.specs.Fit.{UsedBy, FitOwn}
 use Rattle.alone.specs.Moves.{Starts}

@@ -3,20 +3,10 @@
 use mathlib.Core.Path.{_≡_, refl, sym, _∙_, ap}
 use Rattle.base.specs.Decides.{Decides, Allows}
 use Rattle.calls.specs.Calls.{giveAt}
+use Rattle.calls.specs.Returned.{Returned}
 use Rattle.calls.specs.Bytes.{Buffers, Left}
 use Rattle.calls.specs.Parts.{freshOn}
-use Rattle.stick.specs.declared.Answered.{Answered}
 use Rattle.stick.proofs.Allowed.{take-leaves, press-leaves}
-use Rattle.stick.proofs.fresh.Kinds as fresh-kinds
-use Rattle.stick.proofs.fresh.Reads as fresh-reads
-use Rattle.stick.proofs.take.Kinds as take-kinds
-use Rattle.stick.proofs.take.Reads as take-reads
-use Rattle.stick.proofs.tick.Kinds as tick-kinds
-use Rattle.stick.proofs.tick.Reads as tick-reads
-use Rattle.stick.proofs.give.Kinds as give-kinds
-use Rattle.stick.proofs.give.Reads as give-reads
-use Rattle.stick.proofs.press.Kinds as press-kinds
-use Rattle.stick.proofs.press.Reads as press-reads
 use Rattle.stick.proofs.served.take_at.Kinds as take-at-kinds
 use Rattle.stick.proofs.served.take_at.Reads as take-at-reads
 use Rattle.stick.proofs.served.give_at.Kinds as give-at-kinds
@@ -26,36 +16,6 @@ use Rattle.stick.proofs.served.press_at.Reads as press-at-reads
 use Rattle.stick.proofs.started.fresh_all.Kinds as fresh-all-kinds
 use Rattle.stick.proofs.started.fresh_all.Reads as fresh-all-reads
 
-pub fresh-decides : Decides 4 fresh-kinds.ps fresh-kinds.r fresh-reads.Pre fresh-reads.Learnt
-fresh-decides κs a z z′ ws ws′ p e e′ = let q = e ∙ sym e′ in (ap (λ (w : Left). record { answer = w .answer; byte = w .byte }) q, ap (λ (w : Left). (w .buffers .state, (w .buffers .area, (w .buffers .screen, (w .buffers .paper, tt))))) q)
-
-pub fresh-allows : Allows 4 fresh-kinds.ps fresh-kinds.r fresh-reads.Pre fresh-reads.Learnt
-fresh-allows κs a p = (_, (_, refl))
-
-pub take-decides : Decides 4 take-kinds.ps take-kinds.r take-reads.Pre take-reads.Learnt
-take-decides κs a z z′ ws ws′ p e e′ = let q = e ∙ sym e′ in (ap (λ (w : Left). record { answer = w .answer; byte = w .byte }) q, ap (λ (w : Left). (w .buffers .state, (w .buffers .area, (w .buffers .screen, (w .buffers .paper, (tt, (tt, tt))))))) q)
-
-pub take-allows : Allows 4 take-kinds.ps take-kinds.r take-reads.Pre take-reads.Learnt
-take-allows κs a p = (_, (_, refl))
-
-pub tick-decides : Decides 4 tick-kinds.ps tick-kinds.r tick-reads.Pre tick-reads.Learnt
-tick-decides κs a z z′ ws ws′ p e e′ = let q = e ∙ sym e′ in (ap (λ (w : Left). record { answer = w .answer; byte = w .byte }) q, ap (λ (w : Left). (w .buffers .state, (w .buffers .area, (w .buffers .screen, (w .buffers .paper, (tt, tt)))))) q)
-
-pub tick-allows : Allows 4 tick-kinds.ps tick-kinds.r tick-reads.Pre tick-reads.Learnt
-tick-allows κs a p = (_, (_, refl))
-
-pub give-decides : Decides 4 give-kinds.ps give-kinds.r give-reads.Pre give-reads.Learnt
-give-decides κs a z z′ ws ws′ p e e′ = let q = e ∙ sym e′ in (ap (λ (w : Left). record { answer = w .answer; byte = w .byte }) q, ap (λ (w : Left). (w .buffers .state, (w .buffers .area, (w .buffers .screen, (w .buffers .paper, (tt, tt)))))) q)
-
-pub give-allows : Allows 4 give-kinds.ps give-kinds.r give-reads.Pre give-reads.Learnt
-give-allows κs a p = (_, (_, refl))
-
-pub press-decides : Decides 4 press-kinds.ps press-kinds.r press-reads.Pre press-reads.Learnt
-press-decides κs a z z′ ws ws′ p e e′ = let q = e ∙ sym e′ in (ap (λ (w : Left). record { answer = w .answer; byte = w .byte }) q, ap (λ (w : Left). (w .buffers .state, (w .buffers .area, (w .buffers .screen, (w .buffers .paper, (tt, tt)))))) q)
-
-pub press-allows : Allows 4 press-kinds.ps press-kinds.r press-reads.Pre press-reads.Learnt
-press-allows κs a p = (_, (_, refl))
-
 pub take-at-decides : Decides 4 take-at-kinds.ps take-at-kinds.r take-at-reads.Pre take-at-reads.Learnt
 take-at-decides κs a z z′ ws ws′ p e e′ = let q = e ∙ sym e′ in (ap (λ (w : Left). w .answer) q, ap (λ (w : Left). (tt, (tt, (w .buffers .state, (tt, (tt, (tt, tt))))))) q)
 
@@ -63,7 +23,7 @@ pub take-at-allows : Allows 4 take-at-kinds.ps take-at-kinds.r take-at-reads.Pre
 take-at-allows κs a p = (_, (_, take-leaves _ _ _))
 
 pub give-at-decides : Decides 4 give-at-kinds.ps give-at-kinds.r give-at-reads.Pre give-at-reads.Learnt
-give-at-decides κs a z z′ ws ws′ p e e′ = let q = e ∙ sym e′ in (ap (λ (w : Left). record { answer = w .answer; byte = w .byte }) q, ap (λ (w : Left). (tt, (w .buffers .state, (tt, (tt, (tt, tt)))))) q)
+give-at-decides κs a z z′ ws ws′ p e e′ = let q = e ∙ sym e′ in (ap (λ (w : Returned). w .number) q, ap (λ (w : Returned). (tt, (w .buffers .state, (tt, (tt, (tt, tt)))))) q)
 
 pub give-at-allows : Allows 4 give-at-kinds.ps give-at-kinds.r give-at-reads.Pre give-at-reads.Learnt
 unfolding giveAt

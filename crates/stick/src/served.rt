@@ -1,11 +1,12 @@
 // A take, a give and a press that are not refused: each reads and writes the port's phase and room, or the console's numbers.
-use crate::Answered;
 use devices::Group;
 use layout::places::DEVICES;
 use layout::places::ROOM;
 use layout::places::ROOMS;
 ghost use mathlib.Core.Path.{_≡_};
+ghost use Prim.Native.Nat.{_+_, _*_};
 ghost use Rattle.calls.specs.Calls.{takeAt, giveAt, pressAt};
+ghost use Rattle.calls.specs.Returned.{returned, bothOf};
 ghost use Rattle.calls.specs.Bytes.{buffers, left, leftOf, stickBy, lentBy};
 ghost use Rattle.calls.specs.Parts.{Called, Rooms, consoleHeldOn, keyOn};
 
@@ -30,10 +31,17 @@ pub fn take_at(port: u8, byte: u8, state: &mut [u8], area: &[u8], screen: &[u8],
     4
 }
 
-// The next byte of a port's reply.
-pub fn give_at(port: u8, state: &mut [u8], area: &[u8], screen: &[u8], paper: &[u8]) -> Answered
+// The answer in the low byte, the reply byte in the high.
+fn both(answer: u8, byte: u8) -> u16
+    ensures { λ r. ⌜ r ≡ answer + 256 * byte ⌝ }
+{
+    answer as u16 + 256 * (byte as u16)
+}
+
+// The next byte of a port's reply, above the answer.
+pub fn give_at(port: u8, state: &mut [u8], area: &[u8], screen: &[u8], paper: &[u8]) -> u16
     requires { ⌜ Called port (buffers (now state) (now area) (now screen) (now paper)) ⌝ }
-    ensures { λ r. ⌜ left (r .answer) (r .byte) (buffers (now (state .exit)) (now (area .entry)) (now (screen .entry)) (now (paper .entry))) ≡ leftOf (giveAt port (stickBy (buffers (now (state .entry)) (now (area .entry)) (now (screen .entry)) (now (paper .entry)))) (lentBy (buffers (now (state .entry)) (now (area .entry)) (now (screen .entry)) (now (paper .entry))))) ⌝ }
+    ensures { λ r. ⌜ returned r (buffers (now (state .exit)) (now (area .entry)) (now (screen .entry)) (now (paper .entry))) ≡ bothOf (leftOf (giveAt port (stickBy (buffers (now (state .entry)) (now (area .entry)) (now (screen .entry)) (now (paper .entry)))) (lentBy (buffers (now (state .entry)) (now (area .entry)) (now (screen .entry)) (now (paper .entry)))))) ⌝ }
 {
     let room = ROOMS + ROOM * (port as usize);
     let past = room + ROOM;
@@ -42,12 +50,9 @@ pub fn give_at(port: u8, state: &mut [u8], area: &[u8], screen: &[u8], paper: &[
         let given = wire::give(reply, &state[room..past]);
         let next = given.phase;
         ports::set_phase(port, next, state);
-        return Answered {
-            answer: 0,
-            byte: given.byte,
-        };
+        return both(0, given.byte);
     }
-    Answered { answer: 5, byte: 0 }
+    both(5, 0)
 }
 
 // A port's running request holds the console.

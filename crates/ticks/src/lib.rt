@@ -67,7 +67,7 @@ fn advance_at(
 {
     let from = AREA * (port as usize);
     let end = from + AREA;
-    let carried = cio::moves::advance(
+    let carried = moves::advance(
         port,
         run,
         &mut area[from..end],

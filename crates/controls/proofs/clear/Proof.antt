@@ -5,17 +5,11 @@ use borrow.Author.Needs.{needs}
 use Rattle.controls.proofs.clear.Statement.{statement}
 use Rattle.controls.proofs.clear.Tie as tie
 
-fill-requires : tie.Need-fill-requires
-fill-requires c κs = search needs
-
-place-requires : tie.Need-place-requires
-place-requires c κs = search needs
-
-same-length : tie.Need-same-length
-same-length c = search needs
-
-returns : tie.Need-returns
-returns c = search clear-law
-
 pub clear-spec : {M : Type 1} → statement M
-clear-spec = tie.close (tie.spec fill-requires place-requires same-length returns)
+clear-spec =
+    tie.close
+    (tie.spec
+    (λ c κs. search needs)  -- fill-requires
+    (λ c κs. search needs)  -- place-requires
+    (λ c. search needs)  -- same-length
+    (λ c. search clear-law))  -- returns

@@ -6,16 +6,11 @@ use borrow.Author.Needs.{needs}
 use Rattle.controls.proofs.less.Statement.{statement}
 use Rattle.controls.proofs.less.Tie as tie
 
-returns : tie.Need-returns
-unfolding lessOf
-returns c = search tests
-
-sub-result : tie.Need-sub-result
-sub-result c = search needs
-
-returns-2 : tie.Need-returns-2
-unfolding lessOf
-returns-2 c = search tests
-
 pub less-spec : {M : Type 1} → statement M
-less-spec = tie.close (tie.spec returns sub-result returns-2)
+unfolding lessOf
+less-spec =
+    tie.close
+    (tie.spec
+    (λ c. search tests)  -- returns
+    (λ c. search needs)  -- sub-result
+    (λ c. search tests))  -- returns-2

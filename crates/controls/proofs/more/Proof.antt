@@ -6,16 +6,11 @@ use borrow.Author.Needs.{needs}
 use Rattle.controls.proofs.more.Statement.{statement}
 use Rattle.controls.proofs.more.Tie as tie
 
-returns : tie.Need-returns
-unfolding moreOf
-returns c = search tests
-
-add-result : tie.Need-add-result
-add-result c = search needs
-
-returns-2 : tie.Need-returns-2
-unfolding moreOf
-returns-2 c = search tests
-
 pub more-spec : {M : Type 1} → statement M
-more-spec = tie.close (tie.spec returns add-result returns-2)
+unfolding moreOf
+more-spec =
+    tie.close
+    (tie.spec
+    (λ c. search tests)  -- returns
+    (λ c. search needs)  -- add-result
+    (λ c. search tests))  -- returns-2

@@ -5,31 +5,15 @@ use borrow.Author.Needs.{needs}
 use Rattle.devices.proofs.owner_of.Statement.{statement}
 use Rattle.devices.proofs.owner_of.Tie as tie
 
-enum-told : tie.Need-enum-told
-enum-told c = search needs
-
-enum-told-2 : tie.Need-enum-told-2
-enum-told-2 c = search needs
-
-enum-told-3 : tie.Need-enum-told-3
-enum-told-3 c = search needs
-
-enum-told-4 : tie.Need-enum-told-4
-enum-told-4 c = search needs
-
-returns : tie.Need-returns
-returns c = search owner-arm
-
-returns-2 : tie.Need-returns-2
-returns-2 c = search owner-arm
-
-returns-3 : tie.Need-returns-3
-returns-3 c = search owner-arm
-
-returns-4 : tie.Need-returns-4
-returns-4 c = search needs
-
 pub owner-of-spec : {M : Type 1} → statement M
 owner-of-spec =
     tie.close
-    (tie.spec enum-told enum-told-2 enum-told-3 enum-told-4 returns returns-2 returns-3 returns-4)
+    (tie.spec
+    (λ c. search needs)  -- enum-told
+    (λ c. search needs)  -- enum-told-2
+    (λ c. search needs)  -- enum-told-3
+    (λ c. search needs)  -- enum-told-4
+    (λ c. search owner-arm)  -- returns
+    (λ c. search owner-arm)  -- returns-2
+    (λ c. search owner-arm)  -- returns-3
+    (λ c. search needs))  -- returns-4

@@ -1,39 +1,24 @@
--- `fixlomand_give` meets its contract, by `both-of`.
+-- `fixlomand_give` meets its contract, by `called-of`, `give-passed` and `give-refused`.
 -- Assumes nothing.
-use Rattle.firmware.proofs.Calls.{both-of}
+use Rattle.calls.proofs.Passing.{called-of, give-passed, give-refused}
 use borrow.Author.Needs.{needs}
 use Rattle.firmware.proofs.fixlomand_give.Statement.{statement}
 use Rattle.firmware.proofs.fixlomand_give.Tie as tie
-
-give-requires : tie.Need-give-requires
-give-requires c κs = search needs
-
-both-requires : tie.Need-both-requires
-both-requires c κs = search needs
-
-same-length : tie.Need-same-length
-same-length c = search needs
-
-same-length-2 : tie.Need-same-length-2
-same-length-2 c = search needs
-
-same-length-3 : tie.Need-same-length-3
-same-length-3 c = search needs
-
-same-length-4 : tie.Need-same-length-4
-same-length-4 c = search needs
-
-returns : tie.Need-returns
-returns c = search both-of
 
 pub fixlomand-give-spec : {M : Type 1} → statement M
 fixlomand-give-spec =
     tie.close
     (tie.spec
-    give-requires
-    both-requires
-    same-length
-    same-length-2
-    same-length-3
-    same-length-4
-    returns)
+    (λ c κs. search needs)  -- guard-requires
+    (λ c κs. called-of _ (c .before .before .before .before .before .before .before .before .before .before .before .before .before .slice-known .given) _ _ _ _ _ (c .before .before .before .before .before .guard .ensures) (c .before .before .before .before .if1 .taken))  -- give-at-requires
+    (λ c. search needs)  -- same-length
+    (λ c. search needs)  -- same-length-2
+    (λ c. search needs)  -- same-length-3
+    (λ c. search needs)  -- same-length-4
+    (λ c. search give-passed)  -- returns
+    (λ c. search needs)  -- cast-result
+    (λ c. search needs)  -- same-length-5
+    (λ c. search needs)  -- same-length-6
+    (λ c. search needs)  -- same-length-7
+    (λ c. search needs)  -- same-length-8
+    (λ c. search give-refused))  -- returns-2

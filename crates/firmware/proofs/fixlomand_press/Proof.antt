@@ -1,29 +1,23 @@
--- `fixlomand_press` meets its contract, by `answer-of`.
+-- `fixlomand_press` meets its contract, by `called-of`, `press-passed` and `press-refused`.
 -- Assumes nothing.
-use Rattle.firmware.proofs.Calls.{answer-of}
+use Rattle.calls.proofs.Passing.{called-of, press-passed, press-refused}
 use borrow.Author.Needs.{needs}
 use Rattle.firmware.proofs.fixlomand_press.Statement.{statement}
 use Rattle.firmware.proofs.fixlomand_press.Tie as tie
 
-press-requires : tie.Need-press-requires
-press-requires c κs = search needs
-
-same-length : tie.Need-same-length
-same-length c = search needs
-
-same-length-2 : tie.Need-same-length-2
-same-length-2 c = search needs
-
-same-length-3 : tie.Need-same-length-3
-same-length-3 c = search needs
-
-same-length-4 : tie.Need-same-length-4
-same-length-4 c = search needs
-
-returns : tie.Need-returns
-returns c = search answer-of
-
 pub fixlomand-press-spec : {M : Type 1} → statement M
 fixlomand-press-spec =
     tie.close
-    (tie.spec press-requires same-length same-length-2 same-length-3 same-length-4 returns)
+    (tie.spec
+    (λ c κs. search needs)  -- guard-requires
+    (λ c κs. called-of _ (c .before .before .before .before .before .before .before .before .before .before .before .before .before .slice-known .given) _ _ _ _ _ (c .before .before .before .before .before .guard .ensures) (c .before .before .before .before .if1 .taken))  -- press-at-requires
+    (λ c. search needs)  -- same-length
+    (λ c. search needs)  -- same-length-2
+    (λ c. search needs)  -- same-length-3
+    (λ c. search needs)  -- same-length-4
+    (λ c. search press-passed)  -- returns
+    (λ c. search needs)  -- same-length-5
+    (λ c. search needs)  -- same-length-6
+    (λ c. search needs)  -- same-length-7
+    (λ c. search needs)  -- same-length-8
+    (λ c. search press-refused))  -- returns-2

@@ -1,29 +1,23 @@
--- `fixlomand_tick` meets its contract, by `answer-of`.
+-- `fixlomand_tick` meets its contract, by `called-of`, `tick-passed` and `tick-refused`.
 -- Assumes nothing.
-use Rattle.firmware.proofs.Calls.{answer-of}
+use Rattle.calls.proofs.Passing.{called-of, tick-passed, tick-refused}
 use borrow.Author.Needs.{needs}
 use Rattle.firmware.proofs.fixlomand_tick.Statement.{statement}
 use Rattle.firmware.proofs.fixlomand_tick.Tie as tie
 
-tick-requires : tie.Need-tick-requires
-tick-requires c κs = search needs
-
-same-length : tie.Need-same-length
-same-length c = search needs
-
-same-length-2 : tie.Need-same-length-2
-same-length-2 c = search needs
-
-same-length-3 : tie.Need-same-length-3
-same-length-3 c = search needs
-
-same-length-4 : tie.Need-same-length-4
-same-length-4 c = search needs
-
-returns : tie.Need-returns
-returns c = search answer-of
-
 pub fixlomand-tick-spec : {M : Type 1} → statement M
 fixlomand-tick-spec =
     tie.close
-    (tie.spec tick-requires same-length same-length-2 same-length-3 same-length-4 returns)
+    (tie.spec
+    (λ c κs. search needs)  -- guard-requires
+    (λ c κs. called-of _ (c .before .before .before .before .before .before .before .before .before .before .before .before .before .slice-known .given) _ _ _ _ _ (c .before .before .before .before .before .guard .ensures) (c .before .before .before .before .if1 .taken))  -- tick-at-requires
+    (λ c. search needs)  -- same-length
+    (λ c. search needs)  -- same-length-2
+    (λ c. search needs)  -- same-length-3
+    (λ c. search needs)  -- same-length-4
+    (λ c. search tick-passed)  -- returns
+    (λ c. search needs)  -- same-length-5
+    (λ c. search needs)  -- same-length-6
+    (λ c. search needs)  -- same-length-7
+    (λ c. search needs)  -- same-length-8
+    (λ c. search tick-refused))  -- returns-2

@@ -6,20 +6,12 @@ use borrow.Author.Needs.{needs}
 use Rattle.graphics.proofs.get.Statement.{statement}
 use Rattle.graphics.proofs.get.Tie as tie
 
-shape-of-requires : tie.Need-shape-of-requires
-shape-of-requires c κs = search needs
-
-read-requires : tie.Need-read-requires
-read-requires c κs = search shape-colours
-
-move-on-requires : tie.Need-move-on-requires
-move-on-requires c κs = search needs
-
-returns : tie.Need-returns
-returns c = search get-cell
-
-returns-2 : tie.Need-returns-2
-returns-2 c = search get-past
-
 pub get-spec : {M : Type 1} → statement M
-get-spec = tie.close (tie.spec shape-of-requires read-requires move-on-requires returns returns-2)
+get-spec =
+    tie.close
+    (tie.spec
+    (λ c κs. search needs)  -- shape-of-requires
+    (λ c κs. search shape-colours)  -- read-requires
+    (λ c κs. search needs)  -- move-on-requires
+    (λ c. search get-cell)  -- returns
+    (λ c. search get-past))  -- returns-2

@@ -5,23 +5,13 @@ use borrow.Author.Needs.{needs}
 use Rattle.graphics.proofs.open.Statement.{statement}
 use Rattle.graphics.proofs.open.Tie as tie
 
-returns : tie.Need-returns
-returns c = search open-bit
-
-returns-2 : tie.Need-returns-2
-returns-2 c = search open-low
-
-returns-3 : tie.Need-returns-3
-returns-3 c = search open-high
-
-start-requires : tie.Need-start-requires
-start-requires c κs = search needs
-
-same-length : tie.Need-same-length
-same-length c = search needs
-
-returns-4 : tie.Need-returns-4
-returns-4 c = search open-law
-
 pub open-spec : {M : Type 1} → statement M
-open-spec = tie.close (tie.spec returns returns-2 returns-3 start-requires same-length returns-4)
+open-spec =
+    tie.close
+    (tie.spec
+    (λ c. search open-bit)  -- returns
+    (λ c. search open-low)  -- returns-2
+    (λ c. search open-high)  -- returns-3
+    (λ c κs. search needs)  -- start-requires
+    (λ c. search needs)  -- same-length
+    (λ c. search open-law))  -- returns-4

@@ -5,24 +5,13 @@ use borrow.Author.Needs.{needs}
 use Rattle.graphics.proofs.start.Statement.{statement}
 use Rattle.graphics.proofs.start.Tie as tie
 
-reduce-requires : tie.Need-reduce-requires
-reduce-requires c κs = search needs
-
-same-length : tie.Need-same-length
-same-length c = search needs
-
-returns : tie.Need-returns
-returns c = search start-kept
-
-fill-requires : tie.Need-fill-requires
-fill-requires c κs = search needs
-
-same-length-2 : tie.Need-same-length-2
-same-length-2 c = search needs
-
-returns-2 : tie.Need-returns-2
-returns-2 c = search start-zero
-
 pub start-spec : {M : Type 1} → statement M
 start-spec =
-    tie.close (tie.spec reduce-requires same-length returns fill-requires same-length-2 returns-2)
+    tie.close
+    (tie.spec
+    (λ c κs. search needs)  -- reduce-requires
+    (λ c. search needs)  -- same-length
+    (λ c. search start-kept)  -- returns
+    (λ c κs. search needs)  -- fill-requires
+    (λ c. search needs)  -- same-length-2
+    (λ c. search start-zero))  -- returns-2

@@ -5,20 +5,12 @@ use borrow.Author.Needs.{needs}
 use Rattle.judge.proofs.cursor.Statement.{statement}
 use Rattle.judge.proofs.cursor.Tie as tie
 
-word-requires : tie.Need-word-requires
-word-requires c κs = search needs
-
-text-requires : tie.Need-text-requires
-text-requires c κs = search needs
-
-returns : tie.Need-returns
-returns c = search cursor-text
-
-picture-requires : tie.Need-picture-requires
-picture-requires c κs = search needs
-
-returns-2 : tie.Need-returns-2
-returns-2 c = search cursor-picture
-
 pub cursor-spec : {M : Type 1} → statement M
-cursor-spec = tie.close (tie.spec word-requires text-requires returns picture-requires returns-2)
+cursor-spec =
+    tie.close
+    (tie.spec
+    (λ c κs. search needs)  -- word-requires
+    (λ c κs. search needs)  -- text-requires
+    (λ c. search cursor-text)  -- returns
+    (λ c κs. search needs)  -- picture-requires
+    (λ c. search cursor-picture))  -- returns-2

@@ -5,35 +5,14 @@ use borrow.Author.Needs.{needs}
 use Rattle.judge.proofs.groups.Statement.{statement}
 use Rattle.judge.proofs.groups.Tie as tie
 
-sub-numbers : tie.Need-sub-numbers
-sub-numbers c = search needs
-
-part-numbers-start : tie.Need-part-numbers-start
-part-numbers-start c = search needs
-
-part-numbers-end : tie.Need-part-numbers-end
-part-numbers-end c = search needs
-
-numbers-requires : tie.Need-numbers-requires
-numbers-requires c κs = search needs
-
-apart-requires : tie.Need-apart-requires
-apart-requires c κs = search needs
-
-returns : tie.Need-returns
-returns c = search groups-apart
-
-returns-2 : tie.Need-returns-2
-returns-2 c = search groups-numbers
-
 pub groups-spec : {M : Type 1} → statement M
 groups-spec =
     tie.close
     (tie.spec
-    sub-numbers
-    part-numbers-start
-    part-numbers-end
-    numbers-requires
-    apart-requires
-    returns
-    returns-2)
+    (λ c. search needs)  -- sub-numbers
+    (λ c. search needs)  -- part-numbers-start
+    (λ c. search needs)  -- part-numbers-end
+    (λ c κs. search needs)  -- numbers-requires
+    (λ c κs. search needs)  -- apart-requires
+    (λ c. search groups-apart)  -- returns
+    (λ c. search groups-numbers))  -- returns-2

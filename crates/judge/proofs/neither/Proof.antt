@@ -5,11 +5,9 @@ use borrow.Author.Needs.{needs}
 use Rattle.judge.proofs.neither.Statement.{statement}
 use Rattle.judge.proofs.neither.Tie as tie
 
-word-requires : tie.Need-word-requires
-word-requires c κs = search needs
-
-returns : tie.Need-returns
-returns c = search two-zero
-
 pub neither-spec : {M : Type 1} → statement M
-neither-spec = tie.close (tie.spec word-requires returns)
+neither-spec =
+    tie.close
+    (tie.spec
+    (λ c κs. search needs)  -- word-requires
+    (λ c. search two-zero))  -- returns

@@ -5,11 +5,9 @@ use borrow.Author.Needs.{needs}
 use Rattle.judge.proofs.none.Statement.{statement}
 use Rattle.judge.proofs.none.Tie as tie
 
-four-requires : tie.Need-four-requires
-four-requires c κs = search needs
-
-returns : tie.Need-returns
-returns c = search four-zero
-
 pub none-spec : {M : Type 1} → statement M
-none-spec = tie.close (tie.spec four-requires returns)
+none-spec =
+    tie.close
+    (tie.spec
+    (λ c κs. search needs)  -- four-requires
+    (λ c. search four-zero))  -- returns

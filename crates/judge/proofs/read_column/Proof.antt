@@ -5,17 +5,11 @@ use Rattle.damage.specs.Whole.{readingWhole}
 use Rattle.judge.proofs.read_column.Statement.{statement}
 use Rattle.judge.proofs.read_column.Tie as tie
 
-returns : tie.Need-returns
-unfolding readingWhole
-returns c = search calls
-
-returns-2 : tie.Need-returns-2
-unfolding readingWhole
-returns-2 c = search calls
-
-returns-3 : tie.Need-returns-3
-unfolding readingWhole
-returns-3 c = search calls
-
 pub read-column-spec : {M : Type 1} → statement M
-read-column-spec = tie.close (tie.spec returns returns-2 returns-3)
+unfolding readingWhole
+read-column-spec =
+    tie.close
+    (tie.spec
+    (λ c. search calls)  -- returns
+    (λ c. search calls)  -- returns-2
+    (λ c. search calls))  -- returns-3

@@ -15,42 +15,18 @@ Inv-loop bytes place₀ left₀ place left = (place + 2 * blockLength * left ≡
 abbrev μ-loop : tie.MeasureT-loop
 μ-loop bytes place₀ left₀ place left = left
 
-loop-holds : tie.Need-loop-holds Inv-loop μ-loop
-unfolding tableWhole
-loop-holds c = (search needs, refl)
-
-two-requires : tie.Need-two-requires Inv-loop μ-loop
-two-requires c κs = search needs
-
-add-place : tie.Need-add-place Inv-loop μ-loop
-add-place c = search needs
-
-sub-left : tie.Need-sub-left Inv-loop μ-loop
-sub-left c = search needs
-
-loop-less : tie.Need-loop-less Inv-loop μ-loop
-loop-less c = search needs
-
-loop-again : tie.Need-loop-again Inv-loop μ-loop
-loop-again c = (search needs, search table-yes)
-
-returns : tie.Need-returns Inv-loop μ-loop
-returns c = search table-no
-
-returns-2 : tie.Need-returns-2 Inv-loop μ-loop
-returns-2 c = search table-last
-
 pub table-spec : {M : Type 1} → statement M
+unfolding tableWhole
 table-spec =
     tie.close
     (tie.spec
     Inv-loop
     μ-loop
-    loop-holds
-    two-requires
-    add-place
-    sub-left
-    loop-less
-    loop-again
-    returns
-    returns-2)
+    (λ c. (search needs, refl))  -- loop-holds
+    (λ c κs. search needs)  -- two-requires
+    (λ c. search needs)  -- add-place
+    (λ c. search needs)  -- sub-left
+    (λ c. search needs)  -- loop-less
+    (λ c. (search needs, search table-yes))  -- loop-again
+    (λ c. search table-no)  -- returns
+    (λ c. search table-last))  -- returns-2

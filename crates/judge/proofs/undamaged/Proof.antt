@@ -5,11 +5,9 @@ use borrow.Author.Needs.{needs}
 use Rattle.judge.proofs.undamaged.Statement.{statement}
 use Rattle.judge.proofs.undamaged.Tie as tie
 
-head-requires : tie.Need-head-requires
-head-requires c κs = search needs
-
-returns : tie.Need-returns
-returns c = search undamaged-is
-
 pub undamaged-spec : {M : Type 1} → statement M
-undamaged-spec = tie.close (tie.spec head-requires returns)
+undamaged-spec =
+    tie.close
+    (tie.spec
+    (λ c κs. search needs)  -- head-requires
+    (λ c. search undamaged-is))  -- returns

@@ -5,11 +5,9 @@ use borrow.Author.Needs.{needs}
 use Rattle.judge.proofs.used.Statement.{statement}
 use Rattle.judge.proofs.used.Tie as tie
 
-word-requires : tie.Need-word-requires
-word-requires c κs = search needs
-
-returns : tie.Need-returns
-returns c = search paper-is
-
 pub used-spec : {M : Type 1} → statement M
-used-spec = tie.close (tie.spec word-requires returns)
+used-spec =
+    tie.close
+    (tie.spec
+    (λ c κs. search needs)  -- word-requires
+    (λ c. search paper-is))  -- returns

@@ -7,27 +7,14 @@ use borrow.Author.Needs.{needs}
 use Rattle.keys.proofs.translate.Statement.{statement}
 use Rattle.keys.proofs.translate.Tie as tie
 
-returns : tie.Need-returns
-unfolding translateOf
-returns c = search tests
-
-returns-2 : tie.Need-returns-2
-unfolding translateOf
-returns-2 c = search tests
-
-returns-3 : tie.Need-returns-3
-unfolding translateOf
-returns-3 c = search tests
-
-entry-requires : tie.Need-entry-requires
-entry-requires c κs = search needs
-
-answer-requires : tie.Need-answer-requires
-answer-requires c κs = search needs
-
-returns-4 : tie.Need-returns-4
-returns-4 c = search translate-entry
-
 pub translate-spec : {M : Type 1} → statement M
+unfolding translateOf
 translate-spec =
-    tie.close (tie.spec returns returns-2 returns-3 entry-requires answer-requires returns-4)
+    tie.close
+    (tie.spec
+    (λ c. search tests)  -- returns
+    (λ c. search tests)  -- returns-2
+    (λ c. search tests)  -- returns-3
+    (λ c κs. search needs)  -- entry-requires
+    (λ c κs. search needs)  -- answer-requires
+    (λ c. search translate-entry))  -- returns-4

@@ -4,11 +4,9 @@ use Rattle.plan.proofs.Plans.{kind-get, kind-put}
 use Rattle.plan.proofs.kind_of.Statement.{statement}
 use Rattle.plan.proofs.kind_of.Tie as tie
 
-returns : tie.Need-returns
-returns c = search kind-get
-
-returns-2 : tie.Need-returns-2
-returns-2 c = search kind-put
-
 pub kind-of-spec : {M : Type 1} → statement M
-kind-of-spec = tie.close (tie.spec returns returns-2)
+kind-of-spec =
+    tie.close
+    (tie.spec
+    (λ c. search kind-get)  -- returns
+    (λ c. search kind-put))  -- returns-2

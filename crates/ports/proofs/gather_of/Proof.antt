@@ -5,25 +5,13 @@ use borrow.Author.Needs.{needs}
 use Rattle.ports.proofs.gather_of.Statement.{statement}
 use Rattle.ports.proofs.gather_of.Tie as tie
 
-mul-at : tie.Need-mul-at
-mul-at c = search needs
-
-sub-gather : tie.Need-sub-gather
-sub-gather c = search needs
-
-part-gather-start : tie.Need-part-gather-start
-part-gather-start c = search needs
-
-part-gather-end : tie.Need-part-gather-end
-part-gather-end c = search needs
-
-gather-requires : tie.Need-gather-requires
-gather-requires c κs = search needs
-
-returns : tie.Need-returns
-returns c = search gather-read
-
 pub gather-of-spec : {M : Type 1} → statement M
 gather-of-spec =
     tie.close
-    (tie.spec mul-at sub-gather part-gather-start part-gather-end gather-requires returns)
+    (tie.spec
+    (λ c. search needs)  -- mul-at
+    (λ c. search needs)  -- sub-gather
+    (λ c. search needs)  -- part-gather-start
+    (λ c. search needs)  -- part-gather-end
+    (λ c κs. search needs)  -- gather-requires
+    (λ c. search gather-read))  -- returns

@@ -5,14 +5,10 @@ use borrow.Author.Needs.{needs}
 use Rattle.reading.proofs.read_column.Statement.{statement}
 use Rattle.reading.proofs.read_column.Tie as tie
 
-returns : tie.Need-returns
-returns c = search reading-none
-
-word-requires : tie.Need-word-requires
-word-requires c κs = search needs
-
-returns-2 : tie.Need-returns-2
-returns-2 c = search reading-at
-
 pub read-column-spec : {M : Type 1} → statement M
-read-column-spec = tie.close (tie.spec returns word-requires returns-2)
+read-column-spec =
+    tie.close
+    (tie.spec
+    (λ c. search reading-none)  -- returns
+    (λ c κs. search needs)  -- word-requires
+    (λ c. search reading-at))  -- returns-2

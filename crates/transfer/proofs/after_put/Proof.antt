@@ -5,25 +5,13 @@ use borrow.Author.Needs.{needs}
 use Rattle.transfer.proofs.after_put.Statement.{statement}
 use Rattle.transfer.proofs.after_put.Tie as tie
 
-enum-told : tie.Need-enum-told
-enum-told c = search needs
-
-put-character-requires : tie.Need-put-character-requires
-put-character-requires c κs = search needs
-
-enum-known-done : tie.Need-enum-known-done
-enum-known-done c = search needs
-
-ended-requires : tie.Need-ended-requires
-ended-requires c κs = search needs
-
-returns : tie.Need-returns
-returns c = search sent-success
-
-returns-2 : tie.Need-returns-2
-returns-2 c = search sent-refused
-
 pub after-put-spec : {M : Type 1} → statement M
 after-put-spec =
     tie.close
-    (tie.spec enum-told put-character-requires enum-known-done ended-requires returns returns-2)
+    (tie.spec
+    (λ c. search needs)  -- enum-told
+    (λ c κs. search needs)  -- put-character-requires
+    (λ c. search needs)  -- enum-known-done
+    (λ c κs. search needs)  -- ended-requires
+    (λ c. search sent-success)  -- returns
+    (λ c. search sent-refused))  -- returns-2

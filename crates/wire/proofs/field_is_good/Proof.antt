@@ -5,25 +5,13 @@ use Rattle.wire.specs.Messages.{goodField}
 use Rattle.wire.proofs.field_is_good.Statement.{statement}
 use Rattle.wire.proofs.field_is_good.Tie as tie
 
-returns : tie.Need-returns
-unfolding goodField
-returns c = search tests
-
-returns-2 : tie.Need-returns-2
-unfolding goodField
-returns-2 c = search tests
-
-returns-3 : tie.Need-returns-3
-unfolding goodField
-returns-3 c = search tests
-
-returns-4 : tie.Need-returns-4
-unfolding goodField
-returns-4 c = search tests
-
-returns-5 : tie.Need-returns-5
-unfolding goodField
-returns-5 c = search tests
-
 pub field-is-good-spec : {M : Type 1} → statement M
-field-is-good-spec = tie.close (tie.spec returns returns-2 returns-3 returns-4 returns-5)
+unfolding goodField
+field-is-good-spec =
+    tie.close
+    (tie.spec
+    (λ c. search tests)  -- returns
+    (λ c. search tests)  -- returns-2
+    (λ c. search tests)  -- returns-3
+    (λ c. search tests)  -- returns-4
+    (λ c. search tests))  -- returns-5

@@ -6,26 +6,14 @@ use borrow.Author.Needs.{needs}
 use Rattle.writing.proofs.printer.Statement.{statement}
 use Rattle.writing.proofs.printer.Tie as tie
 
-cast-bytes : tie.Need-cast-bytes
-cast-bytes c = search needs
-
-slice-write-bytes : tie.Need-slice-write-bytes
-slice-write-bytes c = search needs
-
-cast-bytes-2 : tie.Need-cast-bytes-2
-cast-bytes-2 c = search needs
-
-slice-write-bytes-2 : tie.Need-slice-write-bytes-2
-slice-write-bytes-2 c = search needs
-
-same-length : tie.Need-same-length
-same-length c = search needs
-
-returns : tie.Need-returns
-unfolding printerBytes
-returns c = refl
-
 pub printer-spec : {M : Type 1} → statement M
+unfolding printerBytes
 printer-spec =
     tie.close
-    (tie.spec cast-bytes slice-write-bytes cast-bytes-2 slice-write-bytes-2 same-length returns)
+    (tie.spec
+    (λ c. search needs)  -- cast-bytes
+    (λ c. search needs)  -- slice-write-bytes
+    (λ c. search needs)  -- cast-bytes-2
+    (λ c. search needs)  -- slice-write-bytes-2
+    (λ c. search needs)  -- same-length
+    (λ c. refl))  -- returns

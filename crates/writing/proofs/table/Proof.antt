@@ -16,49 +16,19 @@ Inv-loop bytes₀ table iocb₀ bytes iocb = (iocb ≤ 8) × ((bytes ≡ sets by
 abbrev μ-loop : tie.MeasureT-loop
 μ-loop bytes₀ table iocb₀ bytes iocb = 8 - iocb
 
-loop-holds : tie.Need-loop-holds Inv-loop μ-loop
-loop-holds c = (search needs, (search table-none, search needs))
-
-mul-block : tie.Need-mul-block Inv-loop μ-loop
-mul-block c = search needs
-
-mul-block-2 : tie.Need-mul-block-2 Inv-loop μ-loop
-mul-block-2 c = search needs
-
-element-copy-out-block : tie.Need-element-copy-out-block Inv-loop μ-loop
-element-copy-out-block c = search needs
-
-block-requires : tie.Need-block-requires Inv-loop μ-loop
-block-requires c κs = search needs
-
-add-iocb : tie.Need-add-iocb Inv-loop μ-loop
-add-iocb c = search needs
-
-loop-less : tie.Need-loop-less Inv-loop μ-loop
-loop-less c = search needs
-
-loop-again : tie.Need-loop-again Inv-loop μ-loop
-loop-again c = (search needs, (search table-turn, search needs))
-
-same-length : tie.Need-same-length Inv-loop μ-loop
-same-length c = search needs
-
-returns : tie.Need-returns Inv-loop μ-loop
-returns c = search table-all
-
 pub table-spec : {M : Type 1} → statement M
 table-spec =
     tie.close
     (tie.spec
     Inv-loop
     μ-loop
-    loop-holds
-    mul-block
-    mul-block-2
-    element-copy-out-block
-    block-requires
-    add-iocb
-    loop-less
-    loop-again
-    same-length
-    returns)
+    (λ c. (search needs, (search table-none, search needs)))  -- loop-holds
+    (λ c. search needs)  -- mul-block
+    (λ c. search needs)  -- mul-block-2
+    (λ c. search needs)  -- element-copy-out-block
+    (λ c κs. search needs)  -- block-requires
+    (λ c. search needs)  -- add-iocb
+    (λ c. search needs)  -- loop-less
+    (λ c. (search needs, (search table-turn, search needs)))  -- loop-again
+    (λ c. search needs)  -- same-length
+    (λ c. search table-all))  -- returns

@@ -5,21 +5,12 @@ use borrow.Author.Needs.{needs}
 use Rattle.console.proofs.each.read_editor.Statement.{statement}
 use Rattle.console.proofs.each.read_editor.Tie as tie
 
-editor-requires : tie.Need-editor-requires
-editor-requires c κs = search needs
-
-get-requires : tie.Need-get-requires
-get-requires c κs = search needs
-
-with-editor-requires : tie.Need-with-editor-requires
-with-editor-requires c κs = search needs
-
-same-length : tie.Need-same-length
-same-length c = search needs
-
-returns : tie.Need-returns
-returns c = search read-E
-
 pub read-editor-spec : {M : Type 1} → statement M
 read-editor-spec =
-    tie.close (tie.spec editor-requires get-requires with-editor-requires same-length returns)
+    tie.close
+    (tie.spec
+    (λ c κs. search needs)  -- editor-requires
+    (λ c κs. search needs)  -- get-requires
+    (λ c κs. search needs)  -- with-editor-requires
+    (λ c. search needs)  -- same-length
+    (λ c. search read-E))  -- returns

@@ -5,25 +5,13 @@ use borrow.Author.Needs.{needs}
 use Rattle.devices.proofs.numbers.set_printer.Statement.{statement}
 use Rattle.devices.proofs.numbers.set_printer.Tie as tie
 
-sub-printer : tie.Need-sub-printer
-sub-printer c = search needs
-
-part-printer-start : tie.Need-part-printer-start
-part-printer-start c = search needs
-
-part-printer-end : tie.Need-part-printer-end
-part-printer-end c = search needs
-
-printer-requires : tie.Need-printer-requires
-printer-requires c κs = search needs
-
-same-length : tie.Need-same-length
-same-length c = search needs
-
-returns : tie.Need-returns
-returns c = search stored
-
 pub set-printer-spec : {M : Type 1} → statement M
 set-printer-spec =
     tie.close
-    (tie.spec sub-printer part-printer-start part-printer-end printer-requires same-length returns)
+    (tie.spec
+    (λ c. search needs)  -- sub-printer
+    (λ c. search needs)  -- part-printer-start
+    (λ c. search needs)  -- part-printer-end
+    (λ c κs. search needs)  -- printer-requires
+    (λ c. search needs)  -- same-length
+    (λ c. search stored))  -- returns

@@ -14,57 +14,21 @@ Inv-loop screen row first n₀ n = (n ≤ 38) × (cellsHeld screen (row * 40 + 2
 abbrev μ-loop : tie.MeasureT-loop
 μ-loop screen row first n₀ n = n
 
-mul-first : tie.Need-mul-first Inv-loop μ-loop
-mul-first c = search needs
-
-add-first : tie.Need-add-first Inv-loop μ-loop
-add-first c = search needs
-
-loop-holds : tie.Need-loop-holds Inv-loop μ-loop
-loop-holds c = (search needs, refl)
-
-sub-m : tie.Need-sub-m Inv-loop μ-loop
-sub-m c = search needs
-
-add-byte-at : tie.Need-add-byte-at Inv-loop μ-loop
-add-byte-at c = search needs
-
-byte-at-requires : tie.Need-byte-at-requires Inv-loop μ-loop
-byte-at-requires c κs = search needs
-
-cast-result : tie.Need-cast-result Inv-loop μ-loop
-cast-result c = search needs
-
-add-result : tie.Need-add-result Inv-loop μ-loop
-add-result c = search needs
-
-returns : tie.Need-returns Inv-loop μ-loop
-returns c = search end-found
-
-loop-less : tie.Need-loop-less Inv-loop μ-loop
-loop-less c = search needs
-
-loop-again : tie.Need-loop-again Inv-loop μ-loop
-loop-again c = (search needs, search end-blank)
-
-returns-2 : tie.Need-returns-2 Inv-loop μ-loop
-returns-2 c = search end-none
-
 pub end-spec : {M : Type 1} → statement M
 end-spec =
     tie.close
     (tie.spec
     Inv-loop
     μ-loop
-    mul-first
-    add-first
-    loop-holds
-    sub-m
-    add-byte-at
-    byte-at-requires
-    cast-result
-    add-result
-    returns
-    loop-less
-    loop-again
-    returns-2)
+    (λ c. search needs)  -- mul-first
+    (λ c. search needs)  -- add-first
+    (λ c. (search needs, refl))  -- loop-holds
+    (λ c. search needs)  -- sub-m
+    (λ c. search needs)  -- add-byte-at
+    (λ c κs. search needs)  -- byte-at-requires
+    (λ c. search needs)  -- cast-result
+    (λ c. search needs)  -- add-result
+    (λ c. search end-found)  -- returns
+    (λ c. search needs)  -- loop-less
+    (λ c. (search needs, search end-blank))  -- loop-again
+    (λ c. search end-none))  -- returns-2

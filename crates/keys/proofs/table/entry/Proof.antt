@@ -6,59 +6,19 @@ use Rattle.keys.specs.Table.{keys}
 use Rattle.keys.proofs.table.entry.Statement.{statement}
 use Rattle.keys.proofs.table.entry.Tie as tie
 
-returns : tie.Need-returns
-unfolding keys
-returns c = search none-there
-
-array-read-own : tie.Need-array-read-own
-array-read-own c = search needs
-
-returns-2 : tie.Need-returns-2
-unfolding keys
-returns-2 c = search own-past
-
-returns-3 : tie.Need-returns-3
-unfolding keys
-returns-3 c = search own-below
-
-returns-4 : tie.Need-returns-4
-unfolding keys
-returns-4 c = search own-above
-
-returns-5 : tie.Need-returns-5
-unfolding keys
-returns-5 c = search letter-plain
-
-sub-result : tie.Need-sub-result
-sub-result c = search needs
-
-returns-6 : tie.Need-returns-6
-unfolding keys
-returns-6 c = search letter-shift
-
-sub-result-2 : tie.Need-sub-result-2
-sub-result-2 c = search needs
-
-returns-7 : tie.Need-returns-7
-unfolding keys
-returns-7 c = search letter-control
-
-returns-8 : tie.Need-returns-8
-unfolding keys
-returns-8 c = search letter-none
-
 pub entry-spec : {M : Type 1} → statement M
+unfolding keys
 entry-spec =
     tie.close
     (tie.spec
-    returns
-    array-read-own
-    returns-2
-    returns-3
-    returns-4
-    returns-5
-    sub-result
-    returns-6
-    sub-result-2
-    returns-7
-    returns-8)
+    (λ c. search none-there)  -- returns
+    (λ c. search needs)  -- array-read-own
+    (λ c. search own-past)  -- returns-2
+    (λ c. search own-below)  -- returns-3
+    (λ c. search own-above)  -- returns-4
+    (λ c. search letter-plain)  -- returns-5
+    (λ c. search needs)  -- sub-result
+    (λ c. search letter-shift)  -- returns-6
+    (λ c. search needs)  -- sub-result-2
+    (λ c. search letter-control)  -- returns-7
+    (λ c. search letter-none))  -- returns-8

@@ -5,43 +5,16 @@ use borrow.Author.Needs.{needs}
 use Rattle.stick.proofs.served.press_at.Statement.{statement}
 use Rattle.stick.proofs.served.press_at.Tie as tie
 
-holds-console-requires : tie.Need-holds-console-requires
-holds-console-requires c κs = search needs
-
-same-length : tie.Need-same-length
-same-length c = search needs
-
-returns : tie.Need-returns
-returns c = search press-held
-
-holds-console-requires-2 : tie.Need-holds-console-requires-2
-holds-console-requires-2 c κs = search needs
-
-same-length-2 : tie.Need-same-length-2
-same-length-2 c = search needs
-
-returns-2 : tie.Need-returns-2
-returns-2 c = search press-held-too
-
-store-key-requires : tie.Need-store-key-requires
-store-key-requires c κs = search needs
-
-same-length-3 : tie.Need-same-length-3
-same-length-3 c = search needs
-
-returns-3 : tie.Need-returns-3
-returns-3 c = search press-free
-
 pub press-at-spec : {M : Type 1} → statement M
 press-at-spec =
     tie.close
     (tie.spec
-    holds-console-requires
-    same-length
-    returns
-    holds-console-requires-2
-    same-length-2
-    returns-2
-    store-key-requires
-    same-length-3
-    returns-3)
+    (λ c κs. search needs)  -- holds-console-requires
+    (λ c. search needs)  -- same-length
+    (λ c. search press-held)  -- returns
+    (λ c κs. search needs)  -- holds-console-requires-2
+    (λ c. search needs)  -- same-length-2
+    (λ c. search press-held-too)  -- returns-2
+    (λ c κs. search needs)  -- store-key-requires
+    (λ c. search needs)  -- same-length-3
+    (λ c. search press-free))  -- returns-3

@@ -5,11 +5,9 @@ use borrow.Author.Needs.{needs}
 use Rattle.console.proofs.state.Console.fresh.Statement.{statement}
 use Rattle.console.proofs.state.Console.fresh.Tie as tie
 
-fresh-requires : tie.Need-fresh-requires
-fresh-requires c κs = search needs
-
-returns : tie.Need-returns
-returns c = search fresh-state
-
 pub fresh-spec : {M : Type 1} → statement M
-fresh-spec = tie.close (tie.spec fresh-requires returns)
+fresh-spec =
+    tie.close
+    (tie.spec
+    (λ c κs. search needs)  -- fresh-requires
+    (λ c. search fresh-state))  -- returns

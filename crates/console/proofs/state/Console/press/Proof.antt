@@ -5,11 +5,9 @@ use borrow.Author.Needs.{needs}
 use Rattle.console.proofs.state.Console.press.Statement.{statement}
 use Rattle.console.proofs.state.Console.press.Tie as tie
 
-press-requires : tie.Need-press-requires
-press-requires c κs = search needs
-
-returns : tie.Need-returns
-returns c = search press-law
-
 pub press-spec : {M : Type 1} → statement M
-press-spec = tie.close (tie.spec press-requires returns)
+press-spec =
+    tie.close
+    (tie.spec
+    (λ c κs. search needs)  -- press-requires
+    (λ c. search press-law))  -- returns

@@ -1,0 +1,17 @@
+-- `lengths_fit` meets its contract, by `lengths-state`, `lengths-area`, `lengths-screen`, `lengths-paper` and `lengths-all`.
+-- Assumes nothing.
+use Rattle.calls.proofs.Passing.{lengths-state, lengths-area, lengths-screen, lengths-paper, lengths-all}
+use borrow.Author.Needs.{needs}
+use Rattle.firmware.proofs.lengths_fit.Statement.{statement}
+use Rattle.firmware.proofs.lengths_fit.Tie as tie
+
+pub lengths-fit-spec : {M : Type 1} → statement M
+lengths-fit-spec =
+    tie.close
+    (tie.spec
+    (λ c. search needs)  -- mul-if2
+    (λ c. search lengths-all)  -- returns
+    (λ c. search lengths-paper)  -- returns-2
+    (λ c. search lengths-screen)  -- returns-3
+    (λ c. search lengths-area)  -- returns-4
+    (λ c. search lengths-state))  -- returns-5

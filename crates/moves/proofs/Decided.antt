@@ -1,0 +1,19 @@
+-- Each promise of this crate decides: two outcomes that it allows are equal, and it allows one.
+-- Assumes nothing.
+use mathlib.Core.Path.{_≡_, refl, sym, _∙_, ap}
+use mathlib.Core.List.{List}
+use Prim.Native.Nat.{ℕ}
+use Rattle.base.specs.Decides.{Decides, Allows}
+use Rattle.transfer.specs.Transfer.{nextOf}
+use Rattle.transfer.proofs.Outs.{nextIn, out-decides, carriedIn, carried-decides}
+use Rattle.devices.specs.Lent.{DevicesLent}
+use Rattle.moves.specs.Move.{Went}
+use Rattle.moves.proofs.Outs.{advance-allowed}
+use Rattle.moves.proofs.advance.Kinds as advance-kinds
+use Rattle.moves.proofs.advance.Reads as advance-reads
+
+pub advance-decides : Decides 4 advance-kinds.ps advance-kinds.r advance-reads.Pre advance-reads.Learnt
+advance-decides κs a z z′ ws ws′ p e e′ = let q = e ∙ sym e′ in (carried-decides (a .1 .0) z z′ (out-decides (nextOf (a .1 .0) z) (nextOf (a .1 .0) z′) (ap (λ (w : Went DevicesLent). w .out) q)), ap (λ (w : Went DevicesLent). (tt, (tt, (w .area, (w .device .numbers, (w .device .screen, (w .device .paper, tt))))))) q)
+
+pub advance-allows : Allows 4 advance-kinds.ps advance-kinds.r advance-reads.Pre advance-reads.Learnt
+advance-allows κs a p = (carriedIn (nextIn _), (_, advance-allowed _ _ (a .1 .0) _ _))

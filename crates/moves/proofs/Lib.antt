@@ -1,0 +1,4 @@
+pub mod Moves
+pub mod Through
+pub mod Outs
+pub mod Decided
