@@ -1,5 +1,5 @@
-"""The bench cases of 01-scope and the manual's section 5, each played on a
-fresh stick and compared with what the papers say.
+"""The bench cases and the boundaries of 01-scope and the manual's section 5,
+each played on a fresh stick and compared with what the papers say.
 
 Where 01-scope decides over the manual, what is expected is 01-scope's.
 """
@@ -327,6 +327,270 @@ def _(bench: Bench) -> None:
     bench.open(b"S:", READ, 8)
     reply = bench.call(Command.GET_RECORD, length=1)
     bench.same((CallReply(0x8D, 1, 0), 61_441), (reply, bench.ticks))
+
+
+# 01-scope: the boundaries of its numbers; those of S are among the display handler's
+
+LAST = bytes(range(256))
+"""What is loaded at 16,128 ($3F00): the area's last 256 bytes."""
+
+
+@case("01-scope, Messages, FETCH", "(16,383, 1) and (16,128, 256) give the area's last bytes")
+def _(bench: Bench) -> None:
+    bench.load(LAST, 16_128)
+    bench.same(bytes.fromhex("92 02 00 01 FF"), bench.message(bytes.fromhex("12 04 00 FF 3F 01 00")))
+    bench.same(bytes.fromhex("92 01 01 01") + LAST, bench.message(bytes.fromhex("12 04 00 00 3F 00 01")))
+
+
+@case("01-scope, Messages, FETCH", "(16,384, 1), (16,383, 2) and (16,129, 256) are past the area: $B0, and no bytes")
+def _(bench: Bench) -> None:
+    for message in ("12 04 00 00 40 01 00", "12 04 00 FF 3F 02 00", "12 04 00 01 3F 00 01", "12 04 00 FF FF 01 00"):
+        for port in (0, 1):
+            bench.same(bytes.fromhex("92 01 00 B0"), bench.message(bytes.fromhex(message), port))
+
+
+@case("01-scope, Messages, FETCH", "a count of 0 or 257 is $84 first, past the area too")
+def _(bench: Bench) -> None:
+    for address in ("00 00", "FF 3F", "00 40", "FF FF"):
+        for count in ("00 00", "01 01", "FF FF"):
+            bench.same(bytes.fromhex("92 01 00 84"), bench.message(bytes.fromhex(f"12 04 00 {address} {count}")))
+
+
+@case("01-scope, Messages, LOAD", "an end at 16,384 is inside; one byte more is $B0, and the area is unchanged")
+def _(bench: Bench) -> None:
+    bench.same(bytes.fromhex("91 01 00 01"), bench.message(bytes.fromhex("11 03 00 FF 3F 41")))
+    bench.same(bytes(AREA - 1) + b"A", bench.state.areas[0])
+    bench.same(bytes.fromhex("91 01 00 01"), bench.message(bytes.fromhex("11 02 01 00 3F") + LAST))
+    bench.same(bytes.fromhex("91 01 00 01"), bench.message(bytes.fromhex("11 03 00 FF 3F 43"), 1))
+    areas = (bytes(16_128) + LAST, bytes(AREA - 1) + b"C")
+    bench.same(areas, bench.state.areas)
+    for message in ("11 03 00 00 40 42", "11 04 00 FF 3F 42 42", "11 02 01 01 3F" + 256 * " 42", "11 03 00 FF FF 42"):
+        for port in (0, 1):
+            bench.same(bytes.fromhex("91 01 00 B0"), bench.message(bytes.fromhex(message), port))
+            bench.same(areas, bench.state.areas)
+
+
+@case("01-scope, Messages, LOAD", "lengths 3 and 258 load; 2 and 259 are $FF with $84, and the area is unchanged")
+def _(bench: Bench) -> None:
+    for message in ("11 02 00 00 00", "11 03 01 00 00" + 257 * " 42"):
+        bench.same(bytes.fromhex("FF 01 00 84"), bench.message(bytes.fromhex(message)))
+        bench.same(bytes(AREA), bench.state.areas[0])
+    bench.same(bytes.fromhex("91 01 00 01"), bench.message(bytes.fromhex("11 03 00 00 00 41")))
+    bench.same(b"A" + bytes(AREA - 1), bench.state.areas[0])
+    bench.same(bytes.fromhex("91 01 00 01"), bench.message(bytes.fromhex("11 02 01 00 00") + LAST))
+    bench.same(LAST + bytes(AREA - 256), bench.state.areas[0])
+
+
+@case("01-scope, Messages", "a known tag with another length is $FF with $84: its value is dropped, the next is heard")
+def _(bench: Bench) -> None:
+    for tag, lengths in ((0x10, (0, 8, 10, 265)), (0x11, (0, 1, 2, 259, 260)), (0x12, (0, 3, 5, 260))):
+        for length in lengths:
+            bench.same(bytes.fromhex("FF 01 00 84"), bench.message(wire.field(tag, bytes(length))))
+            bench.same(bytes.fromhex("91 01 00 01"), bench.message(LOAD_EDITOR))
+
+
+@case("01-scope, Messages", "an unknown tag is $FF with $92, whatever its length; the next is heard")
+def _(bench: Bench) -> None:
+    for tag in (0x00, 0x0F, 0x13, 0x90, 0xFF):
+        for length in (0, 3, 4, 9, 258, 259):
+            bench.same(bytes.fromhex("FF 01 00 92"), bench.message(wire.field(tag, bytes(length))))
+            bench.same(bytes.fromhex("91 01 00 01"), bench.message(LOAD_EDITOR))
+
+
+@case("01-scope, Statuses, $86", "IOCB 7 works; 8 and 255 are $86 before all else, a bad command too")
+def _(bench: Bench) -> None:
+    bench.open(b"P:", WRITE, iocb=7)
+    bench.put(b"A", iocb=7)
+    bench.same(CallReply(OK, 0, 0), bench.call(Command.GET_STATUS, iocb=7))
+    bench.same(CallReply(OK, 0, 0), bench.call(Command.CLOSE, iocb=7))
+    bench.same(CallReply(0x85, 0, 0), bench.call(Command.PUT_CHARACTERS, length=1, iocb=7))
+    for iocb in (8, 255):
+        for command in range(16):
+            bench.same(CallReply(0x86, 0, 0), bench.call(command, AREA - 1, 2, iocb=iocb))
+    bench.paper(b"A")
+
+
+@case("01-scope, Statuses, $B0", "GET at 16,383: n 1 passes, n 2 is $B0; at 16,384 n 1 is $B0, n 0 does not look")
+def _(bench: Bench) -> None:
+    bench.editor()
+    bench.put(b"AB\x9b" + bytes([UP]))
+    bench.same(CallReply(OK, 1, 0), bench.call(Command.GET_CHARACTERS, AREA - 1, 1))
+    bench.same(b"A", bench.fetch(1, AREA - 1))
+    for command in (Command.GET_RECORD, Command.GET_CHARACTERS):
+        for address, length in ((AREA - 1, 2), (AREA, 1), (1, AREA), (0, AREA + 1), (0xFFFF, 0xFFFF)):
+            bench.same(CallReply(0xB0, 0, 0), bench.call(command, address, length))
+    bench.same(b"A", bench.fetch(1, AREA - 1))
+    bench.same(CallReply(OK, 0, 0x42), bench.call(Command.GET_CHARACTERS, AREA))
+    bench.same(CallReply(OK, 0, EOL), bench.call(Command.GET_RECORD, 0xFFFF))
+
+
+@case("01-scope, Statuses", "the reply's A is the request's: after every command, after refusals, after transfers")
+def _(bench: Bench) -> None:
+    bench.load(b"P:", SPECIFICATION)
+    bench.load(b"A")
+    for command, length, aux1, reply in (
+        (0x0A, 0, 0, CallReply(0x84, 0, 0x5A)),
+        (Command.PUT_CHARACTERS, 0, 0, CallReply(0x85, 0, 0x5A)),
+        (Command.GET_CHARACTERS, 0, 0, CallReply(0x85, 0, 0x5A)),
+        (Command.OPEN, 0, READ, CallReply(0x84, 0, 0x5A)),
+        (Command.OPEN, 0, WRITE, CallReply(OK, 0, 0x5A)),
+        (Command.OPEN, 0, WRITE, CallReply(0x81, 0, 0x5A)),
+        (Command.GET_CHARACTERS, 0, 0, CallReply(0x83, 0, 0x5A)),
+        (Command.PUT_CHARACTERS, AREA, 0, CallReply(0xB0, 0, 0x5A)),
+        (Command.PUT_CHARACTERS, 1, 0, CallReply(OK, 1, 0x5A)),
+        (Command.PUT_RECORD, 1, 0, CallReply(OK, 1, 0x5A)),
+        (Command.PUT_CHARACTERS, 0, 0, CallReply(OK, 0, 0x5A)),
+        (Command.PUT_RECORD, 0, 0, CallReply(OK, 0, 0x5A)),
+        (Command.GET_STATUS, 0, 0, CallReply(OK, 0, 0x5A)),
+        (0x0E, 0, 0, CallReply(0x84, 0, 0x5A)),
+        (Command.CLOSE, 0, 0, CallReply(OK, 0, 0x5A)),
+        (Command.CLOSE, 0, 0, CallReply(OK, 0, 0x5A)),
+    ):
+        address = SPECIFICATION if command == Command.OPEN else BUFFER
+        bench.same(reply, bench.call(command, address, length, aux1, a=0x5A))
+    bench.paper(b"AA\x9bZZ")
+
+
+@case("01-scope, Statuses", "the reply's A is the character after a successful read of length 0, and only then")
+def _(bench: Bench) -> None:
+    bench.keyboard()
+    for command in (Command.GET_CHARACTERS, Command.GET_RECORD):
+        bench.same(CallReply(0x88, 0, 0x5A), bench.call(command, a=0x5A))
+        bench.press(0x3F)
+        bench.same(CallReply(OK, 0, 0x41), bench.call(command, a=0x5A))
+        bench.press(0x3F)
+        bench.same(CallReply(OK, 1, 0x5A), bench.call(Command.GET_CHARACTERS, length=1, a=0x5A))
+        bench.same(b"A", bench.fetch(1))
+
+
+AUX1 = {b"E:": (READ, 0x84), b"S:": (0x10, 0x91), b"K:": (WRITE, 0x84), b"P:": (READ, 0x84)}
+"""The bit of AUX1 that a device refuses, and the status; E takes its own beside bit 0."""
+
+
+@case("01-scope, OPEN", "AUX1 bit by bit: E refuses R alone, K W and P R with $84, S bit 4 with $91; the others none")
+def _(bench: Bench) -> None:
+    for specification, (refused, status) in AUX1.items():
+        for bit in (0x01, 0x02, 0x04, 0x08, 0x10, 0x20, 0x40, 0x80):
+            bench.open(specification, bit, 3, status=status if bit == refused else OK)
+            block = bench.state.blocks[0][0]
+            opened = (False, 0) if bit == refused else (True, bit)
+            bench.same((specification, bit, *opened), (specification, bit, block.is_open, block.aux1))
+            bench.same(CallReply(OK, 0, 0), bench.call(Command.CLOSE))
+
+
+@case("01-scope, OPEN", "AUX1, all 256 values: the same bits refuse beside others; E takes R with bit 0, forced read")
+def _(bench: Bench) -> None:
+    for specification, (refused, status) in AUX1.items():
+        for aux1 in range(256):
+            offered = not aux1 & refused or specification == b"E:" and aux1 & FORCED
+            bench.open(specification, aux1, 3, status=OK if offered else status)
+            bench.same(CallReply(OK, 0, 0), bench.call(Command.CLOSE))
+
+
+@case("01-scope, OPEN", "the area's last byte: a colon opens, a letter or digit is $B0, an unknown letter or digit $82")
+def _(bench: Bench) -> None:
+    for iocb, specification in enumerate((b"P:", b"P8:")):
+        bench.load(specification, AREA - len(specification))
+        bench.same(CallReply(OK, 0, 0), bench.call(3, AREA - len(specification), aux1=WRITE, iocb=iocb))
+    for specification, status in ((b"P", 0xB0), (b"P8", 0xB0), (b"C", 0x82), (b"P9", 0x82)):
+        bench.load(specification, AREA - len(specification))
+        bench.same(CallReply(status, 0, 0), bench.call(3, AREA - len(specification), aux1=WRITE, iocb=7))
+    bench.same(CallReply(0xB0, 0, 0), bench.call(3, AREA, aux1=WRITE, iocb=7))
+
+
+ROW = b"ABCDEFGHIJKLMNOPQRSTUVWXYZabcdefghijkl"
+"""The 38 characters of a row of mode 0."""
+
+
+@case("01-scope, E", "records of 0, 1, 37, 38 and 39 characters on a blank row, read back; from 38 on two rows down")
+def _(bench: Bench) -> None:
+    # The record, its row, the cursor's row after it, how far up the record is then, the cursor's row after the read.
+    for record, start, after, up, end in (
+        (b"", 0, 1, 1, 1),
+        (b"A", 0, 1, 1, 1),
+        (ROW[:37], 0, 1, 1, 1),
+        (ROW, 0, 2, 2, 1),
+        (ROW + b"m", 0, 2, 2, 1),
+        (b"", 22, 23, 1, 23),
+        (b"A", 22, 23, 1, 23),
+        (ROW[:37], 22, 23, 1, 23),
+        (ROW, 22, 23, 2, 22),
+        (ROW + b"m", 22, 23, 2, 22),
+        (b"", 23, 23, 1, 23),
+        (b"A", 23, 23, 1, 23),
+        (ROW[:37], 23, 23, 1, 23),
+        (ROW, 23, 23, 2, 22),
+        (ROW + b"m", 23, 23, 2, 22),
+    ):
+        bench.fresh()
+        bench.editor()
+        if start:
+            bench.put(bytes([EOL] * start))
+        # An empty record is its EOL: with length 0 there is no record rule.
+        bench.put_record(record or bytes([EOL]))
+        bench.same((after, 2), bench.cursor)
+        bench.put(bytes([UP] * up))
+        bench.row(after - up, record[:38])
+        bench.get_record(80, record[:38] + b"\x9b")
+        bench.same((end, 2), bench.cursor)
+
+
+@case("01-scope, E", "38 characters fit a buffer of 39 and are cut by one of 38, $89; an EOL by A is an empty record")
+def _(bench: Bench) -> None:
+    for length, expected, status in ((39, ROW + b"\x9b", OK), (38, ROW, 0x89), (37, ROW[:37], 0x89)):
+        bench.fresh()
+        bench.editor()
+        bench.put_record(ROW, 38)
+        bench.put(bytes([UP, UP]))
+        bench.get_record(length, expected, status)
+        bench.same((1, 2), bench.cursor)
+    bench.fresh()
+    bench.editor()
+    bench.same(CallReply(OK, 0, EOL), bench.call(Command.PUT_RECORD, a=EOL))
+    bench.same((1, 2), bench.cursor)
+    bench.put(bytes([UP]))
+    bench.get_record(1, b"\x9b")
+
+
+@case("01-scope, E", "column 39: a character there is read behind blanks, a blank is not, and no read begins there")
+def _(bench: Bench) -> None:
+    blanks = b" " * 37
+    for record, expected in ((blanks + b"Z", blanks + b"Z\x9b"), (ROW[:37] + b" ", ROW[:37] + b"\x9b")):
+        bench.fresh()
+        bench.editor()
+        bench.put_record(record, 38)
+        bench.same((2, 2), bench.cursor)
+        bench.put(bytes([UP, UP, LEFT]))
+        bench.same((0, 39), bench.cursor)
+        bench.get_record(80, expected)
+        bench.same((1, 2), bench.cursor)
+    bench.fresh()
+    bench.editor()
+    bench.put(ROW + bytes([UP]))
+    bench.get(38, ROW)
+    bench.same((40, 0, 2), (bench.state.read_column, *bench.cursor))
+    bench.get(1, b"\x9b")
+    bench.same((None, 1, 2), (bench.state.read_column, *bench.cursor))
+
+
+@case("01-scope, P", "byte 4,096 is printed, the next is $90: of characters, of a record and its EOL, by A")
+def _(bench: Bench) -> None:
+    data = bytes(place % 251 for place in range(4095))
+    for last in ("characters", "record", "A"):
+        bench.fresh()
+        bench.printer()
+        bench.put(data)
+        if last == "characters":
+            bench.put(b"Z")
+        elif last == "record":
+            bench.put(b"Z", 1, 0x90, command=Command.PUT_RECORD)
+        else:
+            bench.same(CallReply(OK, 0, 0x5A), bench.call(Command.PUT_CHARACTERS, a=0x5A))
+        bench.paper(data + b"Z")
+        bench.put(b"Y", 0, 0x90)
+        bench.put(b"Y", 0, 0x90, command=Command.PUT_RECORD)
+        bench.same(CallReply(0x90, 0, 0x59), bench.call(Command.PUT_CHARACTERS, a=0x59))
+        bench.paper(data + b"Z")
 
 
 # the manual: central I/O utility
@@ -719,6 +983,66 @@ def _(bench: Bench) -> None:
     bench.open(b"S:", READ | WRITE, 3)
     for command in (0x11, 0x12):
         bench.same(CallReply(0x84, 0, 0), bench.call(command))
+
+
+@case("01-scope, S", "each mode's last cell: a byte is got back modulo the colours; the next PUT and GET are $8D")
+def _(bench: Bench) -> None:
+    for mode, (columns, rows, colours) in MODES.items():
+        for byte in (0xFC, 0xFD, 0xFE, 0xFF):
+            bench.fresh()
+            bench.open(b"S:", READ | WRITE, mode)
+            bench.put(bytes([EOL] * (rows - 1)) + bytes(columns - 1))
+            bench.same((rows - 1, columns - 1), bench.cursor)
+            bench.put(bytes([byte]))
+            _past_the_last_row(bench, rows)
+            bench.same(CallReply(OK, 0, 0), bench.call(Command.CLOSE))
+            bench.open(b"S:", READ | WRITE | KEEP, mode)
+            bench.put(bytes([EOL] * (rows - 1)))
+            bench.get(columns - 1, bytes(columns - 1))
+            bench.get(1, bytes([byte % colours]))
+            _past_the_last_row(bench, rows)
+
+
+def _past_the_last_row(bench: Bench, rows: int) -> None:
+    """All but $7D are $8D there, and change nothing."""
+    screen = bench.state.screen
+    bench.put(b"\x01", 0, 0x8D)
+    bench.put(bytes([EOL]), 0, 0x8D)
+    bench.get(1, b"", 0x8D)
+    bench.same((screen, rows, 0), (bench.state.screen, *bench.cursor))
+
+
+@case("01-scope, S", "$7D past the last row clears; a record whose EOL is past it is $8D, and its characters count")
+def _(bench: Bench) -> None:
+    for mode, (columns, rows, _) in MODES.items():
+        bench.fresh()
+        bench.open(b"S:", WRITE, mode)
+        bench.put(bytes([EOL] * (rows - 1)))
+        bench.put(b"\x01" * columns, columns, 0x8D, command=Command.PUT_RECORD)
+        bench.same(b"\x01" * columns, bench.state.screen[columns * (rows - 1) : columns * rows])
+        bench.put(bytes([CLEAR]))
+        bench.same((bytes(columns * rows), 0, 0), (bench.state.screen[: columns * rows], *bench.cursor))
+
+
+@case("01-scope, S", "OPEN zeroes a mode's cells to the last, or keeps them; the first cell past the mode stays")
+def _(bench: Bench) -> None:
+    for mode in (3, 4, 5, 6, 7):
+        columns, rows, _ = MODES[mode]
+        end = columns * rows
+        for aux1, last in ((WRITE, 0), (WRITE | KEEP, 1)):
+            bench.fresh()
+            # Mode 8 has 320 columns, and each smaller mode ends with one of its rows.
+            bench.open(b"S:", WRITE, 8)
+            bench.put(bytes([EOL] * (end // 320 - 1)) + bytes(319) + b"\x01\x01")
+            bench.open(b"S:", aux1, mode, iocb=1)
+            bench.same(bytes([last, 1]), bench.state.screen[end - 1 : end + 1])
+    # Kept cells are taken modulo the colours: $FF in column 39 of E's row 22, blanks elsewhere.
+    bench.fresh()
+    bench.editor()
+    bench.put(bytes([UP, LEFT, ESCAPE, 0xFF]))
+    bench.row(22, bytes(37 * [BLANK]) + b"\xff")
+    bench.open(b"S:", WRITE | KEEP, 3, iocb=1)
+    bench.same(bytes(919) + b"\x03" + bytes(41), bench.state.screen[:961])
 
 
 # the manual: screen editor

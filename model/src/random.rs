@@ -4,7 +4,8 @@
 //! and read, ask, close, and now and then send rubbish. The turns mix them in
 //! any order, with keys, wrong ports, cut buffers and calls at the wrong time
 //! in between. A model plays along, so that most calls come when they make
-//! sense and long conversations succeed.
+//! sense and long conversations succeed. Numbers, lengths and cursors are
+//! drawn to the paper's boundaries: `tests/reach.rs` says which are reached.
 
 use crate::script::{Op, Player};
 use crate::stick::*;
@@ -84,6 +85,9 @@ const CONTROLS: [u8; 16] =
 /// Keys that do something of their own: locks, inverse, end of file, RETURN,
 /// none, the edges of the table.
 const KEYS: [u8; 16] = [0x3C, 0x7C, 0xBC, 0x27, 0x67, 0xA7, 0x9A, 0x0C, 0xFF, 0x00, 0x3F, 0x40, 0x7F, 0x80, 0xBF, 0xC0];
+
+/// Lengths around those of a piece, a full reply and a full LOAD.
+const PIECES: [usize; 5] = [255, 256, 257, 258, 259];
 
 /// The conversation of a seed; a long one has many more messages.
 pub fn conversation(seed: u64, long: bool) -> Vec<Op> {
@@ -369,6 +373,17 @@ impl Maker {
         if self.random.chance(120) {
             return (self.random.byte(), self.random.byte() % 16);
         }
+        // One bit alone, or one bit off what the device offers.
+        if self.random.chance(80) {
+            let offered = match device {
+                Device::E => R | W | FORCED,
+                Device::S => R | W,
+                Device::K => R,
+                Device::P => W,
+            };
+            let aux1 = self.random.pick(&[0, offered]) ^ (1 << self.random.below(8));
+            return (aux1, 3 + self.random.below(6) as u8);
+        }
         let aux1 = match device {
             Device::E => {
                 self.random.pick(&[0x0D, 0x0D, 0x0D, 0x0D, 0x0D, 0x0D, 0x0D, 0x3D, 0x09, 0x08, 0x05, 0x0C, 0x00])
@@ -436,9 +451,13 @@ impl Maker {
 
     /// LOAD and FETCH at the edges.
     fn area_errand(&mut self) -> Vec<Vec<u8>> {
-        let address = self.address();
-        let count = self.random.pick(&[0, 1, 2, 16, 255, 256, 256, 257, 16_384, 65_535]);
+        let count = self.random.pick(&[0, 1, 2, 16, 255, 256, 256, 257, 258, 259, 16_384, 65_535]);
         let length = self.random.pick(&[1, 1, 2, 3, 40, 255, 256]);
+        let address = match self.random.below(3) {
+            0 => self.edge(count),
+            1 => self.edge(length),
+            _ => self.address(),
+        };
         let data: Vec<u8> = (0..length).map(|_| self.random.byte()).collect();
         vec![load(address, &data), fetch(address, count)]
     }
@@ -455,11 +474,17 @@ impl Maker {
             _ => self.random.chance(450),
         };
         let console = &self.player.stick.console;
+        if file.device == Device::S && console.mode != 0 && file.aux1 & W != 0 && self.random.chance(100) {
+            return if self.random.chance(200) { self.smaller_errand(iocb) } else { self.corner_errand(iocb) };
+        }
         if file.device == Device::S && console.mode != 0 && console.row == shape(console.mode).1 {
             // Past the last row: mostly back to the first.
             match self.random.below(4) {
                 0 if file.aux1 & W != 0 => return self.put(iocb, PUT_CHARACTERS, &[0x7D]),
-                1 | 2 => return self.reopen_errand(iocb),
+                1 | 2 => {
+                    let mode = console.mode;
+                    return self.reopen(iocb, R | W | KEEP, mode);
+                }
                 _ => {}
             }
         }
@@ -473,20 +498,35 @@ impl Maker {
     /// A record written to E, the cursor back up, and the record read again:
     /// cut, just fitting, or with room to spare.
     fn echo_errand(&mut self, iocb: u8) -> Vec<Vec<u8>> {
-        let length = 1 + self.random.below(38);
-        let text: Vec<u8> = (0..length).map(|_| self.random.pick(b"ABCabc 0123 xyz")).collect();
-        let n = self.random.pick(&[1, 1 + length / 2, length, length + 1, length + 10]);
+        // A full row and one around it, an empty one (its EOL alone), or any.
+        let any = 1 + self.random.below(38);
+        let length = self.random.pick(&[any, any, any, 0, 1, 37, 38, 38, 39]);
+        let mut text: Vec<u8> = (0..length).map(|_| self.random.pick(b"ABCabc 0123 xyz")).collect();
+        if text.is_empty() {
+            text.push(EOL);
+        }
+        let n = self.random.pick(&[1, 1 + length / 2, length.max(1), length.max(1), length + 1, length + 10, 37, 38]);
         let address = self.inside(n);
-        let mut messages = self.put(iocb, PUT_RECORD, &text);
-        messages.extend(self.put(iocb, PUT_CHARACTERS, &[0x1C]));
+        let mut messages = Vec::new();
+        // Now and then where it scrolls: on the last rows, all blank.
+        if self.random.chance(150) {
+            let down = vec![EOL; 21 + self.random.below(3)];
+            messages.extend(self.put(iocb, PUT_CHARACTERS, &[vec![0x7D], down].concat()));
+        }
+        messages.extend(self.put(iocb, PUT_RECORD, &text));
+        // The last column is followed by a new row of its own.
+        let rows = if length < 38 { 1 } else { 2 };
+        messages.extend(self.put(iocb, PUT_CHARACTERS, &vec![0x1C; rows]));
         messages.push(self.call(iocb, GET_RECORD, address, n));
         messages.push(fetch(address, n));
         messages
     }
 
-    /// Some text on a row of E, then single characters put and read by A.
+    /// A place on a row of E, then single characters put and read by A.
     fn edit_errand(&mut self, iocb: u8) -> Vec<Vec<u8>> {
-        let mut messages = self.put(iocb, PUT_CHARACTERS, b"ABCDEF");
+        // Behind the text, or in the last column.
+        let start: &[u8] = if self.random.chance(700) { b"ABCDEF" } else { b"\x9B\x1E" };
+        let mut messages = self.put(iocb, PUT_CHARACTERS, start);
         for _ in 0..2 + self.random.below(8) {
             let command = self.random.pick(&[PUT_CHARACTERS, PUT_RECORD, GET_CHARACTERS, GET_RECORD]);
             let byte = match self.random.below(4) {
@@ -506,11 +546,84 @@ impl Maker {
         messages
     }
 
-    /// S again in the same mode with its cells kept, to read them.
-    fn reopen_errand(&mut self, iocb: u8) -> Vec<Vec<u8>> {
-        let mode = self.player.stick.console.mode;
+    /// To the last cell of S, a byte into it, and something past it; then
+    /// mostly S again with its cells kept, and its last row read to the end.
+    fn corner_errand(&mut self, iocb: u8) -> Vec<Vec<u8>> {
+        let console = &self.player.stick.console;
+        let (columns, rows, _) = shape(console.mode);
+        let (mut data, column) = match rows - console.row {
+            0 => ([vec![0x7D], vec![EOL; rows - 1]].concat(), 0),
+            1 => (Vec::new(), console.column),
+            left => (vec![EOL; left - 1], 0),
+        };
+        let mut messages = Vec::new();
+        if !data.is_empty() {
+            messages.extend(self.put(iocb, PUT_CHARACTERS, &data));
+        }
+        // No control code among them, so that a record has its EOL added past the last row.
+        data = (column + 1..columns).map(|_| self.random.pick(&[0x00, 0x01, 0x02, 0x03, 0xFC, 0xFF])).collect();
+        data.push(self.random.pick(&[0x01, 0x02, 0x03, 0xFF]));
+        let command = self.random.pick(&[PUT_CHARACTERS, PUT_RECORD]);
+        messages.extend(self.put(iocb, command, &data));
+        messages.extend(match self.random.below(5) {
+            0 => self.put(iocb, PUT_CHARACTERS, &[0x01]),
+            1 => self.put(iocb, PUT_CHARACTERS, &[EOL]),
+            2 => self.put(iocb, PUT_CHARACTERS, &[0x7D]),
+            3 => vec![self.call(iocb, GET_CHARACTERS, 0, 1)],
+            _ => {
+                let command = self.random.pick(&[GET_RECORD, GET_CHARACTERS, PUT_RECORD, PUT_CHARACTERS]);
+                vec![self.call(iocb, command, 0, 0)]
+            }
+        });
+        if self.random.chance(800) {
+            let mode = self.player.stick.console.mode;
+            messages.extend(self.reopen(iocb, R | W | KEEP, mode));
+            messages.extend(self.put(iocb, PUT_CHARACTERS, &vec![EOL; rows - 1]));
+            let n = columns + self.random.below(2);
+            let address = self.inside(n);
+            messages.push(self.call(iocb, GET_CHARACTERS, address, n));
+            messages.push(fetch(address + n - 1, 1));
+        }
+        messages
+    }
+
+    /// The paper filled up to its last bytes, and some more byte by byte.
+    fn paper_errand(&mut self, iocb: u8) -> Vec<Vec<u8>> {
+        let mut messages = Vec::new();
+        let n = (PAPER - 3 + self.random.below(4)).saturating_sub(self.player.stick.used);
+        if n > 0 {
+            let address = self.inside(n);
+            messages.push(self.call(iocb, PUT_CHARACTERS, address, n));
+        }
+        for _ in 0..1 + self.random.below(3) {
+            let command = self.random.pick(&[PUT_CHARACTERS, PUT_RECORD]);
+            let byte = self.random.byte();
+            messages.extend(match self.random.below(2) {
+                0 => self.put(iocb, command, &[byte]),
+                _ => vec![call(iocb, command, 65_535, 0, [0, 0, byte])],
+            });
+        }
+        messages
+    }
+
+    /// In mode 8 a row and a byte up to and past the end of a smaller mode;
+    /// then S in that mode, mostly cleared.
+    fn smaller_errand(&mut self, iocb: u8) -> Vec<Vec<u8>> {
+        let mode = 3 + self.random.below(5) as u8;
+        let (columns, rows, _) = shape(mode);
+        let data = [vec![EOL; columns * rows / 320 - 1], vec![0x01; 321]].concat();
+        let mut messages = self.reopen(iocb, R | W, 8);
+        messages.extend(self.put(iocb, PUT_CHARACTERS, &data));
+        let aux1 = self.random.pick(&[R | W, R | W, R | W | KEEP]);
+        messages.extend(self.reopen(iocb, aux1, mode));
+        messages
+    }
+
+    /// S again: in the same mode with its cells kept, to read them, or in
+    /// another.
+    fn reopen(&mut self, iocb: u8, aux1: u8, mode: u8) -> Vec<Vec<u8>> {
         let address = self.inside(2);
-        let open = call(iocb, OPEN, address, 0, [0x2C, mode, self.random.byte()]);
+        let open = call(iocb, OPEN, address, 0, [aux1, mode, self.random.byte()]);
         vec![self.call(iocb, CLOSE, 0, 0), load(address, b"S:"), open]
     }
 
@@ -540,7 +653,10 @@ impl Maker {
             (Device::K, _) => self.random.pick(&[1, 1, 1, 2, 10]),
             // Each empty row is a character of E: many of them scroll all away.
             (Device::E, _) if command == GET_CHARACTERS && self.random.chance(900) => 1 + self.random.below(8),
-            _ => self.random.pick(&[1, 2, 3, 5, 10, 38, 39, 40, 100, 300]),
+            _ => {
+                let piece = self.random.pick(&PIECES);
+                self.random.pick(&[1, 2, 3, 5, 10, 37, 38, 39, 40, 100, 300, piece, piece])
+            }
         };
         let address = self.inside(n);
         messages.push(self.call(iocb, command, address, n));
@@ -564,12 +680,17 @@ impl Maker {
                     return vec![self.call(iocb, PUT_CHARACTERS, address, n)];
                 }
             },
-            Device::P if self.random.chance(60) => {
+            Device::P if self.random.chance(40) => return self.paper_errand(iocb),
+            Device::P if self.random.chance(30) => {
                 let n = self.random.pick(&[1_000, 4_095, 4_096, 4_097, 16_384]);
                 let address = self.inside(n);
                 return vec![self.call(iocb, command, address, n)];
             }
-            Device::P => (0..1 + self.random.below(300)).map(|_| self.random.byte()).collect(),
+            Device::P => {
+                let length =
+                    if self.random.chance(50) { self.random.pick(&PIECES) } else { 1 + self.random.below(300) };
+                (0..length).map(|_| self.random.byte()).collect()
+            }
             _ => self.text(),
         };
         self.put(iocb, command, &data)
@@ -637,10 +758,16 @@ impl Maker {
             return last + 1;
         }
         match self.random.below(5) {
-            0 => last,
+            0 => last.saturating_sub(self.random.below(2)),
             1 => self.random.below(last + 1),
             _ => self.random.below(1 + last.min(300)),
         }
+    }
+
+    /// An address from which n bytes end at the area's end, one before or one
+    /// past it.
+    fn edge(&mut self, n: usize) -> usize {
+        (AREA - 1 + self.random.below(3)).saturating_sub(n)
     }
 
     fn address(&mut self) -> usize {
@@ -665,7 +792,9 @@ impl Maker {
 
     fn length(&mut self) -> usize {
         let any = self.random.below(65_536);
-        self.random.pick(&[0, 0, 1, 1, 2, 2, 3, 10, 40, 255, 256, 257, AREA - 1, AREA, AREA + 1, 65_535, 65_535, any])
+        let piece = self.random.pick(&PIECES);
+        let area = self.random.pick(&[AREA - 1, AREA, AREA + 1]);
+        self.random.pick(&[0, 0, 1, 1, 2, 2, 3, 10, 40, piece, piece, piece, area, area, area, 65_535, 65_535, any])
     }
 
     // ---- messages ----
@@ -678,13 +807,18 @@ impl Maker {
 
     /// A CALL of any numbers, the edges among them.
     fn wild_call(&mut self) -> Vec<u8> {
-        let iocb = if self.random.chance(900) { self.random.below(9) as u8 } else { self.random.byte() };
-        let command = match self.random.weigh(&[60, 25, 15]) {
+        let iocb = match self.random.weigh(&[60, 30, 10]) {
+            0 => self.random.below(8) as u8,
+            1 => self.random.pick(&[7, 8]),
+            _ => self.random.byte(),
+        };
+        let command = match self.random.weigh(&[40, 45, 15]) {
             0 => self.random.pick(&COMMANDS),
             1 => self.random.below(16) as u8,
             _ => self.random.byte(),
         };
-        let (address, mut length) = (self.address(), self.length());
+        let mut length = self.length();
+        let address = if self.random.chance(200) { self.edge(length) } else { self.address() };
         // A transfer that does not end soon is rare.
         if address + length <= AREA && length > 300 && self.random.chance(800) {
             length %= 300;
@@ -694,9 +828,9 @@ impl Maker {
 
     /// A field with a bad tag or a bad length, or plain rubbish.
     fn wild_message(&mut self) -> Vec<u8> {
-        let tag = if self.random.chance(700) { 0x10 + self.random.below(4) as u8 } else { self.random.byte() };
+        let tag = if self.random.chance(700) { 0x0F + self.random.below(5) as u8 } else { self.random.byte() };
         let any = self.random.below(600);
-        let length = self.random.pick(&[0, 0, 1, 2, 2, 3, 4, 5, 8, 9, 10, 257, 258, 259, 260, any]);
+        let length = self.random.pick(&[0, 0, 1, 2, 2, 3, 4, 5, 8, 9, 10, 255, 256, 257, 258, 259, 260, any]);
         let length = if self.random.chance(5) { self.random.pick(&[16_384, 65_535]) } else { length };
         let value: Vec<u8> = (0..length).map(|_| self.random.byte()).collect();
         let mut message = field(tag, &value);

@@ -1,0 +1,435 @@
+//! The random conversations come to the paper's boundaries: each of those below is reached at least once in the scripts that
+//! `./test` compares.
+
+use model::random::{call, conversation, fetch, field, load};
+use model::script::{Op, Player};
+use model::stick::*;
+use std::collections::BTreeMap;
+
+/// The scripts of `./test`: so many, from the seed on that `compare` has where none is said.
+const SCRIPTS: u64 = 2_000;
+const FIRST_SEED: u64 = 1;
+
+/// Lengths and counts around those of a piece and a field, and ends around the area's.
+const LENGTHS: [usize; 7] = [0, 1, 255, 256, 257, 258, 259];
+const ENDS: [usize; 3] = [AREA - 1, AREA, AREA + 1];
+const TRANSFERS: [(u8, &str); 4] = [
+    (GET_RECORD, "GET RECORD"),
+    (GET_CHARACTERS, "GET CHARACTERS"),
+    (PUT_RECORD, "PUT RECORD"),
+    (PUT_CHARACTERS, "PUT CHARACTERS"),
+];
+/// Each device's letter and the AUX1 with all that it offers.
+const OFFERED: [(u8, u8); 4] = [(b'E', R | W | FORCED), (b'S', R | W), (b'K', R), (b'P', W)];
+
+/// The names of all boundaries.
+fn boundaries() -> Vec<String> {
+    let mut all = Vec::new();
+    let mut add = |name: String| all.push(name);
+    for end in ENDS {
+        add(format!("LOAD ends at {end}"));
+        add(format!("FETCH ends at {end}"));
+        for (_, transfer) in TRANSFERS {
+            add(format!("{transfer} ends at {end}"));
+        }
+    }
+    for length in LENGTHS {
+        add(format!("FETCH of {length}"));
+        for (_, transfer) in TRANSFERS {
+            add(format!("{transfer} of {length}"));
+        }
+    }
+    for (tag, lengths) in [(0x10, [8, 9, 10]), (0x11, [2, 3, 4]), (0x11, [257, 258, 259]), (0x12, [3, 4, 5])] {
+        for length in lengths {
+            add(format!("tag {tag:02X}, length {length}"));
+        }
+    }
+    for tag in [0x0F, 0x13] {
+        add(format!("tag {tag:02X}"));
+    }
+    for count in [0, 257] {
+        add(format!("FETCH of {count} past the area"));
+    }
+    for iocb in [7, 8] {
+        for command in 0..=0x0E {
+            add(format!("IOCB {iocb}, command {command:02X}"));
+        }
+    }
+    for (letter, offered) in OFFERED {
+        for bit in 0..8 {
+            add(format!("{} AUX1 {:02X}", letter as char, 1 << bit));
+            add(format!("{} AUX1 {:02X}", letter as char, offered ^ 1 << bit));
+        }
+    }
+    all.sort();
+    all.dedup();
+    let mut add = |name: String| all.push(name);
+    for mode in 3..=8 {
+        for what in [
+            "PUT in the last column",
+            "GET in the last column",
+            "EOL in the last row",
+            "PUT into the last cell",
+            "GET of the last cell, not 0",
+            "PUT past the last row",
+            "EOL past the last row",
+            "clear past the last row",
+            "GET past the last row",
+            "added EOL past the last row",
+        ] {
+            add(format!("mode {mode}, {what}"));
+        }
+        if mode < 8 {
+            add(format!("mode {mode}, cleared before a cell that is not 0"));
+        }
+    }
+    for what in [
+        "data in column 39",
+        "data in column 39 of row 23",
+        "EOL in row 23",
+        "up from row 0",
+        "down from row 23",
+        "left from column 2",
+        "right from column 39",
+        "backspace in column 2",
+        "backspace in column 3",
+        "GET of column 39",
+        "GET behind column 39",
+        "GET of an EOL in row 23",
+        "GET of an empty row",
+        "record of 38 cut by 37",
+        "record of 38 cut by 38",
+    ] {
+        add(format!("E, {what}"));
+    }
+    for length in [0, 1, 37, 38, 39] {
+        add(format!("E, PUT RECORD of {length} on a blank row"));
+        if length < 39 {
+            add(format!("E, GET RECORD of {length} and the EOL"));
+        }
+    }
+    for row in [22, 23] {
+        add(format!("E, PUT RECORD of 38 on row {row}"));
+    }
+    for used in [4_094, 4_095, 4_096] {
+        for way in ["characters", "record", "added EOL", "A"] {
+            add(format!("P, {way} at {used}"));
+        }
+    }
+    for device in ["E", "S", "K"] {
+        add(format!("{device}, a read of length 0"));
+    }
+    for device in ["S", "K", "P"] {
+        add(format!("{device}, a refused character of length 0"));
+    }
+    all
+}
+
+/// A script played on the model, tick by tick, and the boundaries that it came to.
+struct Watch<'a> {
+    player: Player,
+    reached: &'a mut BTreeMap<String, u64>,
+    /// For each port's PUT RECORD on E whether it is plain characters on a blank row so far, and that row.
+    plain: [Option<usize>; 2],
+}
+
+impl Watch<'_> {
+    fn note(&mut self, name: String) {
+        *self.reached.entry(name).or_default() += 1;
+    }
+
+    fn play(&mut self, op: &Op) -> bool {
+        match *op {
+            Op::Dump => true,
+            Op::Tick { port } => {
+                self.tick(port);
+                true
+            }
+            Op::Ticks { port, count } => {
+                for _ in 0..count {
+                    let done = self.tick(port) == DONE;
+                    if !done || !matches!(self.player.stick.ports[usize::from(port)].phase, Phase::Running(_)) {
+                        break;
+                    }
+                }
+                true
+            }
+            ref op => self.player.play(op, &mut Vec::new()),
+        }
+    }
+
+    fn tick(&mut self, port: u8) -> u8 {
+        let stick = &self.player.stick;
+        let place = usize::from(port).min(1);
+        let before = match &stick.ports[place].phase {
+            ready @ Phase::Ready(_) => Some(ready.clone()),
+            running @ Phase::Running(_) => Some(running.clone()),
+            _ => None,
+        };
+        let (console, used) = (stick.console.clone(), stick.used);
+        let mut answer = Vec::new();
+        self.player.play(&Op::Tick { port }, &mut answer);
+        if answer[0] == DONE {
+            match before {
+                Some(Phase::Ready(message)) => self.started(place, &message),
+                Some(Phase::Running(run)) => self.moved(place, &run, &console, used),
+                _ => unreachable!("a tick that does something"),
+            }
+        }
+        answer[0]
+    }
+
+    /// The status in the reply, once it is made.
+    fn status(&self, port: usize) -> Option<u8> {
+        match &self.player.stick.ports[port].phase {
+            Phase::Replying(reply, _) => Some(reply[3]),
+            _ => None,
+        }
+    }
+
+    fn started(&mut self, port: usize, message: &[u8]) {
+        let (tag, value) = (message[0], &message[3..]);
+        let word = |at: usize| usize::from(value[at]) + 256 * usize::from(value[at + 1]);
+        if !(0x10..=0x12).contains(&tag) {
+            self.note(format!("tag {tag:02X}"));
+            return;
+        }
+        self.note(format!("tag {tag:02X}, length {}", value.len()));
+        match (tag, value.len()) {
+            (0x11, 3..=258) => self.note(format!("LOAD ends at {}", word(0) + value.len() - 2)),
+            (0x12, 4) => {
+                let (address, count) = (word(0), word(2));
+                self.note(format!("FETCH of {count}"));
+                if (1..=256).contains(&count) {
+                    self.note(format!("FETCH ends at {}", address + count));
+                } else if address + count > AREA {
+                    self.note(format!("FETCH of {count} past the area"));
+                }
+            }
+            (0x10, 9) => self.called(port, value[0], value[1], word(2), word(4), value[6]),
+            _ => {}
+        }
+    }
+
+    fn called(&mut self, port: usize, iocb: u8, command: u8, address: usize, length: usize, aux1: u8) {
+        self.note(format!("IOCB {iocb}, command {command:02X}"));
+        let status = self.status(port);
+        // A transfer that only its buffer can refuse, or a device.
+        if let Some((_, transfer)) = TRANSFERS.iter().find(|(number, _)| *number == command) {
+            if status.is_none() || status == Some(PAST_AREA) {
+                self.note(format!("{transfer} of {length}"));
+                self.note(format!("{transfer} ends at {}", address + length));
+            }
+            let stick = &self.player.stick;
+            if let Phase::Running(run) = &stick.ports[port].phase {
+                let row = stick.console.row;
+                let blank = stick.screen[40 * row..40 * row + 40].iter().all(|&cell| cell == 0x20);
+                let plain = run.file.device == Device::E && command == PUT_RECORD && length > 0 && blank;
+                self.plain[port] = (plain && stick.console.column == 2 && !stick.console.escape).then_some(row);
+            }
+        }
+        // An OPEN whose specification is good.
+        if command == OPEN && matches!(status, Some(SUCCESS | BAD_COMMAND | SCREEN_MODE)) {
+            let letter = self.player.stick.area[port * AREA + address];
+            self.note(format!("{} AUX1 {aux1:02X}", letter as char));
+            let (mode, screen) = (self.player.stick.console.mode, &self.player.stick.screen);
+            if (letter, status) == (b'S', Some(SUCCESS)) && aux1 & KEEP == 0 && mode < 8 {
+                let (columns, rows, _) = shape(mode);
+                if screen[columns * rows] != 0 {
+                    self.note(format!("mode {mode}, cleared before a cell that is not 0"));
+                }
+            }
+        }
+    }
+
+    /// A character moved, or a device refused it; console and paper as they were before.
+    fn moved(&mut self, port: usize, run: &Run, before: &Console, used: usize) {
+        let (n, device) = (run.call.length, run.file.device);
+        let reads = matches!(run.call.command, GET_RECORD | GET_CHARACTERS);
+        let status = self.status(port);
+        let added = !reads && n > 0 && run.count == n;
+        let byte = match n {
+            0 => run.call.a,
+            _ if added => EOL,
+            _ if reads => 0,
+            _ => self.player.stick.area[port * AREA + run.call.address + run.count],
+        };
+        if n == 0 && status == Some(SUCCESS) && reads {
+            self.note(format!("{device:?}, a read of length 0"));
+        } else if n == 0 && status.is_some_and(|status| status >= 0x80) {
+            self.note(format!("{device:?}, a refused character of length 0"));
+        }
+        match device {
+            Device::P if used >= 4_094 => {
+                let way = match run.call.command {
+                    _ if n == 0 => "A",
+                    _ if added => "added EOL",
+                    PUT_RECORD => "record",
+                    _ => "characters",
+                };
+                self.note(format!("P, {way} at {used}"));
+            }
+            Device::S => self.on_screen(before, reads, added, byte),
+            Device::E if reads => self.read_editor(run, before, status),
+            Device::E => self.wrote_editor(port, run, before, added, byte),
+            _ => {}
+        }
+    }
+
+    fn on_screen(&mut self, before: &Console, reads: bool, added: bool, byte: u8) {
+        let (columns, rows, _) = shape(before.mode);
+        let last_column = before.column == columns - 1;
+        let last_cell = last_column && before.row == rows - 1;
+        let past = before.row == rows;
+        let got = self.player.stick.console.last;
+        let what = match (reads, byte) {
+            (true, _) if past => "GET past the last row",
+            (true, _) if last_cell && got != 0 => "GET of the last cell, not 0",
+            (true, _) if last_column => "GET in the last column",
+            (false, 0x7D) if past => "clear past the last row",
+            (false, EOL) if past && added => "added EOL past the last row",
+            (false, EOL) if past => "EOL past the last row",
+            (false, EOL) if before.row == rows - 1 => "EOL in the last row",
+            (false, 0x7D | EOL) => return,
+            (false, _) if past => "PUT past the last row",
+            (false, _) if last_cell => "PUT into the last cell",
+            (false, _) if last_column => "PUT in the last column",
+            _ => return,
+        };
+        self.note(format!("mode {}, {what}", before.mode));
+    }
+
+    fn read_editor(&mut self, run: &Run, before: &Console, status: Option<u8>) {
+        let at = before.read_column.unwrap_or(2);
+        let ends = self.player.stick.console.read_column.is_none();
+        let record = run.call.command == GET_RECORD && run.call.length > 0;
+        let names = [
+            (!ends && at == 39, "GET of column 39"),
+            (ends && at == 40, "GET behind column 39"),
+            (ends && before.row == 23, "GET of an EOL in row 23"),
+            (ends && before.read_column.is_none(), "GET of an empty row"),
+            (ends && status == Some(RECORD_CUT) && at == 40 && run.count == 37, "record of 38 cut by 37"),
+            (ends && status == Some(RECORD_CUT) && at == 40 && run.count == 38, "record of 38 cut by 38"),
+        ];
+        for (_, what) in names.iter().filter(|(met, _)| *met) {
+            self.note(format!("E, {what}"));
+        }
+        // Stored from the row's first column on.
+        if ends && record && status == Some(SUCCESS) && at == 2 + run.count {
+            self.note(format!("E, GET RECORD of {} and the EOL", run.count));
+        }
+    }
+
+    fn wrote_editor(&mut self, port: usize, run: &Run, before: &Console, added: bool, byte: u8) {
+        let control = matches!(byte, 0x1B..=0x1F | 0x7D..=0x7F | EOL..=0x9F | 0xFD..=0xFF);
+        let data = byte != EOL && (before.escape || !control);
+        let acts = |code: u8| byte == code && !before.escape;
+        let names = [
+            (data && before.column == 39, "data in column 39"),
+            (data && before.column == 39 && before.row == 23, "data in column 39 of row 23"),
+            (byte == EOL && before.row == 23, "EOL in row 23"),
+            (acts(0x1C) && before.row == 0, "up from row 0"),
+            (acts(0x1D) && before.row == 23, "down from row 23"),
+            (acts(0x1E) && before.column == 2, "left from column 2"),
+            (acts(0x1F) && before.column == 39, "right from column 39"),
+            (acts(0x7E) && before.column == 2, "backspace in column 2"),
+            (acts(0x7E) && before.column == 3, "backspace in column 3"),
+        ];
+        for (_, what) in names.iter().filter(|(met, _)| *met) {
+            self.note(format!("E, {what}"));
+        }
+        if let Some(row) = self.plain[port] {
+            if added || byte == EOL {
+                self.note(format!("E, PUT RECORD of {} on a blank row", run.count));
+                if run.count == 38 {
+                    self.note(format!("E, PUT RECORD of 38 on row {row}"));
+                }
+            }
+            if !data {
+                self.plain[port] = None;
+            }
+        }
+    }
+}
+
+/// The boundaries that a script comes to, and how often.
+fn watch(script: &[Op], reached: &mut BTreeMap<String, u64>) {
+    let mut watch = Watch { player: Player::new(), reached, plain: [None; 2] };
+    for op in script {
+        if !watch.play(op) {
+            break;
+        }
+    }
+}
+
+fn missing(reached: &BTreeMap<String, u64>) -> Vec<String> {
+    boundaries().into_iter().filter(|name| !reached.contains_key(name)).collect()
+}
+
+/// `./test` compares the scripts that are counted here.
+#[test]
+fn the_gates_scripts() {
+    let test = std::fs::read_to_string(format!("{}/../test", env!("CARGO_MANIFEST_DIR"))).unwrap();
+    assert!(test.contains(&format!("--scripts {SCRIPTS} ")));
+    assert!(!test.contains("--seed") && !test.contains("--long"));
+}
+
+#[test]
+fn each_boundary_is_reached() {
+    let mut reached = BTreeMap::new();
+    for seed in FIRST_SEED..FIRST_SEED + SCRIPTS {
+        watch(&conversation(seed, false), &mut reached);
+    }
+    assert_eq!(missing(&reached), Vec::<String>::new());
+}
+
+/// What some messages on port 0 come to, of the boundaries alone.
+fn of_messages(messages: &[Vec<u8>]) -> Vec<String> {
+    let mut ops = Vec::new();
+    for message in messages {
+        ops.extend(message.iter().map(|&byte| Op::Take { port: 0, byte }));
+        ops.push(Op::Ticks { port: 0, count: 65_535 });
+        ops.push(Op::Ticks { port: 0, count: 65_535 });
+        ops.extend(vec![Op::Give { port: 0 }; 300]);
+    }
+    let mut reached = BTreeMap::new();
+    watch(&ops, &mut reached);
+    let all = boundaries();
+    reached.into_keys().filter(|name| all.contains(name)).collect()
+}
+
+/// A boundary is reached where it is met, and not beside it.
+#[test]
+fn what_is_reached() {
+    assert_eq!(missing(&BTreeMap::new()), boundaries());
+    assert_eq!(of_messages(&[]), Vec::<String>::new());
+    assert_eq!(of_messages(&[load(AREA - 1, b"A")]), ["LOAD ends at 16384", "tag 11, length 3"]);
+    assert_eq!(of_messages(&[load(AREA - 9, b"ABC")]), Vec::<String>::new());
+    assert_eq!(
+        of_messages(&[fetch(AREA - 1, 257)]),
+        ["FETCH of 257", "FETCH of 257 past the area", "tag 12, length 4"]
+    );
+    assert_eq!(of_messages(&[field(0x13, b""), field(0x14, b"")]), ["tag 13"]);
+    let open = |device: &[u8], aux: [u8; 3]| vec![load(0, device), call(0, OPEN, 0, 0, aux)];
+    let put = |command: u8, data: &[u8]| vec![load(100, data), call(0, command, 100, data.len(), [0, 0, 0])];
+    // A full row of E, and one less; the last cell of mode 3, and one before it.
+    for (length, full) in [(37, false), (38, true)] {
+        let record = put(PUT_RECORD, &vec![b'A'; length]);
+        let up = put(PUT_CHARACTERS, &[0x1C, 0x1C][..1 + usize::from(full)]);
+        let get = vec![call(0, GET_RECORD, 100, 39, [0, 0, 0])];
+        let reached = of_messages(&[open(b"E:", [0x0D, 0, 0]), record, up, get].concat());
+        for name in ["data in column 39", "GET of column 39", "GET behind column 39", "GET RECORD of 38 and the EOL"] {
+            assert_eq!(reached.contains(&format!("E, {name}")), full, "{length}: {name}");
+        }
+        assert!(reached.contains(&format!("E, PUT RECORD of {length} on a blank row")), "{length}");
+    }
+    for (length, last) in [(39, false), (40, true)] {
+        let there = put(PUT_CHARACTERS, &[EOL; 23]);
+        let row = put(PUT_RECORD, &vec![1; length]);
+        let reached = of_messages(&[open(b"S:", [0x0C, 3, 0]), there, row].concat());
+        for name in ["PUT into the last cell", "added EOL past the last row"] {
+            assert_eq!(reached.contains(&format!("mode 3, {name}")), last, "{length}: {name}");
+        }
+        assert_eq!(reached.contains(&"mode 3, EOL in the last row".to_string()), !last, "{length}");
+    }
+}
