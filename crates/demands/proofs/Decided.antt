@@ -291,6 +291,11 @@ use Rattle.cio.proofs.errand.run_errand.Reads as cio-run-errand-reads
 use Rattle.cio.proofs.start.start.Kinds as cio-start-kinds
 use Rattle.cio.proofs.start.start.Reads as cio-start-reads
 use Rattle.cio.proofs.Decided as cio
+use Rattle.running.proofs.land_at.Kinds as running-land-at-kinds
+use Rattle.running.proofs.land_at.Reads as running-land-at-reads
+use Rattle.running.proofs.advance_at.Kinds as running-advance-at-kinds
+use Rattle.running.proofs.advance_at.Reads as running-advance-at-reads
+use Rattle.running.proofs.Decided as running
 use Rattle.ticks.proofs.tick_at.Kinds as ticks-tick-at-kinds
 use Rattle.ticks.proofs.tick_at.Reads as ticks-tick-at-reads
 use Rattle.ticks.proofs.Decided as ticks
@@ -518,9 +523,14 @@ cio-decided =
     promise 2 cio-run-errand-kinds.ps cio-run-errand-kinds.r cio-run-errand-reads.Pre cio-run-errand-reads.Learnt cio.run-errand-decides cio.run-errand-allows (
     promise 3 cio-start-kinds.ps cio-start-kinds.r cio-start-reads.Pre cio-start-reads.Learnt cio.start-decides cio.start-allows moves-decided))
 
+pub running-decided : Promises
+running-decided =
+    promise 1 running-land-at-kinds.ps running-land-at-kinds.r running-land-at-reads.Pre running-land-at-reads.Learnt running.land-at-decides running.land-at-allows (
+    promise 4 running-advance-at-kinds.ps running-advance-at-kinds.r running-advance-at-reads.Pre running-advance-at-reads.Learnt running.advance-at-decides running.advance-at-allows cio-decided)
+
 pub ticks-decided : Promises
 ticks-decided =
-    promise 4 ticks-tick-at-kinds.ps ticks-tick-at-kinds.r ticks-tick-at-reads.Pre ticks-tick-at-reads.Learnt ticks.tick-at-decides ticks.tick-at-allows cio-decided
+    promise 4 ticks-tick-at-kinds.ps ticks-tick-at-kinds.r ticks-tick-at-reads.Pre ticks-tick-at-reads.Learnt ticks.tick-at-decides ticks.tick-at-allows running-decided
 
 pub stick-decided : Promises
 stick-decided =

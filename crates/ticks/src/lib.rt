@@ -1,7 +1,6 @@
 // A tick of a port that is not refused: a ready request starts, or a running one moves one character. Each function lends on the parts
 // of the state that it is about: the port's room, the devices' numbers; and the port's half of the area.
 use blocks::Header;
-use blocks::Run;
 use layout::places::AREA;
 use layout::places::DEVICES;
 use layout::places::ROOM;
@@ -9,74 +8,11 @@ use layout::places::ROOMS;
 use plan::Errand;
 use plan::Job;
 use plan::Plan;
-use transfer::Carried;
-use transfer::Next;
 ghost use mathlib.Core.Path.{_≡_};
-ghost use Rattle.transfer.specs.Transfer.{nextOf, outOf};
 ghost use Rattle.layout.specs.Places.{Reaches};
 ghost use Rattle.calls.specs.Calls.{tickAt};
 ghost use Rattle.calls.specs.Bytes.{buffers, left, leftOf, stickBy, lentBy};
-ghost use Rattle.calls.specs.Parts.{Called, Rooms, Halves, Going, landOn, advanceOn, planOn, waitsOn, errandOn, jobOn, startOn, readyOn};
-
-// What becomes of a request, into its port's room and phase.
-fn land_at(port: u8, next: Next, state: &mut [u8])
-    requires { ⌜ Rooms port (now state) ⌝ }
-    ensures { λ _. ⌜ now (state .exit) ≡ landOn port (outOf next) (now (state .entry)) ⌝ }
-{
-    let room = ROOMS + ROOM * (port as usize);
-    let past = room + ROOM;
-    let phase = transfer::land(next, &mut state[room..past]);
-    ports::set_phase(port, phase, state);
-}
-
-// The same of a running one; where it goes on, only its phase changes.
-fn carry_at(port: u8, run: Run, carried: Carried, state: &mut [u8])
-    requires { ⌜ Rooms port (now state) ⌝ }
-    ensures { λ _. ⌜ now (state .exit) ≡ landOn port (outOf (nextOf run carried)) (now (state .entry)) ⌝ }
-{
-    match carried {
-        Carried::On(left, place, count, a) => {
-            let kind = run.kind;
-            let device = run.device;
-            let more = Run {
-                kind: kind,
-                device: device,
-                iocb: run.iocb,
-                left: left,
-                place: place,
-                count: count,
-                a: a,
-            };
-            ports::set_run(port, more, state);
-        }
-        Carried::Off(status, count, a) => land_at(port, Next::Off(status, count, a), state),
-    }
-}
-
-// A running request moves one character.
-fn advance_at(
-    port: u8,
-    run: Run,
-    state: &mut [u8],
-    area: &mut [u8],
-    screen: &mut [u8],
-    paper: &mut [u8],
-)
-    requires { ⌜ Going port run (buffers (now state) (now area) (now screen) (now paper)) ⌝ }
-    ensures { λ _. ⌜ buffers (now (state .exit)) (now (area .exit)) (now (screen .exit)) (now (paper .exit)) ≡ advanceOn port run (buffers (now (state .entry)) (now (area .entry)) (now (screen .entry)) (now (paper .entry))) ⌝ }
-{
-    let from = AREA * (port as usize);
-    let end = from + AREA;
-    let carried = moves::advance(
-        port,
-        run,
-        &mut area[from..end],
-        &mut state[DEVICES..ROOMS],
-        screen,
-        paper,
-    );
-    carry_at(port, run, carried, state);
-}
+ghost use Rattle.calls.specs.Parts.{Called, Rooms, Halves, planOn, waitsOn, errandOn, jobOn, startOn, readyOn};
 
 // What a ready message comes to.
 fn plan_at(port: u8, header: Header, state: &[u8], area: &[u8]) -> Plan
@@ -137,7 +73,7 @@ fn job_at(port: u8, job: Job, state: &mut [u8], area: &[u8], screen: &mut [u8], 
     let after = begin.block;
     let next = begin.next;
     ports::set_block(port, iocb, after, state);
-    land_at(port, next, state);
+    running::land_at(port, next, state);
 }
 
 fn start_at(
@@ -190,7 +126,7 @@ pub fn tick_at(
     let number = ports::phase_number(port, state);
     if number == 2 {
         let run = ports::run_of(port, state);
-        advance_at(port, run, state, area, screen, paper);
+        running::advance_at(port, run, state, area, screen, paper);
         return 0;
     }
     if number == 1 {

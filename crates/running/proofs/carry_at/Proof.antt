@@ -2,8 +2,8 @@
 -- Assumes nothing.
 use Rattle.calls.proofs.Stores.{carried-on, carried-off}
 use borrow.Author.Needs.{needs}
-use Rattle.ticks.proofs.carry_at.Statement.{statement}
-use Rattle.ticks.proofs.carry_at.Tie as tie
+use Rattle.running.proofs.carry_at.Statement.{statement}
+use Rattle.running.proofs.carry_at.Tie as tie
 
 pub carry-at-spec : {M : Type 1} → statement M
 carry-at-spec =

@@ -2,8 +2,8 @@
 -- Assumes nothing.
 use Rattle.calls.proofs.Stores.{advance-law}
 use borrow.Author.Needs.{needs}
-use Rattle.ticks.proofs.advance_at.Statement.{statement}
-use Rattle.ticks.proofs.advance_at.Tie as tie
+use Rattle.running.proofs.advance_at.Statement.{statement}
+use Rattle.running.proofs.advance_at.Tie as tie
 
 pub advance-at-spec : {M : Type 1} → statement M
 advance-at-spec =

@@ -2,8 +2,8 @@
 -- Assumes nothing.
 use Rattle.calls.proofs.Stores.{land-law}
 use borrow.Author.Needs.{needs}
-use Rattle.ticks.proofs.land_at.Statement.{statement}
-use Rattle.ticks.proofs.land_at.Tie as tie
+use Rattle.running.proofs.land_at.Statement.{statement}
+use Rattle.running.proofs.land_at.Tie as tie
 
 pub land-at-spec : {M : Type 1} → statement M
 land-at-spec =
