@@ -77,7 +77,7 @@ abbrev pub SomeIn : Kind → ℕ → Type 0
 SomeIn (Get way) n = Some way n
 SomeIn (Put way) n = Some way n
 
--- cio's counting down, by zero and suc
+-- a transfer's counting down, by zero and suc
 module _ (kind : Kind) (device : Device) (iocb place count a : ℕ) where
   further-is : (n : ℕ) → furtherOf (runBy kind device iocb (suc n) place count a) ≡ runBy kind device iocb n (place + 1) (count + 1) a
   further-is n = let e : suc n - 1 ≡ n = omega arith in rw e
