@@ -30,6 +30,16 @@ fn play(
     }
 }
 
+// Nothing more is played.
+fn ends(op: Op) -> bool {
+    match op {
+        Op::End => true,
+        Op::Lend(which, length) => false,
+        Op::Dump => false,
+        Op::Operation(call) => false,
+    }
+}
+
 // A proved loop has to end, and nothing says that an input does: so its turns are counted, up to a number that no run reaches.
 fn main() {
     let mut some_state = [0u8; places::STATE];
@@ -45,7 +55,7 @@ fn main() {
     let mut i: u64 = 0;
     while i < u64::MAX {
         let op = script::ops::read();
-        if script::ops::ends(op) {
+        if ends(op) {
             return;
         }
         lengths = play(op, lengths, state, area, screen, paper);

@@ -73,13 +73,3 @@ pub fn read() -> Op {
     }
     read_operands(bytes[0])
 }
-
-// Nothing more is played.
-pub fn ends(op: Op) -> bool {
-    match op {
-        Op::End => true,
-        Op::Lend(which, length) => false,
-        Op::Dump => false,
-        Op::Operation(call) => false,
-    }
-}
