@@ -1,5 +1,5 @@
 """docs/PROMISES.md names what is there: each path, each name in the file before it, each must-fail edit, and each case
-of ``./stick cases``. Each public function promises, and its promise decides or is listed in docs/DECISIONS.md."""
+of ``./stick cases``; so does docs/SLIPS.md. Each public function promises, and its promise decides or is listed in docs/DECISIONS.md."""
 
 from __future__ import annotations
 
@@ -124,6 +124,34 @@ class Promises(unittest.TestCase):
             self.assertEqual(len(faults(line)), 1, line)
         for line in ("`calls/specs/Calls.antt` `freshCall`, `takeCall`", "`blocks/src/lib.rt` `Table::closed`"):
             self.assertEqual(faults(line), [], line)
+
+
+class Slips(unittest.TestCase):
+    """docs/SLIPS.md names what is there, and what tools/slips would change is there to be changed."""
+
+    def setUp(self) -> None:
+        text = (REPOSITORY / "docs" / "SLIPS.md").read_text(encoding="utf-8")
+        lines = [line for line in text.splitlines() if line.startswith("| ") and not line.startswith("| slip")]
+        self.rows = [line.strip("| ").split(" | ") for line in lines]
+
+    def test_all_is_there(self) -> None:
+        self.assertGreaterEqual(len(self.rows), 30)
+        for _, changed, seen, _ in self.rows:
+            self.assertEqual(faults(changed) + faults(seen), [])
+
+    def test_each_can_be_made(self) -> None:
+        files = {file.stem: file for file in (REPOSITORY / "tools" / "slips").glob("*.slip")}
+        self.assertEqual({row[3].strip("`") for row in self.rows} - {"by hand"}, set(files))
+        for slip in files.values():
+            text = ""
+            for line in slip.read_text(encoding="utf-8").splitlines():
+                key, _, rest = line.partition(": ")
+                if key == "file":
+                    text = (CRATES / rest).read_text(encoding="utf-8")
+                elif key == "old":
+                    self.assertEqual(text.count(rest), 1, f"{slip.name}: {rest}")
+                elif key == "every":
+                    self.assertIn(rest, text, slip.name)
 
 
 @dataclass(frozen=True)

@@ -14,14 +14,15 @@ use Rattle.editor.specs.Text as editor
 use Rattle.controls.specs.Put as controls
 use Rattle.editor.specs.Get as editor-get
 use Rattle.graphics.specs.Picture as graphics
-use Rattle.printer.specs.Printer.{printerGroup}
+use Rattle.printer.specs.Printer.{paperLength, printerGroup}
 use Rattle.console.specs.Group.{group, freshGroup, pressedOf}
 use Rattle.console.specs.Handlers.{openE, openS, openOf, prepareE, prepareS, prepareOf, readE, readS, readK, readOf, writeE, writeS, writeOf}
 use Rattle.blocks.specs.Blocks.{closedTable}
 use Rattle.blocks.specs.Opening.{deviceOf, numberOf, namedOf, specificationOf, offersOf, areaLength}
 use Rattle.replies.specs.Replies.{bytesAt, fetchStatus, fetchReply}
 use Rattle.devices.specs.Groups.{Groups}
-use Rattle.plan.specs.Plan.{commandOf, wayOf, areaPlan, transferPlan, blockPlan, callPlan, planOf, nameOf, planIn}
+use Rattle.commands.specs.Commands.{commandOf, wayOf}
+use Rattle.plan.specs.Plan.{areaPlan, transferPlan, blockPlan, callPlan, planOf, nameOf, planIn}
 use Rattle.cio.specs.Start.{loadStatus, openedOf, thenOf}
 use Rattle.alone.specs.Transfer.{getOne, putOne, getCharacters, dropLine, getRecord, putCharacters, putRecord, getting, putting, transferred}
 use Rattle.alone.specs.Left.{leftE, leftS, leftK, consoleLeft}
@@ -56,7 +57,7 @@ run (says said ∷ rest) l d = let w = aloneOf said l d in hear (w .reply) (run 
 run (presses code ∷ rest) l d = run rest l (pressed code d)
 
 abbrev fresh : List Step → Heard
-fresh steps = run steps (local 0 closedTable (replicate areaLength 0)) (record { console = freshGroup; printer = printerGroup 0 (replicate 4096 0) })
+fresh steps = run steps (local 0 closedTable (replicate areaLength 0)) (record { console = freshGroup; printer = printerGroup 0 (replicate paperLength 0) })
 
 abbrev asks : (iocb command address length aux1 aux2 a : ℕ) → Step
 asks iocb command address length aux1 aux2 a =

@@ -10,3 +10,5 @@ pub mod Keeps
 pub mod Said
 pub mod Case12
 pub mod Cases
+pub mod Ending
+pub mod Loading

@@ -23,15 +23,16 @@ use Rattle.wire.specs.declared.Call.{Call}
 use Rattle.transfer.specs.Spans.{wayIn}
 use Rattle.plan.specs.declared.After.{After}
 use Rattle.plan.specs.declared.After.the-variants as after
-use Rattle.plan.specs.declared.Command.{Command}
-use Rattle.plan.specs.declared.Command.the-variants as command
+use Rattle.commands.specs.declared.Command.{Command}
+use Rattle.commands.specs.declared.Command.the-variants as command
 use Rattle.plan.specs.declared.Errand.{Errand}
 use Rattle.plan.specs.declared.Errand.the-variants as errand
 use Rattle.plan.specs.declared.Plan.{Plan}
 use Rattle.plan.specs.declared.Plan.the-variants as plan
 use Rattle.plan.specs.declared.Work.{Work}
 use Rattle.plan.specs.declared.Work.the-variants as work
-use Rattle.plan.specs.Plan.{commandOf, wayOf, kindOf, openPlan, areaPlan, transferPlan, blockPlan, callPlan}
+use Rattle.commands.specs.Commands.{commandOf, wayOf, kindOf}
+use Rattle.plan.specs.Plan.{openPlan, areaPlan, transferPlan, blockPlan, callPlan}
 use Rattle.alone.proofs.Span.{Span}
 
 abbrev pub PlannedWork : Work → Call → Type 0

@@ -3,3 +3,5 @@ pub mod Left
 pub mod Alone
 pub mod Fit
 pub mod Moves
+pub mod Ending
+pub mod Loading

@@ -1,3 +1,4 @@
 pub mod Blocks
 pub mod Opening
 pub mod Made
+pub mod Specified

@@ -19,7 +19,7 @@ use Rattle.console.specs.Group.{group}
 use Rattle.console.specs.declared.state.Console.{Console}
 use Rattle.console.specs.Fit.{fitOf, FitGroup}
 use Rattle.printer.specs.declared.Printer.{Printer}
-use Rattle.printer.specs.Printer.{printerGroup}
+use Rattle.printer.specs.Printer.{paperLength, printerGroup}
 use Rattle.printer.specs.Fit.{FitPrinter}
 use Rattle.blocks.specs.declared.Device.{Device}
 use Rattle.blocks.specs.declared.ControlBlock.{ControlBlock}
@@ -126,13 +126,13 @@ module _ (port : ℕ) (b : Buffers) (c : Called port b) where
       let p0 = portFits (s .port0) (s .console) in
       let p1 = portFits (s .port1) (s .console) in
       let f = fitOf (s .console) in
-      let u = leb (s .printer .used) 4096 in
+      let u = leb (s .printer .used) paperLength in
       let e1 = and-right p0 _ (c .fits) in
       let e2 = and-right p1 _ e1 in
       let e3 = and-right f _ e2 in
       record {
         console = record { fit = and-left f _ e2; whole = c .whole };
-        printer = record { used = leb-true (s .printer .used) 4096 (and-left u _ e3); paper = c .sheet };
+        printer = record { used = leb-true (s .printer .used) paperLength (and-left u _ e3); paper = c .sheet };
       }
 
   -- bytes with these groups' numbers

@@ -19,7 +19,7 @@ use Rattle.blocks.specs.declared.Phase.the-variants.{Gathering, Ready, Running,
 use Rattle.wire.specs.declared.Given.{Given}
 use Rattle.wire.specs.Messages.{gathered, roomLength}
 use Rattle.wire.specs.Messages as messages
-use Rattle.wire.specs.Giving as replies
+use Rattle.wire.specs.Giving as giving
 use Rattle.layout.specs.Places.{phasePlace, roomPlace}
 use Rattle.layout.specs.Layout.{phaseBytes, byteAt, gatherIn, headerIn, runIn, replyIn, phaseIn}
 use Rattle.devices.specs.declared.Group.{Group}
@@ -113,7 +113,7 @@ module _ (port : ℕ) (state area screen paper : List ℕ) (c : Called port (buf
       (λ k. by-eq n 2 (λ z. take-running port state area screen paper c (phaseIn here) refl byte (runIn here) (is-running here n e z))
       (λ l. take-replying port state area screen paper c (phaseIn here) refl byte (replyIn here) (is-replying here n e m k l)))
 
-  pub give-replies : (r : Reply) (g : Given) (state′ : List ℕ) (number : ℕ) → 3 ≤ n → r ≡ replyIn here → g ≡ replies.giveOf r (part (roomPlace port) (roomPlace port + roomLength - roomPlace port) state)
+  pub give-replies : (r : Reply) (g : Given) (state′ : List ℕ) (number : ℕ) → 3 ≤ n → r ≡ replyIn here → g ≡ giving.giveOf r (part (roomPlace port) (roomPlace port + roomLength - roomPlace port) state)
       → state′ ≡ sets state (phasePlace port) (phaseBytes (g .phase)) → number ≡ 0 + 256 * g .byte
       → returned number (buffers state′ area screen paper) ≡ bothOf (leftOf (giveAt port (stickBy b) (lentBy b)))
   give-replies r g state′ number h i q f k =

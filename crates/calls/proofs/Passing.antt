@@ -19,7 +19,7 @@ use Rattle.base.proofs.Lists.{part-tail, back-tail}
 use Rattle.base.proofs.Parts.{back, part-length, sets-more, sets-over}
 use Rattle.cells.specs.Cells.{Whole}
 use Rattle.console.specs.Group.{freshConsole, freshGroup}
-use Rattle.printer.specs.Printer.{freshPrinter}
+use Rattle.printer.specs.Printer.{paperLength, freshPrinter}
 use Rattle.blocks.specs.declared.Port.{Port}
 use Rattle.blocks.specs.Blocks.{freshPort}
 use Rattle.blocks.specs.Opening.{areaLength}
@@ -33,7 +33,7 @@ use Rattle.layout.proofs.Lengths.{port-length, devices-length, head-length}
 use Rattle.layout.proofs.WriteRead.{state-back}
 use Rattle.devices.specs.Lent.{DevicesLent, devicesLent, lentOf, freshGroups, Freshens}
 use Rattle.damage.specs.Fits.{stickFits}
-use Rattle.calls.specs.Stick.{Outcome, outcome, refused, screenLength, paperLength, lengthsFit, refusalOf}
+use Rattle.calls.specs.Stick.{Outcome, outcome, refused, screenLength, lengthsFit, refusalOf}
 use Rattle.calls.specs.Calls.{freshLent, freshCall, guarded, takeAt, takeCall, tickAt, tickCall, giveAt, giveCall, pressAt, pressCall}
 use Rattle.calls.specs.Returned.{returned, answerOf, bothOf}
 use Rattle.calls.specs.Bytes.{Buffers, buffers, Left, left, leftAlone, fourFit, buffersFit, stickBy, lentBy, undamagedIn, leftOf, bytesRefusal, overBytes, freshBytes, takeBytes, tickBytes, giveBytes, pressBytes}

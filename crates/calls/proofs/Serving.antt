@@ -21,7 +21,7 @@ use Rattle.blocks.specs.declared.Phase.the-variants.{Gathering, Ready, Running,
 use Rattle.wire.specs.declared.Given.{Given}
 use Rattle.wire.specs.Messages.{Gathered, gathered, roomLength}
 use Rattle.wire.specs.Messages as messages
-use Rattle.wire.specs.Giving as replies
+use Rattle.wire.specs.Giving as giving
 use Rattle.layout.specs.Places.{phasePlace, devicesPlace, devicesLength, consolePlace, roomPlace, roomsPlace}
 use Rattle.layout.specs.Stick.{Stick, Lent, lent, portAt, withPort, withPhase, withConsole, withPart}
 use Rattle.layout.specs.Layout.{headOf, phaseBytes, consoleBytes, phaseIn, consoleIn}
@@ -118,11 +118,11 @@ module _ (port : ℕ) (state area screen paper : List ℕ) (c : Called port (buf
   unfolding givePort
   give-running r z = gave (Running r) z refl
 
-  pub give-replying : (r : Reply) (g : Given) (state′ : List ℕ) → phase ≡ Replying r → g ≡ replies.giveOf r (part (roomPlace port) (roomPlace port + roomLength - roomPlace port) state)
+  pub give-replying : (r : Reply) (g : Given) (state′ : List ℕ) → phase ≡ Replying r → g ≡ giving.giveOf r (part (roomPlace port) (roomPlace port + roomLength - roomPlace port) state)
       → state′ ≡ sets state (phasePlace port) (phaseBytes (g .phase)) → left 0 (g .byte) (buffers state′ area screen paper) ≡ leftOf (giveAt port s l)
   unfolding giveAt givePort
   give-replying r g state′ z q f =
-      let e = q ∙ ap (replies.giveOf r) (lent-part (roomPlace port) roomLength state ∙ room-read state s (drop roomsPlace state) w port (c .low)) in
+      let e = q ∙ ap (giving.giveOf r) (lent-part (roomPlace port) roomLength state ∙ room-read state s (drop roomsPlace state) w port (c .low)) in
       ap (λ (x : List ℕ). left 0 (g .byte) (buffers x area screen paper)) (f ∙ written-phase state s (drop roomsPlace state) w port (c .low) (g .phase) .is)
       ∙ ap (λ (x : Given). leftOf (outcome 0 (x .byte) (withPort port (withPhase (x .phase) (portAt port s)) s) l)) e
       ∙ ap (λ (y : Phase). let t = givePort y (portAt port s) (roomAt port l) in leftOf (outcome (t .answer) (t .byte) (withPort port (t .port) s) l)) (own (Replying r) z)

@@ -7,13 +7,14 @@ use Prim.Native.Nat.{ℕ, _*_}
 use lib.Dec.{eqb, ltb}
 use lib.ListN.{length}
 use Rattle.base.specs.Choice.{pick, choose, and}
+use Rattle.printer.specs.Printer.{paperLength}
 use Rattle.blocks.specs.Opening.{areaLength}
 use Rattle.layout.specs.Places.{stateLength}
 use Rattle.layout.specs.Stick.{Stick, freshStick, Lent}
 use Rattle.layout.specs.Layout.{headOf, stickIn, lentIn}
 use Rattle.layout.specs.Stands.{stands}
 use Rattle.damage.specs.Fits.{stickFits}
-use Rattle.calls.specs.Stick.{Outcome, screenLength, paperLength}
+use Rattle.calls.specs.Stick.{Outcome, screenLength}
 use Rattle.calls.specs.Calls.{freshCall, takeCall, tickCall, giveCall, pressCall}
 
 -- the four lent buffers

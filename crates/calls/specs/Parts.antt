@@ -11,6 +11,7 @@ use lib.Seq.{sets}
 use Rattle.base.specs.Choice.{pick, choose}
 use Rattle.base.specs.Parts.{part}
 use Rattle.cells.specs.Cells.{Whole}
+use Rattle.printer.specs.Printer.{paperLength}
 use Rattle.console.specs.Group.{pressedOf}
 use Rattle.blocks.specs.declared.ControlBlock.{ControlBlock}
 use Rattle.blocks.specs.declared.Header.{Header}
@@ -36,7 +37,6 @@ use Rattle.transfer.specs.Spans.{Spans, wayIn}
 use Rattle.moves.specs.Move.{advanceOf}
 use Rattle.cio.specs.Start.{errandOf, jobBegun}
 use Rattle.damage.specs.Fits.{stickFits}
-use Rattle.calls.specs.Stick.{paperLength}
 use Rattle.calls.specs.Bytes.{Buffers, buffers, Left, left, leftAlone, stickBy, lentBy}
 
 -- what is known of buffers that are not refused

@@ -12,7 +12,7 @@ use Rattle.blocks.specs.declared.Phase.the-variants.{Gathering, Ready, Running,
 use Rattle.blocks.specs.declared.Port.{Port}
 use Rattle.wire.specs.Messages.{messageOf}
 use Rattle.wire.specs.Messages as messages
-use Rattle.wire.specs.Giving as replies
+use Rattle.wire.specs.Giving as giving
 use Rattle.layout.specs.Stick.{withPhase}
 use Rattle.devices.specs.declared.Group.{Group}
 use Rattle.devices.specs.Groups.{Groups, getGroup, putGroup, clash, groupOf, deviceActs}
@@ -96,4 +96,4 @@ unfoldable pub givePort : Phase → Port → List ℕ → Served
 givePort (Gathering gather) port room = served 5 0 port room
 givePort (Ready header) port room = served 5 0 port room
 givePort (Running run) port room = served 5 0 port room
-givePort (Replying reply) port room = let g = replies.giveOf reply room in served 0 (g .byte) (withPhase (g .phase) port) room
+givePort (Replying reply) port room = let g = giving.giveOf reply room in served 0 (g .byte) (withPhase (g .phase) port) room

@@ -9,7 +9,7 @@ use lib.ListN.{length}
 use Rattle.base.specs.Choice.{pick, and}
 use Rattle.cells.specs.Cells.{Whole}
 use Rattle.console.specs.Group.{group}
-use Rattle.printer.specs.Printer.{printerGroup}
+use Rattle.printer.specs.Printer.{paperLength, printerGroup}
 use Rattle.blocks.specs.Opening.{areaLength}
 use Rattle.wire.specs.Messages.{roomLength}
 use Rattle.layout.specs.Stick.{Stick, Lent, lent, portAt, withPort, partAt, withPart}
@@ -31,12 +31,9 @@ outcome answer byte stick l = record { answer = answer; byte = byte; stick = sti
 abbrev pub refused : ℕ → Stick → Lent → Outcome
 refused answer stick l = outcome answer 0 stick l
 
--- "a lent screen of 61,440 cells", "a lent paper of 4,096 bytes"
+-- "a lent screen of 61,440 cells"
 abbrev pub screenLength : ℕ
 screenLength = 61440
-
-abbrev pub paperLength : ℕ
-paperLength = 4096
 
 -- "2 a lent buffer has another length": two rooms, two halves of the area, a screen, a paper
 unfoldable pub lengthsFit : Lent → Bool

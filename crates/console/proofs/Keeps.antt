@@ -170,7 +170,7 @@ module _ (g : ConsoleGroup) (f : FitGroup g) where
   fits : Fits (g .console)
   fits = fits-of (g .console) (f .fit)
 
-  text-fits : g .console .mode ≡ 0 → FitText (textOf g)
+  pub text-fits : g .console .mode ≡ 0 → FitText (textOf g)
   text-fits z = record { editor = editor-fit (g .console) fits z; whole = f .whole }
 
   pub open-E-fit : FitGroup (openE g)

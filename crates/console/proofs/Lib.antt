@@ -2,3 +2,4 @@ pub mod Acts
 pub mod Keeps
 pub mod Cases
 pub mod Decided
+pub mod Back

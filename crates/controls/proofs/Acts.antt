@@ -1,7 +1,7 @@
 -- `plainOf` over a range of bytes, tested whole.
 -- Assumes nothing.
 use mathlib.Core.Path.{_≡_, _∙_, refl, sym, ap}
-use mathlib.Core.List.{List, [], _∷_}
+use mathlib.Core.List.{[], _∷_}
 use Prim.Native.Nat.{ℕ, _+_, _<_, _≤_}
 use lib.Dec.{T, eqb, eqb→eq}
 use lib.ListN.{getD}
@@ -40,12 +40,13 @@ at-num NewRow = refl
 at-num Nothing = refl
 at-num Data = refl
 
+-- acts of one number are one
+pub act-by : (v a : Act) → T (eqb (num v) (num a)) → v ≡ a
+act-by v a t = sym (at-num v) ∙ ap act-at (eqb→eq (num v) (num a) t) ∙ at-num a
+
 -- where the bytes of a range all ask for v, so does each of them
 pub plain-on : (v : Act) (lo n : ℕ) → T (upto (λ (x : ℕ). eqb (num v) (num (plainOf x))) lo n) → (x : ℕ) → lo ≤ x → x < lo + n → v ≡ plainOf x
-plain-on v lo n t x h k =
-    sym (at-num v)
-    ∙ ap act-at (eqb→eq (num v) (num (plainOf x)) (on (λ (y : ℕ). eqb (num v) (num (plainOf y))) lo n t x h k))
-    ∙ at-num (plainOf x)
+plain-on v lo n t x h k = act-by v (plainOf x) (on (λ (y : ℕ). eqb (num v) (num (plainOf y))) lo n t x h k)
 
 module _ (x : ℕ) where
   -- by itself: `omega` takes at most six `≢`, and the arm's record has nine

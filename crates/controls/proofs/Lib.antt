@@ -2,3 +2,4 @@ pub mod Acts
 pub mod Puts
 pub mod Keeps
 pub mod Decided
+pub mod OneLine

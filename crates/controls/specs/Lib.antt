@@ -1,2 +1,3 @@
 pub mod Decide
 pub mod Put
+pub mod OneLine

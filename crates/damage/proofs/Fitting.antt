@@ -8,6 +8,7 @@ use borrow.Author.Tests.{ltb-true, leb-true}
 use lib.Dec.{leb, ltb}
 use Rattle.base.specs.Choice.{and}
 use Rattle.base.proofs.Choices.{and-left, and-right}
+use Rattle.printer.specs.Printer.{paperLength}
 use Rattle.blocks.specs.declared.Run.{Run}
 use Rattle.blocks.specs.declared.Phase.{Phase}
 use Rattle.blocks.specs.declared.Phase.the-variants.{Running}
@@ -29,7 +30,7 @@ module _ (s : Stick) (l : Lent) (e : stickFits s l ≡ true) where
   p1 = portFits (s .port1) (s .console)
 
   abbrev rest : Bool
-  rest = and (leb (s .printer .used) 4096) (portsApart s)
+  rest = and (leb (s .printer .used) paperLength) (portsApart s)
 
   behind-ports : and (fitOf (s .console)) rest ≡ true
   unfolding stickFits
@@ -46,11 +47,11 @@ module _ (s : Stick) (l : Lent) (e : stickFits s l ≡ true) where
   pub console-fits : fitOf (s .console) ≡ true
   console-fits = and-left (fitOf (s .console)) rest behind-ports
 
-  pub printer-fits : s .printer .used ≤ 4096
-  printer-fits = leb-true (s .printer .used) 4096 (and-left (leb (s .printer .used) 4096) (portsApart s) (and-right (fitOf (s .console)) rest behind-ports))
+  pub printer-fits : s .printer .used ≤ paperLength
+  printer-fits = leb-true (s .printer .used) paperLength (and-left (leb (s .printer .used) paperLength) (portsApart s) (and-right (fitOf (s .console)) rest behind-ports))
 
   pub ports-apart : portsApart s ≡ true
-  ports-apart = and-right (leb (s .printer .used) 4096) (portsApart s) (and-right (fitOf (s .console)) rest behind-ports)
+  ports-apart = and-right (leb (s .printer .used) paperLength) (portsApart s) (and-right (fitOf (s .console)) rest behind-ports)
 
 module _ (p : Port) (c : Console) (e : portFits p c ≡ true) where
   pub table-fits : tableMade (p .table) ≡ true

@@ -12,6 +12,7 @@ use lib.Seq.{getD-drop}
 use Rattle.base.specs.Choice.{pick, and, within}
 use Rattle.base.proofs.Choices.{by-eq}
 use Rattle.cells.specs.Modes.{shapeOf, isMode}
+use Rattle.printer.specs.Printer.{paperLength}
 use Rattle.console.specs.Fit.{cursorFits, readingFits, keysFit, fitOf}
 use Rattle.wire.specs.Messages.{wordAt}
 use Rattle.layout.specs.Places.{portLength, devicesPlace, consolePlace, printerPlace, portPlace}
@@ -109,11 +110,11 @@ module _ (b : List ℕ) where
   abbrev printer : List ℕ
   printer = drop (devicesPlace + printerPlace) b
 
-  printed-is : leb (wordAt (drop devicesPlace b) printerPlace) 4096 ≡ leb (printerIn printer .used) 4096
+  printed-is : leb (wordAt (drop devicesPlace b) printerPlace) paperLength ≡ leb (printerIn printer .used) paperLength
   printed-is =
       rw (getD-drop devicesPlace b printerPlace 0, getD-drop devicesPlace b (printerPlace + 1) 0, getD-drop (devicesPlace + printerPlace) b 0 0, getD-drop (devicesPlace + printerPlace) b 1 0)
 
-  devices-are : devicesWhole (drop devicesPlace b) ≡ and (and (consoleStands console) (fitOf (consoleIn console))) (leb (printerIn printer .used) 4096)
+  devices-are : devicesWhole (drop devicesPlace b) ≡ and (and (consoleStands console) (fitOf (consoleIn console))) (leb (printerIn printer .used) paperLength)
   unfolding devicesWhole
   devices-are = ands.both (console-is console) printed-is
 
@@ -135,7 +136,7 @@ module _ (b : List ℕ) where
   unfolding headWhole stands stickFits stickIn
   head-is l =
       let c = consoleIn console in
-      let used = leb (printerIn printer .used) 4096 in
+      let used = leb (printerIn printer .used) paperLength in
       ports-are (and (devicesWhole (drop devicesPlace b)) (apartWhole b))
       ∙ ands.both (port-whole b) (ands.both (port-whole second) (ands.both devices-are apart-is ∙ ands.and-assoc (and (consoleStands console) (fitOf c)) used (portsApart (stickIn b))))
       ∙ ands.head (portStands b) (portFits (portIn b) c) (portStands second) (portFits (portIn second) c) (consoleStands console) (fitOf c) (and used (portsApart (stickIn b)))

@@ -5,17 +5,14 @@ use mathlib.Core.Bool.{true}
 use mathlib.Core.List.{List, _++_}
 use Prim.Native.Nat.{ℕ, _+_, _<_}
 use native.Mathlib.Omega.{arith}
-use borrow.Author.Tests.{eq-eqb, ne-eqb, ltb-true, leb-true}
+use borrow.Author.Tests.{ne-eqb, ltb-true}
 use lib.Dec.{ltb, leb}
 use lib.ListN.{length}
-use Rattle.base.specs.Choice.{and, within}
+use Rattle.base.specs.Choice.{and}
 use Rattle.base.proofs.Choices.{and-left, and-right, by-eq}
-use Rattle.cells.specs.Modes.{shapeOf, isMode}
-use Rattle.cells.proofs.Shapes.{shape-good}
-use Rattle.editor.specs.declared.ReadColumn.{ReadColumn}
-use Rattle.editor.specs.declared.ReadColumn.the-variants.{Dropped, At}
+use Rattle.printer.specs.Printer.{paperLength}
 use Rattle.console.specs.declared.state.Console.{Console}
-use Rattle.console.specs.Fit.{cursorFits, readingFits, keysFit, fitOf}
+use Rattle.console.specs.Fit.{fitOf}
 use Rattle.blocks.specs.declared.Gather.{Gather}
 use Rattle.blocks.specs.declared.Phase.{Phase}
 use Rattle.blocks.specs.declared.Phase.the-variants.{Gathering, Ready, Running, Replying}
@@ -24,9 +21,10 @@ use Rattle.blocks.specs.declared.Port.{Port}
 use Rattle.blocks.specs.Made.{tableMade}
 use Rattle.wire.specs.Fits.{gatherFits}
 use Rattle.layout.specs.Stick.{Stick, Lent}
+use Rattle.devices.proofs.Keeps.{console-row, console-reading}
 use Rattle.damage.specs.Fits.{phaseFits, portFits, portsApart, stickFits}
 use Rattle.layout.specs.Layout.{headOf, stickIn}
-use Rattle.layout.specs.InBytes.{PhaseInBytes, ReadingInBytes, InBytes, LengthTyped, Typed}
+use Rattle.layout.specs.InBytes.{PhaseInBytes, InBytes, LengthTyped, Typed}
 use Rattle.layout.specs.Stands.{stands}
 use Rattle.layout.proofs.ReadWrite.{read-write, head-stands}
 
@@ -51,40 +49,6 @@ port-in : (p : Port) (c : Console) → LengthTyped (p .phase) → portFits p c �
 unfolding portFits
 port-in p c h e = phase-in (p .phase) (p .table) c h (and-right (tableMade (p .table)) (phaseFits (p .phase) (p .table) c) e)
 
-row-in : (mode row column : ℕ) → cursorFits mode row column ≡ true → row < 256
-unfolding cursorFits
-row-in mode row column e =
-    by-eq mode 0
-    (λ z.
-    let m : and (ltb row 24) (within 2 39 column) ≡ true = rw (eq-eqb mode 0 z) at e in
-    omega (arith, ltb-true row 24 (and-left (ltb row 24) (within 2 39 column) m)))
-    (λ z.
-    let m : and (leb row (shapeOf mode .rows)) (ltb column (shapeOf mode .columns)) ≡ true = rw (ne-eqb mode 0 z) at e in
-    omega (arith, shape-good mode .high, leb-true row (shapeOf mode .rows) (and-left (leb row (shapeOf mode .rows)) (ltb column (shapeOf mode .columns)) m)))
-
-reading-in : (r : ReadColumn) → readingFits r ≡ true → ReadingInBytes r
-unfolding readingFits
-reading-in Dropped e = tt
-reading-in (At column) e = omega (arith, leb-true column 40 (and-right (leb 2 column) (leb column 40) e))
-
-module _ (c : Console) (e : fitOf c ≡ true) where
-  console-row : c .row < 256
-  unfolding fitOf
-  console-row =
-      let a = isMode (c .mode) in
-      let b = cursorFits (c .mode) (c .row) (c .column) in
-      let d = and (readingFits (c .reading)) (keysFit (c .keyboard)) in
-      row-in (c .mode) (c .row) (c .column) (and-left b d (and-right a (and b d) e))
-
-  console-reading : ReadingInBytes (c .reading)
-  unfolding fitOf
-  console-reading =
-      let a = isMode (c .mode) in
-      let b = cursorFits (c .mode) (c .row) (c .column) in
-      let d = readingFits (c .reading) in
-      let f = keysFit (c .keyboard) in
-      reading-in (c .reading) (and-left d f (and-right b (and d f) (and-right a (and b (and d f)) e)))
-
 module _ (s : Stick) (l : Lent) (w : Typed s) (e : stickFits s l ≡ true) where
   pub in-bytes : InBytes s
   unfolding stickFits
@@ -92,7 +56,7 @@ module _ (s : Stick) (l : Lent) (w : Typed s) (e : stickFits s l ≡ true) where
       let a = portFits (s .port0) (s .console) in
       let b = portFits (s .port1) (s .console) in
       let c = fitOf (s .console) in
-      let d = and (leb (s .printer .used) 4096) (portsApart s) in
+      let d = and (leb (s .printer .used) paperLength) (portsApart s) in
       let e1 = and-right a (and b (and c d)) e in
       let f = and-left c d (and-right b (and c d) e1) in
       record {

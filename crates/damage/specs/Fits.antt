@@ -8,6 +8,7 @@ use mathlib.Core.Bool.{Bool, true, false, not}
 use Prim.Native.Nat.{ℕ}
 use lib.Dec.{eqb, leb, ltb}
 use Rattle.base.specs.Choice.{and}
+use Rattle.printer.specs.Printer.{paperLength}
 use Rattle.blocks.specs.declared.Device.{Device}
 use Rattle.blocks.specs.declared.Device.the-variants.{E, S, K, P}
 use Rattle.blocks.specs.declared.BlockState.{BlockState}
@@ -77,4 +78,4 @@ stickFits s l =
     and (portFits (s .port0) (s .console))
     (and (portFits (s .port1) (s .console))
     (and (fitOf (s .console))
-    (and (leb (s .printer .used) 4096) (portsApart s))))
+    (and (leb (s .printer .used) paperLength) (portsApart s))))

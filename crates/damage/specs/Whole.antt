@@ -9,6 +9,7 @@ use lib.ListN.{drop}
 use Rattle.base.specs.Choice.{pick, and, within, bit}
 use Rattle.blocks.specs.Opening.{areaLength, reads, writes}
 use Rattle.cells.specs.Modes.{shapeOf}
+use Rattle.printer.specs.Printer.{paperLength}
 use Rattle.console.specs.declared.state.Console.{Console}
 use Rattle.console.specs.Group.{freshConsole, withMode}
 use Rattle.wire.specs.Messages.{wordAt}
@@ -120,7 +121,7 @@ consoleWhole b =
     (and (leb (byteAt b 8) 2) (leb (byteAt b 9) 1))))
 
 unfoldable pub devicesWhole : List ℕ → Bool
-devicesWhole b = and (consoleWhole (drop consolePlace b)) (leb (wordAt b printerPlace) 4096)
+devicesWhole b = and (consoleWhole (drop consolePlace b)) (leb (wordAt b printerPlace) paperLength)
 
 -- the two ports hold no group both: of two that run, one is on the console and one is not
 unfoldable pub onConsole : ℕ → Bool

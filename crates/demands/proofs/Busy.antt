@@ -7,10 +7,11 @@ use mathlib.Core.List.{[]}
 use Prim.Native.Nat.{ℕ, _*_}
 use native.Mathlib.Omega.{arith}
 use lib.ListN.{replicate, length-replicate}
+use Rattle.printer.specs.Printer.{paperLength}
 use Rattle.blocks.specs.Opening.{areaLength}
 use Rattle.layout.specs.Places.{stateLength}
 use Rattle.layout.specs.Stick.{freshStick}
-use Rattle.calls.specs.Stick.{screenLength, paperLength}
+use Rattle.calls.specs.Stick.{screenLength}
 use Rattle.calls.specs.Calls.{freshLent}
 use Rattle.calls.specs.Bytes.{Buffers, buffers, stickBy, lentBy}
 use Rattle.calls.specs.Parts.{Lengths}

@@ -142,6 +142,11 @@ use Rattle.blocks.proofs.aux1_writes.Reads as blocks-aux1-writes-reads
 use Rattle.blocks.proofs.offers.Kinds as blocks-offers-kinds
 use Rattle.blocks.proofs.offers.Reads as blocks-offers-reads
 use Rattle.blocks.proofs.Decided as blocks
+use Rattle.commands.proofs.command_of.Kinds as commands-command-of-kinds
+use Rattle.commands.proofs.command_of.Reads as commands-command-of-reads
+use Rattle.commands.proofs.transfer_kind.Kinds as commands-transfer-kind-kinds
+use Rattle.commands.proofs.transfer_kind.Reads as commands-transfer-kind-reads
+use Rattle.commands.proofs.Decided as commands
 use Rattle.replies.proofs.copy_bytes.Kinds as replies-copy-bytes-kinds
 use Rattle.replies.proofs.copy_bytes.Reads as replies-copy-bytes-reads
 use Rattle.replies.proofs.call_reply.Kinds as replies-call-reply-kinds
@@ -421,12 +426,17 @@ blocks-decided =
     promise 0 blocks-aux1-writes-kinds.ps blocks-aux1-writes-kinds.r blocks-aux1-writes-reads.Pre blocks-aux1-writes-reads.Learnt blocks.aux1-writes-decides blocks.aux1-writes-allows (
     promise 0 blocks-offers-kinds.ps blocks-offers-kinds.r blocks-offers-reads.Pre blocks-offers-reads.Learnt blocks.offers-decides blocks.offers-allows acts-decided)))))))
 
+pub commands-decided : Promises
+commands-decided =
+    promise 0 commands-command-of-kinds.ps commands-command-of-kinds.r commands-command-of-reads.Pre commands-command-of-reads.Learnt commands.command-of-decides commands.command-of-allows (
+    promise 0 commands-transfer-kind-kinds.ps commands-transfer-kind-kinds.r commands-transfer-kind-reads.Pre commands-transfer-kind-reads.Learnt commands.transfer-kind-decides commands.transfer-kind-allows blocks-decided)
+
 pub replies-decided : Promises
 replies-decided =
     promise 2 replies-copy-bytes-kinds.ps replies-copy-bytes-kinds.r replies-copy-bytes-reads.Pre replies-copy-bytes-reads.Learnt replies.copy-bytes-decides replies.copy-bytes-allows (
     promise 1 replies-call-reply-kinds.ps replies-call-reply-kinds.r replies-call-reply-reads.Pre replies-call-reply-reads.Learnt replies.call-reply-decides replies.call-reply-allows (
     promise 1 replies-status-reply-kinds.ps replies-status-reply-kinds.r replies-status-reply-reads.Pre replies-status-reply-reads.Learnt replies.status-reply-decides replies.status-reply-allows (
-    promise 2 replies-fetch-reply-kinds.ps replies-fetch-reply-kinds.r replies-fetch-reply-reads.Pre replies-fetch-reply-reads.Learnt replies.fetch-reply-decides replies.fetch-reply-allows blocks-decided)))
+    promise 2 replies-fetch-reply-kinds.ps replies-fetch-reply-kinds.r replies-fetch-reply-reads.Pre replies-fetch-reply-reads.Learnt replies.fetch-reply-decides replies.fetch-reply-allows commands-decided)))
 
 pub wire-decided : Promises
 wire-decided =

@@ -20,6 +20,7 @@ use Rattle.machine.specs.Real.{real}
 use Rattle.machine.proofs.Lawful.{lawful}
 use Rattle.machine.proofs.Demanded.{one-reading}
 use Rattle.machine.proofs.Course.{course}
+use Rattle.machine.proofs.Statuses.{statuses, fields, needs}
 use Rattle.demands.specs.Bytes.{bytes}
 use Rattle.demands.specs.Told.{lends}
 use Rattle.demands.specs.Demands.{Demands}
@@ -46,10 +47,14 @@ demands = record {
   still = any-still;
   give-says = give-says;
   translates = translated;
+  statuses =
+      statuses bytes (follow.demand2 real bytes bytes-follow lawful .alone) (follow.never-damaged real bytes bytes-follow lawful);
+  fields = fields;
   demand1-run = follow.demand1 real bytes bytes-follow lawful;
   demand2 = follow.demand2 real bytes bytes-follow lawful;
   demand2-course =
       course bytes (follow.demand2 real bytes bytes-follow lawful .later) (follow.never-damaged real bytes bytes-follow lawful);
+  demand2-needs = needs;
   demand3 = follow.demand3 real bytes bytes-follow lawful;
   demand3-unfinished = follow.unfinished real bytes bytes-follow lawful;
   one-reading = one-reading;

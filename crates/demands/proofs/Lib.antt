@@ -7,3 +7,4 @@ pub mod Run
 pub mod Demands
 pub mod Busy
 pub mod Decided
+pub mod Routines

@@ -38,6 +38,7 @@ use Rattle.serial.specs.Demand2.{Demand2}
 use Rattle.serial.specs.Demand3.{Demand3, UnfinishedRule}
 use Rattle.serial.specs.Follows.{Follows}
 use Rattle.machine.specs.Real.{real}
+use Rattle.machine.specs.Statuses.{StatusRule, FieldsRule, NeedsRule}
 use Rattle.machine.specs.Course.{CourseRule}
 use Rattle.demands.specs.Bytes.{leftBy, bytes, SoundBuffers, UndamagedState}
 use Rattle.demands.specs.Told.{lends, leaves, answerIn, replyByteIn, FreshCall, GiveCall, portNamed, TranslateCall, codeAsked, lockAsked, inverseAsked, translation, AnyCall, CallByC, returnedBy, RunByC}
@@ -66,6 +67,9 @@ pub record Demands : Type 0 where
   pub give-says : (o : GiveCall)
       → let l = giveBytes (lends o) (portNamed o) in (answerIn (leaves o) ≡ l .answer) × (replyByteIn (leaves o) ≡ l .byte)
   pub translates : (o : TranslateCall) → TranslateAnswers (codeAsked o) (lockAsked o) (inverseAsked o) (translation o)
+  -- the statuses' table: each request's, with its count, its A and the blocks that it leaves; each refused field's
+  pub statuses : StatusRule bytes
+  pub fields : FieldsRule
   -- the same within a run, by what each port does; `presses` there is 2's taken key
   pub demand1-run : Demand1 real bytes
   -- 2. "A request or a taken key alone gives the whole reply (a key has none), memory, control blocks, console and paper that the
@@ -73,6 +77,7 @@ pub record Demands : Type 0 where
   -- character a tick and ends within 61,441 further ticks of its port."
   pub demand2 : Demand2 real bytes
   pub demand2-course : CourseRule bytes
+  pub demand2-needs : NeedsRule
   -- 3. "The replies made for each port, both memory areas, both control-block tables, the console and the paper are those of the
   -- run in which the started requests and the taken keys go one at a time .. The bytes taken on a port spell its started requests
   -- .. the bytes given on it are those of its own replies"

@@ -2,3 +2,4 @@ pub mod Bytes
 pub mod Told
 pub mod Demand1
 pub mod Demands
+pub mod Routines

@@ -11,7 +11,7 @@ ghost use Rattle.calls.specs.Returned.{returned, answerOf, bothOf};
 // The cells of the lent screen, and the bytes of the lent paper.
 pub const SCREEN: usize = 61440;
 
-pub const PAPER: usize = 4096;
+pub const PAPER: usize = printer::PAPER as usize;
 
 // uint16_t fixlomand_translate(uint8_t code, uint8_t lock, uint8_t inverse)
 #[no_mangle]

@@ -13,6 +13,7 @@ use Rattle.base.proofs.Tests.{tests}
 use Rattle.base.proofs.Lists.{part-tail}
 use Rattle.cells.specs.declared.Shape.{Shape}
 use Rattle.cells.specs.Modes.{shapeOf}
+use Rattle.printer.specs.Printer.{paperLength}
 use Rattle.wire.specs.Messages.{wordOf, wordAt}
 use Rattle.wire.specs.Fits.{gatherFits, replyFits}
 use Rattle.layout.specs.Places.{blockLength, portLength, portPlace, devicesPlace, consolePlace, printerPlace}
@@ -102,7 +103,7 @@ module _ (b : List ℕ) (t : Bool) (e : t ≡ unused (byteAt b 7) (byteAt b 8) (
 pub span-is : (b : List ℕ) (kind l p c : ℕ) (r : Bool) → l ≡ wordAt b 4 → p ≡ wordAt b 6 → c ≡ wordAt b 8 → r ≡ spanWhole kind l p c → r ≡ spanWhole kind (wordAt b 4) (wordAt b 6) (wordAt b 8)
 span-is b kind l p c r x y z e = e ∙ rw (x, y, z)
 
-pub paper-is : (low high n : ℕ) → n ≡ wordOf low high → leb n 4096 ≡ leb (wordOf low high) 4096
+pub paper-is : (low high n : ℕ) → n ≡ wordOf low high → leb n paperLength ≡ leb (wordOf low high) paperLength
 paper-is low high n e = rw e
 
 module _ (mode row low high n : ℕ) (e : n ≡ wordOf low high) (r : Bool) where
@@ -142,11 +143,11 @@ module _ (b : List ℕ) (t : Bool) (e : t ≡ consoleWhole (take (length b - con
 
   pub numbers-console : t ≡ false → false ≡ devicesWhole b
   unfolding devicesWhole
-  numbers-console = and-no (consoleWhole (drop consolePlace b)) (leb (wordAt b printerPlace) 4096) t there
+  numbers-console = and-no (consoleWhole (drop consolePlace b)) (leb (wordAt b printerPlace) paperLength) t there
 
-  pub numbers-used : (r : Bool) → t ≡ true → r ≡ leb (wordAt b printerPlace) 4096 → r ≡ devicesWhole b
+  pub numbers-used : (r : Bool) → t ≡ true → r ≡ leb (wordAt b printerPlace) paperLength → r ≡ devicesWhole b
   unfolding devicesWhole
-  numbers-used = and-yes (consoleWhole (drop consolePlace b)) (leb (wordAt b printerPlace) 4096) t there
+  numbers-used = and-yes (consoleWhole (drop consolePlace b)) (leb (wordAt b printerPlace) paperLength) t there
 
 module _ (b : List ℕ) (t : Bool) (e : t ≡ devicesWhole (take (length b - devicesPlace) (drop devicesPlace b))) where
   behind : t ≡ devicesWhole (drop devicesPlace b)

@@ -7,11 +7,13 @@ use layout::places::DEVICES;
 use layout::places::PHASE;
 use layout::places::PORT;
 use layout::places::PRINTER;
+use printer::PAPER;
 ghost use mathlib.Core.Path.{_≡_};
 ghost use Prim.Native.Nat.{_+_, _*_, _≤_};
 ghost use lib.Dec.{leb};
 ghost use lib.ListN.{length, drop};
 ghost use Rattle.base.specs.Choice.{and};
+ghost use Rattle.printer.specs.Printer.{paperLength};
 ghost use Rattle.wire.specs.Messages.{wordOf};
 ghost use Rattle.layout.specs.Places.{blockLength, portLength, consoleLength, devicesPlace, devicesLength, Headed};
 ghost use Rattle.layout.specs.Layout.{stickIn, lentIn};
@@ -414,9 +416,9 @@ fn console(bytes: &[u8]) -> bool
 
 // The printer's used length is one of its paper.
 fn used(low: u8, high: u8) -> bool
-    ensures { λ r. ⌜ r ≡ leb (wordOf low high) 4096 ⌝ }
+    ensures { λ r. ⌜ r ≡ leb (wordOf low high) paperLength ⌝ }
 {
-    reading::word(low, high) <= 4096
+    reading::word(low, high) <= PAPER
 }
 
 fn numbers(bytes: &[u8]) -> bool

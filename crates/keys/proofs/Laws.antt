@@ -86,7 +86,7 @@ is true b = b
 is false true = false
 is false false = true
 
-is-eq : (a b : Bool) → T (is a b) → a ≡ b
+pub is-eq : (a b : Bool) → T (is a b) → a ≡ b
 is-eq true true t = refl
 is-eq true false t = absurd t
 is-eq false true t = absurd t

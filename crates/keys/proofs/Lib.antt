@@ -4,3 +4,4 @@ pub mod Range
 pub mod Keeps
 pub mod Cases
 pub mod Decided
+pub mod Press

@@ -2,3 +2,4 @@ pub mod Table
 pub mod Translation
 pub mod Keyboard
 pub mod Fit
+pub mod Press

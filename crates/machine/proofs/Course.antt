@@ -141,7 +141,7 @@ module _ (C : Core real) (w : C .World) (p : Port) where
     plan-course m (plan.Free e) q u i r t = free-course m e (bytesOf m) r (t 0)
     plan-course m (plan.On job) q u i r t = job-course job q (i .0) t
 
-fit-mine : (p : Port) (v : View real) → FitAll (locals real v) (v .devs) → FitLocal (localAt real p v)
+pub fit-mine : (p : Port) (v : View real) → FitAll (locals real v) (v .devs) → FitLocal (localAt real p v)
 fit-mine port-0 v f = f .zeroth
 fit-mine port-1 v f = f .first
 

@@ -8,4 +8,4 @@ pub mod Linked
 pub mod Plugged
 pub mod Busy
 pub mod Cases
-pub mod Wrong
+pub mod Statuses

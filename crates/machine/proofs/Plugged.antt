@@ -5,10 +5,11 @@ use mathlib.Core.List.{List, [], _∷_, _++_}
 use Prim.Native.Nat.{ℕ, _*_}
 use lib.Dec.{T, ltb, ltb→lt}
 use lib.ListN.{replicate, length-replicate}
+use Rattle.printer.specs.Printer.{paperLength}
 use Rattle.blocks.specs.Opening.{areaLength}
 use Rattle.wire.specs.Messages.{roomLength}
 use Rattle.layout.specs.Stick.{freshStick, Lent, lent}
-use Rattle.calls.specs.Stick.{screenLength, paperLength, Outcome, LengthsFit}
+use Rattle.calls.specs.Stick.{screenLength, Outcome, LengthsFit}
 use Rattle.calls.specs.Calls.{freshLent}
 use Rattle.serial.specs.Machine.{Port}
 use Rattle.serial.specs.Core.{View, Call, take, tick, give}

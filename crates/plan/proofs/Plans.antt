@@ -12,10 +12,7 @@ use Rattle.blocks.specs.declared.BlockState.{BlockState}
 use Rattle.blocks.specs.declared.BlockState.the-variants as block
 use Rattle.blocks.specs.declared.ControlBlock.{ControlBlock}
 use Rattle.blocks.specs.declared.Table.{Table}
-use Rattle.blocks.specs.declared.Way.{Way}
-use Rattle.blocks.specs.declared.Way.the-variants.{One, Characters, Record}
 use Rattle.blocks.specs.declared.Kind.{Kind}
-use Rattle.blocks.specs.declared.Kind.the-variants.{Get, Put}
 use Rattle.blocks.specs.declared.Specification.{Specification}
 use Rattle.blocks.specs.declared.Specification.the-variants.{Refused, Names}
 use Rattle.blocks.specs.Blocks.{blockAt}
@@ -23,11 +20,12 @@ use Rattle.blocks.specs.Opening.{specificationOf}
 use Rattle.wire.specs.declared.Call.{Call}
 use Rattle.wire.specs.declared.Message.{Message}
 use Rattle.wire.specs.declared.Message.the-variants as message
+use Rattle.commands.specs.declared.Command.{Command}
+use Rattle.commands.specs.declared.Command.the-variants as command
+use Rattle.commands.specs.Commands.{commandOf, wayOf, kindOf}
 use Rattle.devices.specs.declared.Group.{Group}
 use Rattle.devices.specs.declared.Group.the-variants as group
 use Rattle.devices.specs.Groups.{groupOf}
-use Rattle.plan.specs.declared.Command.{Command}
-use Rattle.plan.specs.declared.Command.the-variants as command
 use Rattle.plan.specs.declared.After.{After}
 use Rattle.plan.specs.declared.After.the-variants as after
 use Rattle.plan.specs.declared.Work.{Work}
@@ -37,27 +35,7 @@ use Rattle.plan.specs.declared.Errand.{Errand}
 use Rattle.plan.specs.declared.Errand.the-variants as errand
 use Rattle.plan.specs.declared.Plan.{Plan}
 use Rattle.plan.specs.declared.Plan.the-variants as plan
-use Rattle.plan.specs.Plan.{commandOf, wayOf, kindOf, atOnce, jobOf, plannedOf, nameOf, openPlan, areaPlan, transferPlan, blockPlan, callPlan, iocbOf, planIn, groupNeeded}
-
-module _ (records : Bool) (length : ℕ) where
-  pub way-one : length ≡ 0 → One ≡ wayOf records length
-  unfolding wayOf
-  way-one h = rw (eq-eqb length 0 h)
-
-  pub way-record : (length ≡ 0 → ⊥) → records ≡ true → Record ≡ wayOf records length
-  unfolding wayOf
-  way-record h e = rw (ne-eqb length 0 h, e)
-
-  pub way-characters : (length ≡ 0 → ⊥) → records ≡ false → Characters ≡ wayOf records length
-  unfolding wayOf
-  way-characters h e = rw (ne-eqb length 0 h, e)
-
-module _ (reads : Bool) (way : Way) where
-  pub kind-get : reads ≡ true → Get way ≡ kindOf reads way
-  kind-get e = rw e
-
-  pub kind-put : reads ≡ false → Put way ≡ kindOf reads way
-  kind-put e = rw e
+use Rattle.plan.specs.Plan.{atOnce, jobOf, plannedOf, nameOf, openPlan, areaPlan, transferPlan, blockPlan, callPlan, iocbOf, planIn, groupNeeded}
 
 module _ (half : List ℕ) (address byte : ℕ) (b : byte ≡ getD half (address + 1) 0) where
   pub name-alone : byte ≡ 0x3A → address + 2 ≡ nameOf half address
@@ -76,14 +54,14 @@ module _ (then : After) (s : Specification) (half : List ℕ) (call : Call) (o :
       → p ≡ openPlan then (specificationOf half (call .address)) half call
   open-names device number name p e n q = q ∙ rw (n, ← o, e)
 
-module _ (reads records : Bool) (device : Device) (call : Call) (way : Way) (kind : Kind) (u : way ≡ wayOf records (call .length)) (v : kind ≡ kindOf reads way) where
+module _ (reads records : Bool) (device : Device) (call : Call) (kind : Kind) (k : kind ≡ kindOf reads (wayOf records (call .length))) where
   pub area-one : (p : Plan) → call .length ≡ 0 → p ≡ plannedOf device (work.Transfer kind) call → p ≡ areaPlan reads records device call
   unfolding areaPlan
-  area-one p h q = q ∙ rw (v, u, eq-eqb (call .length) 0 h)
+  area-one p h q = q ∙ rw (k, eq-eqb (call .length) 0 h)
 
   pub area-in : (p : Plan) → (call .length ≡ 0 → ⊥) → call .address + call .length ≤ 16384 → p ≡ plannedOf device (work.Transfer kind) call → p ≡ areaPlan reads records device call
   unfolding areaPlan
-  area-in p h i q = q ∙ rw (v, u, ne-eqb (call .length) 0 h, le-leb (call .address + call .length) 16384 i)
+  area-in p h i q = q ∙ rw (k, ne-eqb (call .length) 0 h, le-leb (call .address + call .length) 16384 i)
 
   pub area-past : (call .length ≡ 0 → ⊥) → 16384 < call .address + call .length → atOnce 0xB0 call ≡ areaPlan reads records device call
   unfolding areaPlan

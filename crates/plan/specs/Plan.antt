@@ -12,10 +12,6 @@ use Rattle.blocks.specs.declared.BlockState.{BlockState}
 use Rattle.blocks.specs.declared.BlockState.the-variants as block
 use Rattle.blocks.specs.declared.ControlBlock.{ControlBlock}
 use Rattle.blocks.specs.declared.Table.{Table}
-use Rattle.blocks.specs.declared.Way.{Way}
-use Rattle.blocks.specs.declared.Way.the-variants.{One, Characters, Record}
-use Rattle.blocks.specs.declared.Kind.{Kind}
-use Rattle.blocks.specs.declared.Kind.the-variants.{Get, Put}
 use Rattle.blocks.specs.declared.Specification.{Specification}
 use Rattle.blocks.specs.declared.Specification.the-variants.{Refused, Names}
 use Rattle.blocks.specs.Blocks.{blockAt}
@@ -23,11 +19,12 @@ use Rattle.blocks.specs.Opening.{areaLength, reads, writes, specificationOf}
 use Rattle.wire.specs.declared.Call.{Call}
 use Rattle.wire.specs.declared.Message.{Message}
 use Rattle.wire.specs.declared.Message.the-variants as message
+use Rattle.commands.specs.declared.Command.{Command}
+use Rattle.commands.specs.declared.Command.the-variants as command
+use Rattle.commands.specs.Commands.{commandOf, wayOf, kindOf}
 use Rattle.devices.specs.declared.Group.{Group}
 use Rattle.devices.specs.declared.Group.the-variants as group
 use Rattle.devices.specs.Groups.{groupOf}
-use Rattle.plan.specs.declared.Command.{Command}
-use Rattle.plan.specs.declared.Command.the-variants as command
 use Rattle.plan.specs.declared.After.{After}
 use Rattle.plan.specs.declared.After.the-variants as after
 use Rattle.plan.specs.declared.Work.{Work}
@@ -37,28 +34,6 @@ use Rattle.plan.specs.declared.Errand.{Errand}
 use Rattle.plan.specs.declared.Errand.the-variants as errand
 use Rattle.plan.specs.declared.Plan.{Plan}
 use Rattle.plan.specs.declared.Plan.the-variants as plan
-
--- "OPEN $03"; "GET RECORD $05", "GET CHARACTERS $07", "PUT RECORD $09", "PUT CHARACTERS $0B"; "CLOSE $0C"; "GET STATUS $0D,
--- SPECIAL above"; "$84 command 0 to 2, 4, 6, 8, $0A"
-unfoldable pub commandOf : ℕ → Command
-commandOf byte =
-    pick (eqb byte 0x03) command.Open
-    (pick (eqb byte 0x05) (command.Transfer true true)
-    (pick (eqb byte 0x07) (command.Transfer true false)
-    (pick (eqb byte 0x09) (command.Transfer false true)
-    (pick (eqb byte 0x0B) (command.Transfer false false)
-    (pick (eqb byte 0x0C) command.Close
-    (pick (eqb byte 0x0D) command.Status
-    (pick (ltb 0x0D byte) command.Special
-    command.Bad)))))))
-
--- "n = 0: one character by A, no record rule, area not looked at"
-unfoldable pub wayOf : (records : Bool) → (length : ℕ) → Way
-wayOf records length = pick (eqb length 0) One (pick records Record Characters)
-
-abbrev pub kindOf : (reads : Bool) → Way → Kind
-kindOf true way = Get way
-kindOf false way = Put way
 
 -- a status at once, that changes nothing and needs no group
 abbrev pub atOnce : ℕ → Call → Plan

@@ -4,22 +4,13 @@ use blocks::ControlBlock;
 use blocks::Device;
 use blocks::Kind;
 use blocks::Specification;
-use blocks::Way;
+use commands::Command;
 use devices::Group;
 use wire::Call;
 use wire::Message;
 ghost use mathlib.Core.Path.{_≡_};
 ghost use Rattle.blocks.specs.Opening.{specificationOf};
-ghost use Rattle.plan.specs.Plan.{commandOf, wayOf, kindOf, plannedOf, nameOf, openPlan, areaPlan, transferPlan, blockPlan, callPlan, iocbOf, planIn, groupNeeded};
-
-pub enum Command {
-    Bad,
-    Open,
-    Close,
-    Status,
-    Special,
-    Transfer { reads: bool, records: bool },
-}
+ghost use Rattle.plan.specs.Plan.{plannedOf, nameOf, openPlan, areaPlan, transferPlan, blockPlan, callPlan, iocbOf, planIn, groupNeeded};
 
 // What follows an opening: the block stays open, or GET STATUS or SPECIAL answers and it is closed again.
 pub enum After {
@@ -55,59 +46,6 @@ pub enum Errand {
 pub enum Plan {
     Free(Errand),
     On(Job),
-}
-
-fn command_of(byte: u8) -> Command
-    ensures { λ r. ⌜ r ≡ commandOf byte ⌝ }
-{
-    match byte {
-        0x03 => Command::Open,
-        0x05 => Command::Transfer {
-            reads: true,
-            records: true,
-        },
-        0x07 => Command::Transfer {
-            reads: true,
-            records: false,
-        },
-        0x09 => Command::Transfer {
-            reads: false,
-            records: true,
-        },
-        0x0B => Command::Transfer {
-            reads: false,
-            records: false,
-        },
-        0x0C => Command::Close,
-        0x0D => Command::Status,
-        _ => {
-            if 0x0D < byte {
-                return Command::Special;
-            }
-            Command::Bad
-        }
-    }
-}
-
-fn way_of(records: bool, length: u16) -> Way
-    ensures { λ r. ⌜ r ≡ wayOf records length ⌝ }
-{
-    if length == 0 {
-        return Way::One;
-    }
-    if records {
-        return Way::Record;
-    }
-    Way::Characters
-}
-
-fn kind_of(reads: bool, way: Way) -> Kind
-    ensures { λ r. ⌜ r ≡ kindOf reads way ⌝ }
-{
-    if reads {
-        return Kind::Get(way);
-    }
-    Kind::Put(way)
 }
 
 // Work on a device.
@@ -152,7 +90,7 @@ fn area_plan(reads: bool, records: bool, device: Device, call: Call) -> Plan
     ensures { λ r. ⌜ r ≡ areaPlan reads records device call ⌝ }
 {
     let length = call.length;
-    let kind = kind_of(reads, way_of(records, length));
+    let kind = commands::transfer_kind(reads, records, length);
     let work = Work::Transfer(kind);
     if length == 0 {
         return planned(device, work, call);
@@ -235,7 +173,7 @@ fn call_plan(call: Call, block: ControlBlock, half: &[u8]) -> Plan
     if 7 < call.iocb {
         return Plan::Free(Errand::Status(0x86, call.a));
     }
-    let command = command_of(call.command);
+    let command = commands::command_of(call.command);
     block_plan(command, block, call, half)
 }
 

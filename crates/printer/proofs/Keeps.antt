@@ -12,35 +12,35 @@ use Rattle.base.proofs.Choices.{pick-lt}
 use Rattle.handler.specs.Answer.{Answer}
 use Rattle.handler.specs.declared.Done.{Done}
 use Rattle.handler.specs.declared.Done.the-variants.{Refused}
-use Rattle.printer.specs.Printer.{PrinterGroup, printerGroup, freshPrinter, printedOf, putOf}
+use Rattle.printer.specs.Printer.{paperLength, PrinterGroup, printerGroup, freshPrinter, printedOf, putOf}
 use Rattle.printer.specs.Fit.{FitPrinter}
 
-pub fresh-fit : (paper : List ℕ) → length paper ≡ 4096 → FitPrinter (printerGroup (freshPrinter .used) paper)
+pub fresh-fit : (paper : List ℕ) → length paper ≡ paperLength → FitPrinter (printerGroup (freshPrinter .used) paper)
 fresh-fit paper h = record { used = omega arith; paper = h }
 
 pub put-fit : (byte : ℕ) (g : PrinterGroup) → FitPrinter g → FitPrinter (putOf byte g .leaves)
 unfolding putOf
 put-fit byte g f =
-    pick-lt (λ (a : Answer Done PrinterGroup). FitPrinter (a .leaves)) (g .used) 4096 _ _
+    pick-lt (λ (a : Answer Done PrinterGroup). FitPrinter (a .leaves)) (g .used) paperLength _ _
     (λ h. record { used = omega arith; paper = simp length-set (f .paper) })
     (λ h. f)
 
 pub put-grows : (byte : ℕ) (g : PrinterGroup) → g .used ≤ putOf byte g .leaves .used
 unfolding putOf
 put-grows byte g =
-    pick-lt (λ (a : Answer Done PrinterGroup). g .used ≤ a .leaves .used) (g .used) 4096 _ _ (λ h. omega arith) (λ h. omega arith)
+    pick-lt (λ (a : Answer Done PrinterGroup). g .used ≤ a .leaves .used) (g .used) paperLength _ _ (λ h. omega arith) (λ h. omega arith)
 
 -- "PUT appends": where there is room, what is printed is what was, and then the byte
-pub put-appends : (byte : ℕ) (g : PrinterGroup) → FitPrinter g → g .used < 4096 → printedOf (putOf byte g .leaves) ≡ printedOf g ++ (byte ∷ [])
+pub put-appends : (byte : ℕ) (g : PrinterGroup) → FitPrinter g → g .used < paperLength → printedOf (putOf byte g .leaves) ≡ printedOf g ++ (byte ∷ [])
 unfolding putOf
 put-appends byte g f h =
     let l : g .used < length (g .paper) = omega (arith, f .paper) in
-    rw (lt-ltb (g .used) 4096 h, add-one (g .used), take-suc-set (g .paper) (g .used) byte l)
+    rw (lt-ltb (g .used) paperLength h, add-one (g .used), take-suc-set (g .paper) (g .used) byte l)
 
 -- "at 4,096 used, $90": there is no other refusal
 pub put-status : (byte : ℕ) (g : PrinterGroup) (s : ℕ) → putOf byte g .says ≡ Refused s → s ≡ 0x90
 unfolding putOf
 put-status byte g =
-    pick-lt (λ (a : Answer Done PrinterGroup). (s : ℕ) → a .says ≡ Refused s → s ≡ 0x90) (g .used) 4096 _ _
+    pick-lt (λ (a : Answer Done PrinterGroup). (s : ℕ) → a .says ≡ Refused s → s ≡ 0x90) (g .used) paperLength _ _
     (λ h s e. let z : _≡_ {A = ℕ} 0 1 = cc in absurd (omega arith))
     (λ h s e. cc)

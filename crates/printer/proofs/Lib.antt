@@ -1,3 +1,4 @@
 pub mod Laws
 pub mod Keeps
 pub mod Decided
+pub mod Puts

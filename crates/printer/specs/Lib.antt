@@ -1,2 +1,3 @@
 pub mod Printer
 pub mod Fit
+pub mod Puts

@@ -13,6 +13,10 @@ use Rattle.handler.specs.declared.Done.{Done}
 use Rattle.handler.specs.declared.Done.the-variants.{Success, Refused}
 use Rattle.printer.specs.declared.Printer.{Printer}
 
+-- "a lent paper of 4,096 bytes"
+abbrev pub paperLength : ℕ
+paperLength = 4096
+
 -- "the printer (P; a lent paper of 4,096 bytes and its used length)"
 pub record PrinterGroup : Type 0 where
   pub used : ℕ
@@ -32,7 +36,7 @@ freshPrinter = record { used = 0 }
 -- "PUT appends; at 4,096 used, $90."
 unfoldable pub putOf : ℕ → PrinterGroup → Answer Done PrinterGroup
 putOf byte g =
-    pick (ltb (g .used) 4096)
+    pick (ltb (g .used) paperLength)
     (answer Success (printerGroup (g .used + 1) (set (g .paper) (g .used) byte)))
     (answer (Refused 0x90) g)
 

@@ -4,6 +4,9 @@ ghost use mathlib.Core.Path.{_≡_};
 ghost use Rattle.handler.specs.Answer.{answer};
 ghost use Rattle.printer.specs.Printer.{freshPrinter, printerGroup, putOf};
 
+// The bytes of the lent paper.
+pub const PAPER: u16 = 4096;
+
 pub struct Printer {
     pub used: u16,
 }
@@ -27,7 +30,7 @@ impl Printer {
         ensures { λ r. ⌜ answer (r .done) (printerGroup (r .printer .used) (now (paper .exit))) ≡ putOf byte (printerGroup (self .used) (now (paper .entry))) ⌝ }
     {
         let used = self.used;
-        if used < 4096 {
+        if used < PAPER {
             let next = used + 1;
             base::set_byte(paper, used as usize, byte);
             let printer = Printer { used: next };

@@ -3,3 +3,4 @@ pub mod Keeps
 pub mod Copies
 pub mod Cases
 pub mod Decided
+pub mod Fetched

@@ -9,11 +9,12 @@ use lib.ListN.{length}
 use borrow.Author.Tests.{eq-eqb, eqb-true}
 use Rattle.base.specs.Choice.{pick, and}
 use Rattle.base.proofs.Choices.{and-left, and-right}
+use Rattle.printer.specs.Printer.{paperLength}
 use Rattle.blocks.specs.Opening.{areaLength}
 use Rattle.wire.specs.Messages.{roomLength}
 use Rattle.layout.specs.Stick.{Stick, Lent}
 use Rattle.damage.specs.Fits.{stickFits}
-use Rattle.calls.specs.Stick.{screenLength, paperLength, lengthsFit, refusalOf, LengthsFit, Guarded}
+use Rattle.calls.specs.Stick.{screenLength, lengthsFit, refusalOf, LengthsFit, Guarded}
 
 module _ (l : Lent) where
   pub lengths-of : lengthsFit l ≡ true → LengthsFit l

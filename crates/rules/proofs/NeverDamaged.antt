@@ -12,6 +12,7 @@ use lib.ListN.{length, take, drop, replicate, length-append, length-drop, length
 use lib.Seq.{length-take-le}
 use Rattle.base.specs.Choice.{pick, and}
 use Rattle.base.proofs.Choices.{choose-go, choose-eq, and-left, and-right}
+use Rattle.printer.specs.Printer.{paperLength}
 use Rattle.console.specs.declared.state.Console.{Console}
 use Rattle.console.specs.Group.{freshConsole, pressedOf}
 use Rattle.console.specs.Fit.{fitOf}
@@ -28,7 +29,7 @@ use Rattle.devices.specs.Fit.{FitGroups}
 use Rattle.devices.proofs.Frame.{clash-swap}
 use Rattle.damage.specs.Fits.{phaseFits, portFits, stickFits}
 use Rattle.calls.specs.Port.{Reach, tickPort, takePort}
-use Rattle.calls.specs.Stick.{Outcome, outcome, refused, paperLength, lengthsFit, refusalOf, LengthsFit, Guarded, areaAt, roomAt, groupsAt, withGroups, reachAt, withReach, lentReach}
+use Rattle.calls.specs.Stick.{Outcome, outcome, refused, lengthsFit, refusalOf, LengthsFit, Guarded, areaAt, roomAt, groupsAt, withGroups, reachAt, withReach, lentReach}
 use Rattle.calls.specs.Calls.{freshLent, freshCall, guarded, takeAt, takeCall, tickAt, tickCall, giveAt, giveCall, consoleHeld, pressAt, pressCall}
 use Rattle.rules.proofs.Guards.{fit-of, guarded-of}
 use Rattle.rules.proofs.PortKeeps.{FitReach, Kept, kept-mode, tick-kept, FitPort, take-kept, take-length, give-kept, port-same, of-port}

@@ -18,8 +18,8 @@ use Rattle.handler.specs.declared.Done.{Done}
 use Rattle.handler.specs.declared.Done.the-variants as done
 use Rattle.handler.specs.declared.Got.{Got}
 use Rattle.handler.specs.declared.Got.the-variants as got
-use Rattle.handler.specs.Answer.{doneStatus, Answer}
-use Rattle.handler.specs.Acts.{Acts, asksOn}
+use Rattle.handler.specs.Answer.{doneStatus, Answer, answer}
+use Rattle.handler.specs.Acts.{Acts, asksOpen, asksOn}
 use Rattle.keys.specs.Translation.{translateOf}
 use Rattle.keys.specs.Keyboard as keys
 use Rattle.cells.specs.Modes.{shapeOf}
@@ -27,6 +27,7 @@ use Rattle.controls.specs.Put as controls
 use Rattle.editor.specs.Get as editor-get
 use Rattle.graphics.specs.Picture as graphics
 use Rattle.printer.specs.Printer as printer
+use Rattle.printer.specs.Printer.{paperLength}
 use Rattle.console.specs.declared.Handler.the-variants as console
 use Rattle.console.specs.Handlers.{openOf, openS, prepareOf, prepareS, readOf, readE, readS, readK, writeOf, writeE, writeS}
 use Rattle.blocks.specs.declared.ControlBlock.{ControlBlock}
@@ -58,11 +59,34 @@ use Rattle.plan.specs.declared.Errand.the-variants as errand
 use Rattle.plan.specs.declared.Job.{Job}
 use Rattle.plan.specs.declared.Work.{Work}
 use Rattle.plan.specs.declared.Work.the-variants as work
-use Rattle.plan.specs.Plan.{wayOf}
+use Rattle.commands.specs.Commands.{wayOf}
 use Rattle.moves.specs.Move.{went, getOf, putOf, goOf, moveOf, advanceOf}
 use Rattle.cio.specs.Start.{loadFits, loadStatus, loadedOf, loadOf, errandOf, Begun, over, openingOf, preparedOut, transferOf, workOf, runOf, startOf, blockAfter, jobBegun, openedBy, openedOf, thenOf}
-use Rattle.calls.specs.Stick.{paperLength}
-use Rattle.rules.proofs.Statuses.{statusIn, never, openingOn, says-01, says-84}
+
+-- the status of a reply $90; a request that goes on has none
+abbrev pub statusIn : Out → ℕ
+statusIn (goes run) = 0
+statusIn (ends reply) = getD reply 3 0
+
+-- what a handler may know of an opening
+abbrev pub openingOn : (port : ℕ) → Call → (name : ℕ) → Asked
+openingOn port call name = asksOpen port (call .iocb) (call .aux1) (call .aux2) name
+
+-- "GET STATUS $0D, SPECIAL above .. $01 or $84": so says every handler, and SPECIAL changes no device
+says-01 : (o : Owner) (asked : Asked) (x : Part (groupIn o)) → ownActs o asked .statuses x ≡ done.Success
+says-01 (owner.Console h) asked x = refl
+says-01 owner.Printer asked x = refl
+
+says-84 : (o : Owner) (asked : Asked) (x : Part (groupIn o)) → ownActs o asked .specials x ≡ answer (done.Refused 0x84) x
+says-84 (owner.Console h) asked x = refl
+says-84 owner.Printer asked x = refl
+
+abbrev isRefused : Done → Type 0
+isRefused done.Success = ⊥
+isRefused (done.Refused status) = Unit
+
+never : {A : Type 0} {status : ℕ} → done.Success ≡ done.Refused status → A
+never e = absurd (subst isRefused (sym e) tt)
 
 -- a handler whose refusals before a transfer leave the device; GET STATUS it does not refuse
 pub record Still {D : Type 0} (H : Asked → Acts D) : Type 0 where

@@ -47,8 +47,8 @@ use Rattle.devices.specs.Groups.{Part, ownerOf, groupOf, deviceActs}
 use Rattle.devices.specs.Fit.{FitPart}
 use Rattle.plan.specs.declared.After.{After}
 use Rattle.plan.specs.declared.After.the-variants as after
-use Rattle.plan.specs.declared.Command.{Command}
-use Rattle.plan.specs.declared.Command.the-variants as command
+use Rattle.commands.specs.declared.Command.{Command}
+use Rattle.commands.specs.declared.Command.the-variants as command
 use Rattle.plan.specs.declared.Errand.{Errand}
 use Rattle.plan.specs.declared.Errand.the-variants as errand
 use Rattle.plan.specs.declared.Job.{Job}
@@ -56,7 +56,8 @@ use Rattle.plan.specs.declared.Plan.{Plan}
 use Rattle.plan.specs.declared.Plan.the-variants as plan
 use Rattle.plan.specs.declared.Work.{Work}
 use Rattle.plan.specs.declared.Work.the-variants as work
-use Rattle.plan.specs.Plan.{commandOf, wayOf, kindOf, openPlan, areaPlan, transferPlan, blockPlan, callPlan, planIn, planOf}
+use Rattle.commands.specs.Commands.{commandOf, wayOf, kindOf}
+use Rattle.plan.specs.Plan.{openPlan, areaPlan, transferPlan, blockPlan, callPlan, planIn, planOf}
 use Rattle.moves.specs.Move.{Went, advanceOf}
 use Rattle.cio.specs.Start.{loadFits, loadedOf, loadStatus, Freed, loadOf, errandOf, Begun, over, runOf, openedOf, openingOf, preparedOut, transferOf, workOf, jobBegun}
 use Rattle.alone.specs.Left.{deviceLeft}

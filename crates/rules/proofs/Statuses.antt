@@ -1,17 +1,16 @@
--- Document 01, Statuses: each status of a CALL is given exactly when the table and the CALL order say: "CALL order: $86; bad
--- command; $81 or $85; $83 or $87; $B0 and $82; then with the group held AUX1, mode, handler."
+-- Document 01, Statuses: each line of the table and of the order holds of a request alone.
 -- Assumes nothing.
 use mathlib.Core.Path.{_≡_, _∙_, refl, sym, ap, subst}
 use mathlib.Core.Logic.{_↔_, _⊎_, inl, inr, ⊎-elim}
 use mathlib.Core.Bool.{Bool, true, false, not}
-use mathlib.Core.List.{List, [], _∷_, map}
-use Prim.Native.Nat.{ℕ, _+_, _-_, _<_, _≤_}
+use mathlib.Core.List.{List, [], _∷_}
+use Prim.Native.Nat.{ℕ, _+_, _<_, _≤_}
 use native.Mathlib.Omega.{arith}
-use lib.Dec.{T, eqb, ltb}
-use lib.ListN.{getD}
+use lib.Dec.{T, eqb, leb, ltb}
+use lib.ListN.{length, getD}
 use borrow.Author.Tests.{lt-ltb, le-ltb, le-leb, lt-leb, eq-eqb, ne-eqb, not-true}
-use Rattle.base.specs.Choice.{or, within, bit}
-use Rattle.base.proofs.Choices.{pick-go, pick-lt, pick-le, by-test, by-lt, by-eq}
+use Rattle.base.specs.Choice.{pick, or, within, bit}
+use Rattle.base.proofs.Choices.{pick-go, pick-lt, pick-le, choose-go, choose-eq, choose-lt, choose-le, by-test, by-lt, by-eq, and-false}
 use Rattle.handler.specs.declared.Asked.{Asked}
 use Rattle.handler.specs.declared.Done.{Done}
 use Rattle.handler.specs.declared.Done.the-variants as done
@@ -20,710 +19,1011 @@ use Rattle.handler.specs.declared.Got.the-variants as got
 use Rattle.handler.specs.Answer.{doneStatus, Answer, answer}
 use Rattle.handler.specs.Acts.{Acts, asksOpen, asksOn}
 use Rattle.keys.specs.Translation.{translateOf}
+use Rattle.keys.specs.declared.keyboard.Keyboard.{Keyboard}
 use Rattle.keys.specs.Keyboard as keys
+use Rattle.keys.proofs.Keeps as keys-keeps
 use Rattle.cells.specs.Modes.{shapeOf}
+use Rattle.editor.specs.Text.{Text}
+use Rattle.editor.specs.Get as editor-get
+use Rattle.controls.specs.Put as controls
+use Rattle.graphics.specs.declared.Graphics.{Graphics}
+use Rattle.graphics.specs.Picture.{Picture}
 use Rattle.graphics.specs.Picture as graphics
-use Rattle.printer.specs.Printer.{PrinterGroup, printerActs}
+use Rattle.printer.specs.Printer.{paperLength, PrinterGroup}
 use Rattle.printer.specs.Printer as printer
-use Rattle.console.specs.declared.Handler.the-variants as console
+use Rattle.printer.proofs.Keeps as printer-keeps
 use Rattle.console.specs.Group.{ConsoleGroup}
-use Rattle.console.specs.Handlers.{openOf, openS, prepareOf, prepareS, readOf, readS, readK, writeOf, writeS, consoleActs}
+use Rattle.console.specs.Handlers.{textOf, openOf, openS, prepareOf, prepareE, prepareS, readOf, readE, readS, readK, writeOf, writeE, writeS}
+use Rattle.console.specs.declared.Handler.the-variants as console
 use Rattle.blocks.specs.declared.BlockState.{BlockState}
 use Rattle.blocks.specs.declared.BlockState.the-variants as block
 use Rattle.blocks.specs.declared.ControlBlock.{ControlBlock}
 use Rattle.blocks.specs.declared.Device.{Device}
+use Rattle.blocks.specs.declared.Device.the-variants.{E, S, K, P}
 use Rattle.blocks.specs.declared.Kind.{Kind}
-use Rattle.blocks.specs.declared.Letter.{Letter}
-use Rattle.blocks.specs.declared.Letter.the-variants.{Unknown, Known}
-use Rattle.blocks.specs.declared.Run.{Run}
+use Rattle.blocks.specs.declared.Kind.the-variants.{Get, Put}
 use Rattle.blocks.specs.declared.Specification.{Specification}
 use Rattle.blocks.specs.declared.Specification.the-variants.{Refused, Names}
-use Rattle.blocks.specs.declared.Table.{Table}
 use Rattle.blocks.specs.declared.Way.{Way}
 use Rattle.blocks.specs.declared.Way.the-variants.{One, Characters, Record}
-use Rattle.blocks.specs.Blocks.{blockAt}
-use Rattle.blocks.specs.Opening.{areaLength, deviceOf, needed, colonOf, numberOf, namedOf, specificationOf, reads, writes, offersOf}
+use Rattle.blocks.specs.declared.Table.{Table}
+use Rattle.blocks.specs.Blocks.{closedBlock, openBlock, blockAt, withBlock}
+use Rattle.blocks.specs.Opening.{areaLength, specificationOf, reads, writes, offersOf}
+use Rattle.blocks.specs.Made.{madeState}
+use Rattle.blocks.specs.Specified.{Specified, Malformed, NeededPast, Specifies, NotOffered}
+use Rattle.blocks.proofs.Keeps.{block-back, block-made, made-offers, keys-unwritten, paper-unread}
+use Rattle.blocks.proofs.Specified.{specifies, offers-not}
+use Rattle.commands.specs.declared.Command.{Command}
+use Rattle.commands.specs.declared.Command.the-variants as command
+use Rattle.commands.specs.Commands.{commandOf, wayOf, kindOf}
+use Rattle.commands.specs.Numbers.{BadCommand, HasNumber, HasWay}
+use Rattle.commands.proofs.Numbers.{command-number, way-has}
 use Rattle.wire.specs.declared.Call.{Call}
-use Rattle.transfer.specs.declared.Next.{Next}
-use Rattle.transfer.specs.declared.Next.the-variants.{On}
-use Rattle.transfer.specs.Transfer.{outOf, furtherOf, endedOf, onwardOf, eol, recordOf, gotCharacter, Out, goes, ends}
-use Rattle.devices.specs.declared.Owner.{Owner}
-use Rattle.devices.specs.declared.Owner.the-variants as owner
-use Rattle.devices.specs.Groups.{Part, groupIn, ownActs}
+use Rattle.replies.specs.Replies.{callReply, fetchReply}
+use Rattle.replies.specs.Fetched.{FetchStatuses}
+use Rattle.replies.proofs.Fetched.{fetched}
+use Rattle.devices.specs.declared.Group.the-variants as group
+use Rattle.devices.specs.Groups.{Groups, Part, getGroup, groupOf, ownerOf, deviceActs}
+use Rattle.devices.specs.Fit.{FitGroups, FitPart}
 use Rattle.plan.specs.declared.After.{After}
 use Rattle.plan.specs.declared.After.the-variants as after
-use Rattle.plan.specs.declared.Command.{Command}
-use Rattle.plan.specs.declared.Command.the-variants as command
-use Rattle.plan.specs.declared.Errand.{Errand}
-use Rattle.plan.specs.declared.Errand.the-variants as errand
 use Rattle.plan.specs.declared.Plan.{Plan}
-use Rattle.plan.specs.declared.Plan.the-variants as plan
 use Rattle.plan.specs.declared.Work.the-variants as work
-use Rattle.plan.specs.Plan.{commandOf, wayOf, kindOf, atOnce, plannedOf, openPlan, areaPlan, transferPlan, blockPlan, callPlan, nameOf}
-use Rattle.cio.specs.Start.{thenOf, openedOf, Begun, over, openingOf, transferOf, workOf}
-use Rattle.calls.specs.Stick.{paperLength}
+use Rattle.plan.specs.Plan.{atOnce, plannedOf, openPlan, areaPlan, transferPlan, blockPlan, callPlan, nameOf, planIn, planOf, groupNeeded, needOf}
+use Rattle.cio.specs.Start.{loadStatus, thenOf, openedOf, blockAfter}
+use Rattle.alone.specs.Transfer.{TransferEnd, getting, putting, transferred}
+use Rattle.alone.specs.Left.{deviceLeft}
+use Rattle.alone.specs.Fit.{FitLocal, FitOwn}
+use Rattle.alone.specs.Alone.{call, load, fetch, askedOf, Local, aloneOpening, aloneTransfer, aloneWork, aloneErrand, alonePlan, aloneOf}
+use Rattle.alone.specs.Ending.{GoesOn, ReadsTo, GetEnds, get-refused, get-whole, get-cut, SentOn, WritesTo, PutEnds, put-refused, put-whole, readTo, readSays, writtenTo, writeSays}
+use Rattle.alone.proofs.Ending.{LengthFits, get-ends, put-ends, get-once, put-once, get-kept, get-read, put-kept}
+use Rattle.alone.proofs.Fit.{fit-part}
+use Rattle.alone.proofs.Lines.{device-lines, device-starts}
+use Rattle.rules.specs.Answers.{oneOf}
+use Rattle.rules.specs.Statuses.{replyStatus, directionBit, BadMode, OnBlock, OpenOnOpen, TransferOnClosed, Transfer, Undirected, Directed, Opening, PastArea, buffer-past, specification-past, NoDevice, OpensDevice, Illegal, bad-command, not-offered, special-on-open, special-on-closed, Passed, NoMode, open-mode, transfer-mode, Started, actsOn, sentBy, ReadsAt, WritesAt, EndOfFile, RecordCut, PastRows, CursorPast, PaperFull, CallStatuses, CallBlocks, CallNeeds, GetReply, PutReply, Uncounted, CallReplies, LoadStatuses}
 
--- The commands' numbers
+-- What a handler says, as a number: a character or a success is 0, a refusal one more than its status
+abbrev gotNumber : Got → ℕ
+gotNumber (got.Character byte) = 0
+gotNumber (got.Refused status) = 1 + status
 
--- "OPEN $03", "GET RECORD $05", "GET CHARACTERS $07", "PUT RECORD $09", "PUT CHARACTERS $0B", "CLOSE $0C", "GET STATUS $0D"
-pub commands : map commandOf (0x03 ∷ 0x05 ∷ 0x07 ∷ 0x09 ∷ 0x0B ∷ 0x0C ∷ 0x0D ∷ [])
-    ≡ command.Open
-    ∷ command.Transfer true true
-    ∷ command.Transfer true false
-    ∷ command.Transfer false true
-    ∷ command.Transfer false false
-    ∷ command.Close
-    ∷ command.Status
-    ∷ []
-unfolding commandOf
-commands = refl
+abbrev doneNumber : Done → ℕ
+doneNumber done.Success = 0
+doneNumber (done.Refused status) = 1 + status
 
--- "command 0 to 2, 4, 6, 8, $0A"
-abbrev pub BadCommand : ℕ → Type 0
-BadCommand byte = (byte ≤ 2) ⊎ ((byte ≡ 0x04) ⊎ ((byte ≡ 0x06) ⊎ ((byte ≡ 0x08) ⊎ (byte ≡ 0x0A))))
+-- S's modes
+outside : (mode : ℕ) → within 3 8 mode ≡ false → (mode < 3) ⊎ (8 < mode)
+outside mode e =
+    by-lt mode 3 inl
+    (λ h. by-lt 8 mode inr
+    (λ g. absurd (subst T (rw (le-leb 3 mode h, le-leb mode 8 g) at e) tt)))
 
-abbrev isBad : Command → Bool
-isBad command.Bad = true
-isBad command.Open = false
-isBad command.Close = false
-isBad command.Status = false
-isBad command.Special = false
-isBad (command.Transfer reads records) = false
-
--- one number more is looked at
-next : (Q : ℕ → Type 0) (byte k : ℕ) → Q k → (k < byte → Q byte) → k ≤ byte → Q byte
-next Q byte k q more h = by-eq byte k (λ e. subst Q (sym e) q) (λ n. more (omega arith))
-
--- "GET STATUS $0D, SPECIAL above"
-pub special-number : (byte : ℕ) → 0x0D < byte → commandOf byte ≡ command.Special
-unfolding commandOf
-special-number byte h =
-    rw (ne-eqb byte 0x03 (omega arith), ne-eqb byte 0x05 (omega arith), ne-eqb byte 0x07 (omega arith), ne-eqb byte 0x09 (omega arith), ne-eqb byte 0x0B (omega arith), ne-eqb byte 0x0C (omega arith), ne-eqb byte 0x0D (omega arith), lt-ltb 0x0D byte h)
-
-bad-number : (byte : ℕ) → T (isBad (commandOf byte)) → BadCommand byte
-unfolding commandOf
-bad-number byte =
-    let Q : ℕ → Type 0 = λ b. T (isBad (commandOf b)) → BadCommand b in
-    by-lt byte 3 (λ h t. inl (omega arith))
-    (next Q byte 0x03 (λ t. absurd t)
-    (next Q byte 0x04 (λ t. inr (inl refl))
-    (next Q byte 0x05 (λ t. absurd t)
-    (next Q byte 0x06 (λ t. inr (inr (inl refl)))
-    (next Q byte 0x07 (λ t. absurd t)
-    (next Q byte 0x08 (λ t. inr (inr (inr (inl refl))))
-    (next Q byte 0x09 (λ t. absurd t)
-    (next Q byte 0x0A (λ t. inr (inr (inr (inr refl))))
-    (next Q byte 0x0B (λ t. absurd t)
-    (next Q byte 0x0C (λ t. absurd t)
-    (next Q byte 0x0D (λ t. absurd t)
-    (λ h t. absurd (subst (λ (c : Command). T (isBad c)) (special-number byte h) t)))))))))))))
-
-small-number : (byte : ℕ) → byte ≤ 2 → commandOf byte ≡ command.Bad
-unfolding commandOf
-small-number byte h =
-    rw (ne-eqb byte 0x03 (omega arith), ne-eqb byte 0x05 (omega arith), ne-eqb byte 0x07 (omega arith), ne-eqb byte 0x09 (omega arith), ne-eqb byte 0x0B (omega arith), ne-eqb byte 0x0C (omega arith), ne-eqb byte 0x0D (omega arith), le-ltb 0x0D byte (omega arith))
-
-number-bad : (byte : ℕ) → BadCommand byte → commandOf byte ≡ command.Bad
-unfolding commandOf
-number-bad byte (inl h) = small-number byte h
-number-bad byte (inr (inl e)) = rw e
-number-bad byte (inr (inr (inl e))) = rw e
-number-bad byte (inr (inr (inr (inl e)))) = rw e
-number-bad byte (inr (inr (inr (inr e)))) = rw e
-
-pub bad-commands : (byte : ℕ) → (commandOf byte ≡ command.Bad) ↔ BadCommand byte
-bad-commands byte = (λ e. bad-number byte (subst (λ (c : Command). T (isBad c)) (sym e) tt), number-bad byte)
-
--- two statuses that are not one
-other : (m n : ℕ) → T (not (eqb m n)) → m ≡ n → ⊥
-other m n t e = subst (λ (b : Bool). T (not b)) (eq-eqb m n e) t
-
--- What a specification is refused with
-
--- "$82 | unknown device, or malformed specification"; "a needed byte past the area is $B0"; no other status
-abbrev Told : Specification → Type 0
-Told (Refused status) = (status ≡ 0xB0) ⊎ (status ≡ 0x82)
-Told (Names device number) = Unit
-
-colon-told : (device : Device) (number byte : ℕ) → Told (colonOf device number byte)
-colon-told device number byte = pick-go Told (eqb byte 0x3A) (Names device number) (Refused 0x82) (λ t. tt) (λ t. inr refl)
-
-needed-told : (half : List ℕ) (place : ℕ) (reading : ℕ → Specification) → ((byte : ℕ) → Told (reading byte)) → Told (needed half place reading)
-needed-told half place reading h = pick-go Told (ltb place areaLength) (reading (getD half place 0)) (Refused 0xB0) (λ t. h (getD half place 0)) (λ t. inl refl)
-
-number-told : (half : List ℕ) (device : Device) (place byte : ℕ) → Told (numberOf half device place byte)
-unfolding numberOf
-number-told half device place byte =
-    pick-go Told (within 0x31 0x38 byte) (needed half place (colonOf device (byte - 0x30))) (colonOf device 1 byte)
-    (λ t. needed-told half place (colonOf device (byte - 0x30)) (colon-told device (byte - 0x30)))
-    (λ t. colon-told device 1 byte)
-
-named-told : (half : List ℕ) (letter : Letter) (place : ℕ) → Told (namedOf half letter place)
-unfolding namedOf
-named-told half Unknown place = inr refl
-named-told half (Known device) place = needed-told half place (numberOf half device (place + 1)) (number-told half device (place + 1))
-
-specification-told : (half : List ℕ) (address : ℕ) → Told (specificationOf half address)
-unfolding specificationOf
-specification-told half address =
-    needed-told half address (λ byte. namedOf half (deviceOf byte) (address + 1)) (λ byte. named-told half (deviceOf byte) (address + 1))
+not-within : (mode : ℕ) → (mode < 3) ⊎ (8 < mode) → within 3 8 mode ≡ false
+not-within mode (inl h) = rw (lt-leb 3 mode h)
+not-within mode (inr h) = rw (lt-leb mode 8 h, and-false (leb 3 mode))
 
 or-true : (t : Bool) → or t true ≡ true
 or-true true = refl
 or-true false = refl
 
--- "GET STATUS, SPECIAL .. On a closed block: opened as OPEN does"
-abbrev pub commandThen : After → Command
-commandThen after.Stay = command.Open
-commandThen after.Status = command.Status
-commandThen after.Special = command.Special
+screen-refuses : (aux1 aux2 : ℕ) → BadMode S aux1 aux2 → or (bit 16 aux1) (not (within 3 8 aux2)) ≡ true
+screen-refuses aux1 aux2 (inl e) = rw e
+screen-refuses aux1 aux2 (inr h) = rw (not-within aux2 h) (or-true (bit 16 aux1))
 
--- "AUX1: R is 4, W is 8."
-abbrev pub allows : (reading : Bool) → (aux1 : ℕ) → Bool
-allows true aux1 = reads aux1
-allows false aux1 = writes aux1
+screen-bad : (split inside : Bool) → or split (not inside) ≡ true → (split ≡ true) ⊎ (inside ≡ false)
+screen-bad true inside e = inl refl
+screen-bad false inside e = inr (not-true inside e)
 
--- the number is one of the list
-abbrev pub oneOf : ℕ → List ℕ → Bool
-oneOf number [] = false
-oneOf number (m ∷ ms) = or (eqb number m) (oneOf number ms)
+-- what an opening says
+abbrev OpenSays : (device : Device) → Asked → Done → Type 0
+OpenSays device asked says =
+    (BadMode device (asked .aux1) (asked .aux2) × (says ≡ done.Refused 0x91)) ⊎ ((BadMode device (asked .aux1) (asked .aux2) → ⊥) × (says ≡ done.Success))
 
--- one of two types
+opens-says : (device : Device) (asked : Asked) (x : Part (groupOf device)) → OpenSays device asked (deviceActs device asked .opens x .says)
+unfolding openOf openS graphics.openOf
+opens-says E asked x = inr (λ b. b, refl)
+opens-says S asked x =
+    let split = bit 16 (asked .aux1) in
+    let inside = within 3 8 (asked .aux2) in
+    by-test (or split (not inside))
+    (λ t. inl (⊎-elim inl (λ e. inr (outside (asked .aux2) e)) (screen-bad split inside t), rw t))
+    (λ t. inr (λ b. absurd (subst T (sym (screen-refuses (asked .aux1) (asked .aux2) b) ∙ t) tt), rw t))
+opens-says K asked x = inr (λ b. b, refl)
+opens-says P asked x = inr (λ b. b, refl)
+
+status-says : (device : Device) (asked : Asked) (x : Part (groupOf device)) → deviceActs device asked .statuses x ≡ done.Success
+status-says E asked x = refl
+status-says S asked x = refl
+status-says K asked x = refl
+status-says P asked x = refl
+
+special-says : (device : Device) (asked : Asked) (x : Part (groupOf device)) → deviceActs device asked .specials x .says ≡ done.Refused 0x84
+special-says E asked x = refl
+special-says S asked x = refl
+special-says K asked x = refl
+special-says P asked x = refl
+
+-- "A transfer in mode 0 is $91 at the start.": S's
+abbrev NoPicture : (device : Device) → Part (groupOf device) → Type 0
+NoPicture E x = ⊥
+NoPicture S x = x .console .mode ≡ 0
+NoPicture K x = ⊥
+NoPicture P x = ⊥
+
+abbrev Prepares : (device : Device) → Asked → Part (groupOf device) → Type 0
+Prepares device asked x =
+    (NoPicture device x × (deviceActs device asked .prepares x .says ≡ done.Refused 0x91))
+    ⊎ ((y : Part (groupOf device)) × (deviceActs device asked .prepares x ≡ answer done.Success y))
+
+prepares-says : (device : Device) (asked : Asked) (x : Part (groupOf device)) → Prepares device asked x
+unfolding prepareOf prepareS
+prepares-says E asked x = inr (prepareE x, refl)
+prepares-says S asked x = by-eq (x .console .mode) 0 (λ e. inl (e, rw e)) (λ n. inr (x, rw (ne-eqb (x .console .mode) 0 n)))
+prepares-says K asked x = inr (x, refl)
+prepares-says P asked x = inr (x, refl)
+
+-- what a character is refused with
+reads-E : (asked : Asked) (g : ConsoleGroup) (status : ℕ) → deviceActs E asked .reads g .says ≡ got.Refused status → ⊥
+unfolding readOf readE editor-get.getOf editor-get.getAt
+reads-E asked g status =
+    let e = textOf g .editor in
+    choose-lt (λ (y : Answer Got Text). y .says ≡ got.Refused status → ⊥) (editor-get.columnOf (e .reading)) (editor-get.endOf (e .row) (g .screen)) _ _
+    (λ t e. omega (arith, ap gotNumber e))
+    (λ t e. omega (arith, ap gotNumber e))
+
+reads-S : (asked : Asked) (g : ConsoleGroup) (status : ℕ) → deviceActs S asked .reads g .says ≡ got.Refused status → (status ≡ 0x8D) × (shapeOf (g .console .mode) .rows ≤ g .console .row)
+unfolding readOf readS graphics.getOf
+reads-S asked g status =
+    choose-le (λ (y : Answer Got Graphics). y .says ≡ got.Refused status → (status ≡ 0x8D) × (shapeOf (g .console .mode) .rows ≤ g .console .row)) (shapeOf (g .console .mode) .rows) (g .console .row) _ _
+    (λ h e. (omega (arith, ap gotNumber e), h))
+    (λ h e. absurd (omega (arith, ap gotNumber e)))
+
+screen-reads : (asked : Asked) (g : ConsoleGroup) → shapeOf (g .console .mode) .rows ≤ g .console .row → deviceActs S asked .reads g .says ≡ got.Refused 0x8D
+unfolding readOf readS graphics.getOf
+screen-reads asked g h = rw (le-leb (shapeOf (g .console .mode) .rows) (g .console .row) h)
+
+abbrev noCharacter : ConsoleGroup → Type 0
+noCharacter g = let k = g .console .keyboard in 256 ≤ translateOf (k .code) (k .lock) (k .inverse)
+
+reads-K : (asked : Asked) (g : ConsoleGroup) (status : ℕ) → deviceActs K asked .reads g .says ≡ got.Refused status → (status ≡ 0x88) × noCharacter g
+unfolding readOf readK keys.getOf keys.struckBy
+reads-K asked g status =
+    let k = g .console .keyboard in
+    pick-lt (λ (y : Answer Got Keyboard). y .says ≡ got.Refused status → (status ≡ 0x88) × noCharacter g) (translateOf (k .code) (k .lock) (k .inverse)) 256 _ _
+    (λ h e. absurd (omega (arith, ap gotNumber e)))
+    (λ h e. (omega (arith, ap gotNumber e), h))
+
+keys-reads : (asked : Asked) (g : ConsoleGroup) → noCharacter g → deviceActs K asked .reads g .says ≡ got.Refused 0x88
+unfolding readOf readK keys.getOf keys.struckBy
+keys-reads asked g h = let k = g .console .keyboard in rw (le-ltb (translateOf (k .code) (k .lock) (k .inverse)) 256 h)
+
+writes-E : (asked : Asked) (byte : ℕ) (g : ConsoleGroup) (status : ℕ) → deviceActs E asked .writes byte g .says ≡ done.Refused status → ⊥
+unfolding writeOf writeE controls.putOf
+writes-E asked byte g status e = omega (arith, ap doneNumber e)
+
+abbrev pastBy : ℕ → ConsoleGroup → Type 0
+pastBy byte g = (byte ≡ 0x7D → ⊥) × (shapeOf (g .console .mode) .rows ≤ g .console .row)
+
+writes-S : (asked : Asked) (byte : ℕ) (g : ConsoleGroup) (status : ℕ) → deviceActs S asked .writes byte g .says ≡ done.Refused status → (status ≡ 0x8D) × pastBy byte g
+unfolding writeOf writeS graphics.putOf
+writes-S asked byte g status =
+    let Q : Answer Done Picture → Type 0 = λ y. y .says ≡ done.Refused status → (status ≡ 0x8D) × pastBy byte g in
+    choose-eq Q byte 0x7D _ _
+    (λ c e. absurd (omega (arith, ap doneNumber e)))
+    (λ n. choose-le Q (shapeOf (g .console .mode) .rows) (g .console .row) _ _
+    (λ h e. (omega (arith, ap doneNumber e), (n, h)))
+    (λ h. choose-go Q (eqb byte 0x9B) _ _
+    (λ t e. absurd (omega (arith, ap doneNumber e)))
+    (λ t e. absurd (omega (arith, ap doneNumber e)))))
+
+screen-writes : (asked : Asked) (byte : ℕ) (g : ConsoleGroup) → pastBy byte g → deviceActs S asked .writes byte g .says ≡ done.Refused 0x8D
+unfolding writeOf writeS graphics.putOf
+screen-writes asked byte g p = rw (ne-eqb byte 0x7D (p .0), le-leb (shapeOf (g .console .mode) .rows) (g .console .row) (p .1))
+
+writes-P : (asked : Asked) (byte : ℕ) (g : PrinterGroup) (status : ℕ) → deviceActs P asked .writes byte g .says ≡ done.Refused status → (status ≡ 0x90) × (paperLength ≤ g .used)
+unfolding printer.putOf
+writes-P asked byte g status =
+    pick-lt (λ (y : Answer Done PrinterGroup). y .says ≡ done.Refused status → (status ≡ 0x90) × (paperLength ≤ g .used)) (g .used) paperLength _ _
+    (λ h e. absurd (omega (arith, ap doneNumber e)))
+    (λ h e. (omega (arith, ap doneNumber e), h))
+
+paper-writes : (asked : Asked) (byte : ℕ) (g : PrinterGroup) → paperLength ≤ g .used → deviceActs P asked .writes byte g .says ≡ done.Refused 0x90
+unfolding printer.putOf
+paper-writes asked byte g h = rw (le-ltb (g .used) paperLength h)
+
+-- a way fits its length
+way-fits : (way : Way) (records : Bool) (n : ℕ) → HasWay way records n → LengthFits way n
+way-fits One records n h = h
+way-fits Characters records n h = h .0
+way-fits Record records n h = h .0
+
+above : (byte : ℕ) → 0x0C ≤ byte → (byte ≡ 0x0C → ⊥) → (byte ≡ 0x0D → ⊥) → 0x0D < byte
+above byte h n m = omega arith
+
+-- what follows an opening, by its command's number
+abbrev ThenNumber : After → ℕ → Type 0
+ThenNumber after.Stay byte = byte ≡ 0x03
+ThenNumber after.Status byte = byte ≡ 0x0D
+ThenNumber after.Special byte = 0x0D < byte
+
+-- no transfer is an OPEN or a CLOSE
+transfer-number : (reading records : Bool) (byte : ℕ) → HasNumber (command.Transfer reading records) byte → (byte ≡ 0x03 → ⊥) × (byte ≡ 0x0C → ⊥)
+transfer-number true true byte h = (λ e. omega arith, λ e. omega arith)
+transfer-number true false byte h = (λ e. omega arith, λ e. omega arith)
+transfer-number false true byte h = (λ e. omega arith, λ e. omega arith)
+transfer-number false false byte h = (λ e. omega arith, λ e. omega arith)
+
+bad-number : (byte : ℕ) → BadCommand byte → byte ≡ 0x0C → ⊥
+bad-number byte (inl h) e = omega arith
+bad-number byte (inr (inl h)) e = omega arith
+bad-number byte (inr (inr (inl h))) e = omega arith
+bad-number byte (inr (inr (inr (inl h)))) e = omega arith
+bad-number byte (inr (inr (inr (inr h)))) e = omega arith
+
+-- a row of the table, or those below it
 abbrev row : Bool → Type 0 → Type 0 → Type 0
 row true A B = A
 row false A B = B
 
--- a row that holds is one of them
-row-any : (t b : Bool) (A B : Type 0) → (B → T b) → row t A B → T (or t b)
-row-any true b A B f r = tt
+row-any : (t b : Bool) (A B : Type 0) → (B → b ≡ true) → row t A B → or t b ≡ true
+row-any true b A B f r = refl
 row-any false b A B f r = f r
 
-module _ (call : Call) (table : Table) (half : List ℕ) where
-  -- what the CALL comes to by the checks before the group
-  abbrev pub planned : Plan
-  planned = callPlan call (blockAt table (call .iocb)) half
+module _ (c : Call) (l : Local) (s : Groups) where
+  abbrev Row : ℕ → Type 0
+  Row status =
+      row (eqb status 0x01) (Unit {0})
+      (row (eqb status 0x86) (7 < c .iocb)
+      (row (eqb status 0x84) (Illegal c l s)
+      (row (eqb status 0x81) (OpenOnOpen c l s)
+      (row (eqb status 0x85) (TransferOnClosed c l s)
+      (row (eqb status 0x83) (Undirected c l s true)
+      (row (eqb status 0x87) (Undirected c l s false)
+      (row (eqb status 0xB0) (PastArea c l s)
+      (row (eqb status 0x82) (NoDevice c l s)
+      (row (eqb status 0x91) (NoMode c l s)
+      (row (eqb status 0x88) (EndOfFile c l s)
+      (row (eqb status 0x89) (RecordCut c l s)
+      (row (eqb status 0x8D) (CursorPast c l s)
+      (row (eqb status 0x90) (PaperFull c l s)
+      ⊥)))))))))))))
 
-  -- the IOCB is one of the eight, and this is the command and this the IOCB's block
-  pub record Has (c : Command) (b : BlockState) : Type 0 where
-    pub iocb : call .iocb ≤ 7
-    pub command : commandOf (call .command) ≡ c
-    pub state : blockAt table (call .iocb) .state ≡ b
+  abbrev half : List ℕ
+  half = l .area
 
-  -- OPEN, on an open block
-  pub record OpenOnOpen : Type 0 where
-    pub device : Device
-    pub number : ℕ
-    pub aux1 : ℕ
-    pub has : Has command.Open (block.Open device number aux1)
+  abbrev own : (device : Device) → Part (groupOf device)
+  own device = getGroup (groupOf device) s
 
-  -- a transfer, on a closed block
-  pub record TransferOnClosed : Type 0 where
-    pub reading : Bool
-    pub records : Bool
-    pub has : Has (command.Transfer reading records) block.Closed
+  -- what a plan comes to
+  abbrev replied : Plan → List ℕ
+  replied p = alonePlan p [] l s .reply
 
-  -- a transfer, on an open block
-  pub record TransferOnOpen (reading : Bool) : Type 0 where
-    pub records : Bool
-    pub device : Device
-    pub number : ℕ
-    pub aux1 : ℕ
-    pub has : Has (command.Transfer reading records) (block.Open device number aux1)
+  abbrev statusOf : Plan → ℕ
+  statusOf p = replyStatus (replied p)
 
-  -- a transfer that its block's AUX1 allows, with its buffer past the area
-  pub record BufferPast : Type 0 where
-    pub reading : Bool
-    pub transfer : TransferOnOpen reading
-    pub allowed : allows reading (transfer .aux1) ≡ true
-    pub length : call .length ≡ 0 → ⊥
-    pub past : areaLength < call .address + call .length
+  abbrev tableOf : Plan → Table
+  tableOf p = alonePlan p [] l s .local .table
 
-  -- OPEN, GET STATUS or SPECIAL on a closed block, with this specification at the address
-  pub record Opening (s : Specification) : Type 0 where
-    pub then : After
-    pub has : Has (commandThen then) block.Closed
-    pub specification : specificationOf half (call .address) ≡ s
+  -- "Count is 0 for anything but transfers.", and A is the request's
+  abbrev uncounted : ℕ → List ℕ
+  uncounted status = callReply status 0 (c .a)
 
-  -- the table's rows, of the checks before the group; no other is there
-  abbrev When : ℕ → Type 0
-  When status =
-      row (eqb status 0x86) (7 < call .iocb)
-      (row (eqb status 0x84) ((call .iocb ≤ 7) × BadCommand (call .command))
-      (row (eqb status 0x81) OpenOnOpen
-      (row (eqb status 0x85) TransferOnClosed
-      (row (eqb status 0x83) ((t : TransferOnOpen true) × (reads (t .aux1) ≡ false))
-      (row (eqb status 0x87) ((t : TransferOnOpen false) × (writes (t .aux1) ≡ false))
-      (row (eqb status 0xB0) (BufferPast ⊎ Opening (Refused 0xB0))
-      (row (eqb status 0x82) (Opening (Refused 0x82))
-      (row (eqb status 0x01) (Has command.Close block.Closed)
-      ⊥))))))))
+  -- by whether it moves characters
+  pub data Counted (reply : List ℕ) : Type 0 where
+    uncounted-reply : (status : ℕ) → reply ≡ uncounted status → Counted reply
+    counted-reply : (reading : Bool) (device : Device) → Started c l s reading device → Counted reply
 
-  abbrev errandHolds : Errand → Type 0
-  errandHolds (errand.Status status a) = When status
-  errandHolds (errand.Load address size) = Unit
-  errandHolds (errand.Fetch address count) = Unit
-  errandHolds (errand.Bad status) = Unit
+  -- a row of the table, and whether the reply counts
+  pub record Holds (p : Plan) : Type 0 where
+    pub line : Row (statusOf p)
+    pub counts : Counted (replied p)
+    pub blocks : CallBlocks c l s (statusOf p) (tableOf p)
 
-  -- the row of the status that a plan gives at once, if it gives one
-  abbrev Holds : Plan → Type 0
-  Holds (plan.Free e) = errandHolds e
-  Holds (plan.On job) = Unit
+  leaf : (p : Plan) (status : ℕ) → replied p ≡ uncounted status → Row status → CallBlocks c l s status (tableOf p) → Holds p
+  leaf p status e r b = record {
+    line = subst Row (sym (ap replyStatus e)) r;
+    counts = uncounted-reply status e;
+    blocks = subst (λ (n : ℕ). CallBlocks c l s n (tableOf p)) (sym (ap replyStatus e)) b;
+  }
 
-  open-holds : (then : After) (s : Specification) → Has (commandThen then) block.Closed → specificationOf half (call .address) ≡ s → Told s → Holds (openPlan then s half call)
-  open-holds then (Names device number) has e told = tt
-  open-holds then (Refused status) has e (inl q) = subst When (sym q) (inr (record { then = then; has = has; specification = e ∙ ap Refused q }))
-  open-holds then (Refused status) has e (inr q) = subst When (sym q) (record { then = then; has = has; specification = e ∙ ap Refused q })
+  -- the blocks stay, where it is neither a CLOSE nor an OPEN that succeeds
+  stays : (status : ℕ) (after : Table) → after ≡ l .table → (c .iocb ≤ 7 → c .command ≡ 0x0C → ⊥) → (c .command ≡ 0x03 → status ≡ 0x01 → ⊥) → CallBlocks c l s status after
+  stays status after e no-close no-open = record {
+    opens = λ q r device number d. absurd (no-open q r);
+    closes = λ i q. absurd (no-close i q);
+    others = λ x y. e;
+  }
 
-  opening-holds : (then : After) → Has (commandThen then) block.Closed → Holds (openPlan then (specificationOf half (call .address)) half call)
-  opening-holds then has = open-holds then (specificationOf half (call .address)) has refl (specification-told half (call .address))
+  -- a block written back
+  same-block : withBlock (l .table) (c .iocb) (blockAt (l .table) (c .iocb)) ≡ l .table
+  same-block = block-back (l .table) (c .iocb)
 
-  area-holds : (reading : Bool) (t : TransferOnOpen reading) → allows reading (t .aux1) ≡ true → Holds (areaPlan reading (t .records) (t .device) call)
-  unfolding areaPlan
-  area-holds reading t a =
-      let p = plannedOf (t .device) (work.Transfer (kindOf reading (wayOf (t .records) (call .length)))) call in
-      by-eq (call .length) 0
-      (λ z. rw (eq-eqb (call .length) 0 z) tt)
-      (λ n. rw (ne-eqb (call .length) 0 n) (
-      pick-le Holds (call .address + call .length) areaLength p (atOnce 0xB0 call)
-      (λ h. tt)
-      (λ h. inl (record { reading = reading; transfer = t; allowed = a; length = n; past = h }))))
+  at-once-table : (status : ℕ) → tableOf (atOnce status c) ≡ l .table
+  unfolding alonePlan aloneErrand
+  at-once-table status = refl
 
-  transfer-holds : (reading : Bool) (t : TransferOnOpen reading) → Holds (transferPlan reading (t .records) (t .device) (t .aux1) call)
-  unfolding transferPlan
-  transfer-holds true t = pick-go Holds (reads (t .aux1)) (areaPlan true (t .records) (t .device) call) (atOnce 0x83 call) (area-holds true t) (λ e. (t, e))
-  transfer-holds false t = pick-go Holds (writes (t .aux1)) (areaPlan false (t .records) (t .device) call) (atOnce 0x87 call) (area-holds false t) (λ e. (t, e))
+  opening-close : Opening c l s → c .iocb ≤ 7 → c .command ≡ 0x0C → ⊥
+  opening-close o i q = ⊎-elim (λ e. omega (arith, e, q)) (λ h. omega (arith, h, q)) (o .command)
 
-  block-holds : (c : Command) (b : BlockState) → Has c b → Holds (blockPlan c b call half)
-  unfolding blockPlan
-  block-holds command.Bad b has = (has .iocb, bad-commands (call .command) .0 (has .command))
-  block-holds command.Open block.Closed has = opening-holds after.Stay has
-  block-holds command.Open (block.Open device number aux1) has = record { device = device; number = number; aux1 = aux1; has = has }
-  block-holds command.Close block.Closed has = has
-  block-holds command.Close (block.Open device number aux1) has = tt
-  block-holds command.Status block.Closed has = opening-holds after.Status has
-  block-holds command.Status (block.Open device number aux1) has = tt
-  block-holds command.Special block.Closed has = opening-holds after.Special has
-  block-holds command.Special (block.Open device number aux1) has = tt
-  block-holds (command.Transfer reading records) block.Closed has = record { reading = reading; records = records; has = has }
-  block-holds (command.Transfer reading records) (block.Open device number aux1) has =
-      transfer-holds reading (record { records = records; device = device; number = number; aux1 = aux1; has = has })
+  -- a status at once that is not $01
+  refuses : (status : ℕ) → (c .iocb ≤ 7 → c .command ≡ 0x0C → ⊥) → (status ≡ 0x01 → ⊥) → CallBlocks c l s status (tableOf (atOnce status c))
+  refuses status no-close n = stays status (tableOf (atOnce status c)) (at-once-table status) no-close (λ q r. n r)
 
-  call-holds : Holds (planned)
-  unfolding callPlan
-  call-holds =
-      let c = commandOf (call .command) in
-      let b = blockAt table (call .iocb) .state in
-      pick-lt Holds 7 (call .iocb) (atOnce 0x86 call) (blockPlan c b call half)
-      (λ h. h)
-      (λ h. block-holds c b (record { iocb = h; command = refl; state = refl }))
+  abbrev planned : Plan
+  planned = callPlan c (blockAt (l .table) (c .iocb)) half
 
-  -- a status is given at once only if its row holds
-  when : (status : ℕ) → planned ≡ atOnce status call → When status
-  when status e = subst Holds e call-holds
+  at-once : (status : ℕ) → replied (atOnce status c) ≡ uncounted status
+  unfolding alonePlan aloneErrand
+  at-once status = refl
+
+  -- An opening's
+
+  abbrev asks : (name : ℕ) → Asked
+  asks name = asksOpen (l .number) (c .iocb) (c .aux1) (c .aux2) name
+
+  module _ (device : Device) (then : After) (number name : ℕ) where
+    abbrev opens : Plan
+    opens = plannedOf device (work.Open then number name) c
+
+    open-not : offersOf device (c .aux1) ≡ false → replied opens ≡ uncounted 0x84
+    unfolding alonePlan aloneWork aloneOpening offersOf
+    open-not e = rw e
+
+    open-said : offersOf device (c .aux1) ≡ true → replied opens ≡ uncounted (doneStatus (openedOf (deviceActs device (asks name)) then (own device) .says))
+    unfolding alonePlan aloneWork aloneOpening offersOf openedOf
+    open-said e = rw e
+
+    open-refused : (status : ℕ) → offersOf device (c .aux1) ≡ true → deviceActs device (asks name) .opens (own device) .says ≡ done.Refused status → replied opens ≡ uncounted status
+    unfolding openedOf
+    open-refused status o e = open-said o ∙ rw e
+
+    open-not-table : offersOf device (c .aux1) ≡ false → tableOf opens ≡ l .table
+    unfolding alonePlan aloneWork aloneOpening offersOf
+    open-not-table e = rw e
+
+    open-table : offersOf device (c .aux1) ≡ true
+        → tableOf opens ≡ withBlock (l .table) (c .iocb) (blockAfter (openedOf (deviceActs device (asks name)) then (own device) .says) then (openBlock device number (c .aux1)) (blockAt (l .table) (c .iocb)))
+    unfolding alonePlan aloneWork aloneOpening offersOf openedOf
+    open-table e = rw e
+
+    open-refused-table : (status : ℕ) → offersOf device (c .aux1) ≡ true → deviceActs device (asks name) .opens (own device) .says ≡ done.Refused status → tableOf opens ≡ l .table
+    unfolding openedOf
+    open-refused-table status o e = open-table o ∙ rw e same-block
+
+  -- with the device opened: "$01 or $84"
+  module _ (device : Device) (number name : ℕ) (o : offersOf device (c .aux1) ≡ true) (e : deviceActs device (asks name) .opens (own device) .says ≡ done.Success) where
+    opened-stays : replied (opens device after.Stay number name) ≡ uncounted 0x01
+    unfolding openedOf thenOf
+    opened-stays = open-said device after.Stay number name o ∙ rw e
+
+    opened-status : replied (opens device after.Status number name) ≡ uncounted 0x01
+    unfolding openedOf thenOf
+    opened-status = open-said device after.Status number name o ∙ rw (e, status-says device (asks name) (deviceActs device (asks name) .opens (own device) .leaves))
+
+    opened-special : replied (opens device after.Special number name) ≡ uncounted 0x84
+    unfolding openedOf thenOf
+    opened-special = open-said device after.Special number name o ∙ rw (e, special-says device (asks name) (deviceActs device (asks name) .opens (own device) .leaves))
+
+    opened-stays-table : tableOf (opens device after.Stay number name) ≡ withBlock (l .table) (c .iocb) (openBlock device number (c .aux1))
+    unfolding openedOf thenOf
+    opened-stays-table = open-table device after.Stay number name o ∙ rw e
+
+    opened-status-table : tableOf (opens device after.Status number name) ≡ l .table
+    unfolding openedOf thenOf
+    opened-status-table =
+        open-table device after.Status number name o
+        ∙ rw (e, status-says device (asks name) (deviceActs device (asks name) .opens (own device) .leaves)) same-block
+
+    opened-special-table : tableOf (opens device after.Special number name) ≡ l .table
+    unfolding openedOf thenOf
+    opened-special-table =
+        open-table device after.Special number name o
+        ∙ rw (e, special-says device (asks name) (deviceActs device (asks name) .opens (own device) .leaves)) same-block
+
+  -- the block that a specification opens
+  abbrev opensTo : Specification → ControlBlock
+  opensTo (Refused status) = closedBlock
+  opensTo (Names device number) = openBlock device number (c .aux1)
+
+  opened-one : (device : Device) (number : ℕ) → Specified half (c .address) device number → (other : Device) (n : ℕ) → Specified half (c .address) other n
+      → openBlock device number (c .aux1) ≡ openBlock other n (c .aux1)
+  opened-one device number d other n e =
+      ap opensTo (sym (specifies half (c .address) .names device number .1 d) ∙ specifies half (c .address) .names other n .1 e)
+
+  -- "$84 AUX1 not offered"
+  offered : (device : Device) → (NotOffered device (c .aux1) → ⊥) → offersOf device (c .aux1) ≡ true
+  offered device n = by-test (offersOf device (c .aux1)) (λ t. t) (λ t. absurd (n (offers-not device (c .aux1) .0 t)))
+
+  not-not : (device : Device) → offersOf device (c .aux1) ≡ true → NotOffered device (c .aux1) → ⊥
+  not-not device t n = absurd (subst T (sym t ∙ offers-not device (c .aux1) .1 n) tt)
+
+  -- "a failed open's status stands"; else "$01 or $84"
+  accepted-row : (device : Device) (then : After) (number name : ℕ) (d : OpensDevice c l s device) → d .number ≡ number → ThenNumber then (c .command) → offersOf device (c .aux1) ≡ true
+      → (BadMode device (c .aux1) (c .aux2) → ⊥) → deviceActs device (asks name) .opens (own device) .says ≡ done.Success → Holds (opens device then number name)
+  accepted-row device after.Stay number name d m h t b e =
+      leaf _ 0x01 (opened-stays device number name t e) tt (record {
+        opens = λ q r other n f.
+            opened-stays-table device number name t e
+            ∙ ap (withBlock (l .table) (c .iocb)) (opened-one device number (subst (Specified half (c .address) device) m (d .specified)) other n f);
+        closes = λ i q. absurd (omega (arith, h, q));
+        others = λ x y. absurd (y h refl);
+      })
+  accepted-row device after.Status number name d m h t b e =
+      leaf _ 0x01 (opened-status device number name t e) tt
+      (stays 0x01 _ (opened-status-table device number name t e) (λ i q. omega (arith, h, q)) (λ q r. omega (arith, h, q)))
+  accepted-row device after.Special number name d m h t b e =
+      leaf _ 0x84 (opened-special device number name t e) (special-on-closed device d h (not-not device t) b)
+      (stays 0x84 _ (opened-special-table device number name t e) (λ i q. omega (arith, h, q)) (λ q r. omega (arith, r)))
+
+  offered-row : (device : Device) (then : After) (number name : ℕ) (d : OpensDevice c l s device) → d .number ≡ number → ThenNumber then (c .command) → offersOf device (c .aux1) ≡ true
+      → Holds (opens device then number name)
+  offered-row device then number name d m h t =
+      ⊎-elim
+      (λ p.
+      leaf _ 0x91 (open-refused device then number name 0x91 t (p .1)) (open-mode device d (not-not device t) (p .0))
+      (stays 0x91 _ (open-refused-table device then number name 0x91 t (p .1)) (opening-close (d .opening)) (λ q r. omega (arith, r))))
+      (λ p. accepted-row device then number name d m h t (p .0) (p .1))
+      (opens-says device (asks name) (own device))
+
+  device-row : (device : Device) (then : After) (number : ℕ) (d : OpensDevice c l s device) → d .number ≡ number → ThenNumber then (c .command)
+      → Holds (opens device then number (nameOf half (c .address)))
+  device-row device then number d m h =
+      by-test (offersOf device (c .aux1))
+      (offered-row device then number (nameOf half (c .address)) d m h)
+      (λ t.
+      leaf _ 0x84 (open-not device then number (nameOf half (c .address)) t) (not-offered device d (offers-not device (c .aux1) .0 t))
+      (stays 0x84 _ (open-not-table device then number (nameOf half (c .address)) t) (opening-close (d .opening)) (λ q r. omega (arith, r))))
+
+  specification-row : (then : After) (sp : Specification) → specificationOf half (c .address) ≡ sp → Opening c l s → ThenNumber then (c .command) → Holds (openPlan then sp half c)
+  specification-row then (Names device number) e o h =
+      device-row device then number (record { opening = o; number = number; specified = specifies half (c .address) .names device number .0 e }) refl h
+  specification-row then (Refused status) e o h =
+      by-eq status 0x82
+      (λ q.
+      leaf _ status (at-once status) (subst Row (sym q) (record { opening = o; malformed = specifies half (c .address) .malformed .0 (e ∙ ap Refused q) }))
+      (refuses status (opening-close o) (λ r. omega (arith, q, r))))
+      (λ n. let q = specifies half (c .address) .numbers status e n in
+      leaf _ status (at-once status) (subst Row (sym q) (specification-past o (specifies half (c .address) .past .0 (e ∙ ap Refused q))))
+      (refuses status (opening-close o) (λ r. omega (arith, q, r))))
+
+  opening-row : (then : After) → Opening c l s → ThenNumber then (c .command) → Holds (openPlan then (specificationOf half (c .address)) half c)
+  opening-row then o h = specification-row then (specificationOf half (c .address)) refl o h
+
+  -- A transfer's
+
+  module _ (device : Device) where
+    -- the handler refuses it at its start
+    transfer-refused : (k : Kind) (status : ℕ) → actsOn c l s device .prepares (own device) .says ≡ done.Refused status → replied (plannedOf device (work.Transfer k) c) ≡ uncounted status
+    unfolding alonePlan aloneWork aloneTransfer
+    transfer-refused k status e = rw e
+
+    transfer-refused-table : (k : Kind) (status : ℕ) → actsOn c l s device .prepares (own device) .says ≡ done.Refused status → tableOf (plannedOf device (work.Transfer k) c) ≡ l .table
+    unfolding alonePlan aloneWork aloneTransfer
+    transfer-refused-table k status e = rw e
+
+    transfer-table : (k : Kind) (x : Part (groupOf device)) → actsOn c l s device .prepares (own device) ≡ answer done.Success x → tableOf (plannedOf device (work.Transfer k) c) ≡ l .table
+    unfolding alonePlan aloneWork aloneTransfer
+    transfer-table k x e = rw e
+
+    abbrev gets : Way → Part (groupOf device) → TransferEnd (Part (groupOf device))
+    gets way x = getting (actsOn c l s device) (deviceLeft device) (c .a) way (c .length) (c .address) 0 half x
+
+    abbrev puts : Way → Part (groupOf device) → TransferEnd (Part (groupOf device))
+    puts way x = putting (actsOn c l s device) (deviceLeft device) (c .a) way (c .length) (c .address) 0 half x
+
+    get-status : (way : Way) (x : Part (groupOf device)) → actsOn c l s device .prepares (own device) ≡ answer done.Success x → replied (plannedOf device (work.Transfer (Get way)) c) ≡ callReply (gets way x .status) (gets way x .count) (gets way x .a)
+    unfolding alonePlan aloneWork aloneTransfer transferred
+    get-status way x e = rw e
+
+    put-status : (way : Way) (x : Part (groupOf device)) → actsOn c l s device .prepares (own device) ≡ answer done.Success x → replied (plannedOf device (work.Transfer (Put way)) c) ≡ callReply (puts way x .status) (puts way x .count) (puts way x .a)
+    unfolding alonePlan aloneWork aloneTransfer transferred
+    put-status way x e = rw e
+
+    module _ (fg : FitGroups s) where
+      -- a device that a transfer starts on is undamaged and in use
+      stands-fit : (x : Part (groupOf device)) → actsOn c l s device .prepares (own device) ≡ answer done.Success x → FitOwn (ownerOf device) x
+      stands-fit x e =
+          subst (FitOwn (ownerOf device)) (ap (λ (y : Answer Done (Part (groupOf device))). y .leaves) e)
+          (device-starts device .prepare-use (asksOn (l .number) (c .iocb)) (own device) (fit-part (groupOf device) s fg) (ap (λ (y : Answer Done (Part (groupOf device))). y .says) e))
+
+      got-ends : (t : Started c l s true device) → GetEnds (actsOn c l s device) (t .way) (c .length) (t .stands) (gets (t .way) (t .stands) .status) (gets (t .way) (t .stands) .count)
+      got-ends t =
+          get-ends (actsOn c l s device) (deviceLeft device) (c .a) (FitOwn (ownerOf device)) (device-lines device (asksOn (l .number) (c .iocb))) (t .way) (c .length) (c .address) half (t .stands)
+          (stands-fit (t .stands) (t .begins))
+          (way-fits (t .way) (t .passed .directed .transfer .records) (c .length) (t .has-way))
+
+    put-ended : (t : Started c l s false device) → PutEnds (actsOn c l s device) (t .way) (c .length) (sentBy c l s (t .way)) (t .stands) (puts (t .way) (t .stands) .status) (puts (t .way) (t .stands) .count)
+    put-ended t =
+        put-ends (actsOn c l s device) (deviceLeft device) (c .a) (t .way) (c .length) (c .address) half (t .stands)
+        (way-fits (t .way) (t .passed .directed .transfer .records) (c .length) (t .has-way))
+
+  -- CLOSE, GET STATUS and SPECIAL on an open block
+  close-table : (device : Device) → tableOf (plannedOf device work.Close c) ≡ withBlock (l .table) (c .iocb) closedBlock
+  unfolding alonePlan aloneWork
+  close-table device = refl
+
+  status-table : (device : Device) → tableOf (plannedOf device work.Status c) ≡ l .table
+  unfolding alonePlan aloneWork
+  status-table device = refl
+
+  special-table : (device : Device) → tableOf (plannedOf device work.Special c) ≡ l .table
+  unfolding alonePlan aloneWork
+  special-table device = refl
+
+  -- a closed block closed again
+  closed-again : OnBlock c l s block.Closed → l .table ≡ withBlock (l .table) (c .iocb) closedBlock
+  closed-again on = sym same-block ∙ ap (λ (b : BlockState). withBlock (l .table) (c .iocb) (record { state = b })) (on .has)
+
+  -- a transfer, whichever, is neither an OPEN nor a CLOSE
+  no-close : (reading : Bool) (device : Device) → Transfer c l s reading device → c .iocb ≤ 7 → c .command ≡ 0x0C → ⊥
+  no-close reading device t i q = transfer-number reading (t .records) (c .command) (t .command) .1 q
+
+  no-open : (reading : Bool) (device : Device) → Transfer c l s reading device → c .command ≡ 0x03 → ⊥
+  no-open reading device t q = transfer-number reading (t .records) (c .command) (t .command) .0 q
+
+  close-said : (device : Device) → replied (plannedOf device work.Close c) ≡ uncounted 0x01
+  unfolding alonePlan aloneWork
+  close-said device = refl
+
+  status-said : (device : Device) → replied (plannedOf device work.Status c) ≡ uncounted 0x01
+  unfolding alonePlan aloneWork
+  status-said device = ap (λ (d : Done). uncounted (doneStatus d)) (status-says device (asksOn (l .number) (c .iocb)) (own device))
+
+  special-said : (device : Device) → replied (plannedOf device work.Special c) ≡ uncounted 0x84
+  unfolding alonePlan aloneWork
+  special-said device = ap (λ (d : Done). uncounted (doneStatus d)) (special-says device (asksOn (l .number) (c .iocb)) (own device))
+
+  module _ (fl : FitLocal l) where
+    -- the block is one that some OPEN makes
+    block-offers : (device : Device) (number aux1 : ℕ) → OnBlock c l s (block.Open device number aux1) → offersOf device aux1 ≡ true
+    block-offers device number aux1 on =
+        made-offers device number aux1 (subst (λ (b : BlockState). madeState b ≡ true) (on .has) (block-made (l .table) (c .iocb) (fl .made)))
+
+    unread : Directed c l s true P → ⊥
+    unread d = absurd (subst T (sym (d .with) ∙ paper-unread (d .transfer .aux1) (block-offers P (d .transfer .number) (d .transfer .aux1) (d .transfer .on))) tt)
+
+    unwritten : Directed c l s false K → ⊥
+    unwritten d = absurd (subst T (sym (d .with) ∙ keys-unwritten (d .transfer .aux1) (block-offers K (d .transfer .number) (d .transfer .aux1) (d .transfer .on))) tt)
+
+    read-refused : (device : Device) (t : Started c l s true device) (k status : ℕ) → ReadsTo (actsOn c l s device) (t .way) (c .length) (t .stands) k
+        → readSays (actsOn c l s device) k (t .stands) ≡ got.Refused status → Row status
+    read-refused E t k status q e = absurd (reads-E (asksOn (l .number) (c .iocb)) (readTo (actsOn c l s E) k (t .stands)) status e)
+    read-refused S t k status q e =
+        let r = reads-S (asksOn (l .number) (c .iocb)) (readTo (actsOn c l s S) k (t .stands)) status e in
+        subst Row (sym (r .0)) (inl (record { started = t; k = k; comes = q; at = r .1 }))
+    read-refused K t k status q e =
+        let r = reads-K (asksOn (l .number) (c .iocb)) (readTo (actsOn c l s K) k (t .stands)) status e in
+        subst Row (sym (r .0)) (record { started = t; k = k; comes = q; at = r .1 })
+    read-refused P t k status q e = absurd (unread (t .passed .directed))
+
+    get-row : (device : Device) (t : Started c l s true device) {status count : ℕ} → GetEnds (actsOn c l s device) (t .way) (c .length) (t .stands) status count → Row status
+    get-row device t (get-refused k status q e) = read-refused device t k status q e
+    get-row device t (get-whole k byte q e last h) = tt
+    get-row device t (get-cut k q e r h) = record { device = device; reads = record { started = t; k = k; comes = q; at = e }; way = r; stored = h }
+
+    write-refused : (device : Device) (t : Started c l s false device) (k status : ℕ) → WritesTo (actsOn c l s device) (t .way) (c .length) (sentBy c l s (t .way)) (t .stands) k
+        → writeSays (actsOn c l s device) (sentBy c l s (t .way)) k (t .stands) ≡ done.Refused status → Row status
+    write-refused E t k status q e =
+        absurd (writes-E (asksOn (l .number) (c .iocb)) (getD (sentBy c l s (t .way)) k 0) (writtenTo (actsOn c l s E) (sentBy c l s (t .way)) k (t .stands)) status e)
+    write-refused S t k status q e =
+        let r = writes-S (asksOn (l .number) (c .iocb)) (getD (sentBy c l s (t .way)) k 0) (writtenTo (actsOn c l s S) (sentBy c l s (t .way)) k (t .stands)) status e in
+        subst Row (sym (r .0)) (inr (record { started = t; k = k; comes = q; at = r .1 }))
+    write-refused K t k status q e = absurd (unwritten (t .passed .directed))
+    write-refused P t k status q e =
+        let r = writes-P (asksOn (l .number) (c .iocb)) (getD (sentBy c l s (t .way)) k 0) (writtenTo (actsOn c l s P) (sentBy c l s (t .way)) k (t .stands)) status e in
+        subst Row (sym (r .0)) (record { started = t; k = k; comes = q; at = r .1 })
+
+    put-row : (device : Device) (t : Started c l s false device) {status count : ℕ} → PutEnds (actsOn c l s device) (t .way) (c .length) (sentBy c l s (t .way)) (t .stands) status count → Row status
+    put-row device t (put-refused k status q e) = write-refused device t k status q e
+    put-row device t (put-whole k q e last) = tt
+
+    no-mode : (reading : Bool) (device : Device) → Passed c l s reading device → NoPicture device (own device) → NoMode c l s
+    no-mode reading E p e = absurd e
+    no-mode reading S p e = transfer-mode reading p e
+    no-mode reading K p e = absurd e
+    no-mode reading P p e = absurd e
+
+    abbrev started : (reading : Bool) (device : Device) (p : Passed c l s reading device) (x : Part (groupOf device)) → actsOn c l s device .prepares (own device) ≡ answer done.Success x → Started c l s reading device
+    started reading device p x e = record {
+      passed = p;
+      way = wayOf (p .directed .transfer .records) (c .length);
+      has-way = way-has (wayOf (p .directed .transfer .records) (c .length)) (p .directed .transfer .records) (c .length) .0 refl;
+      stands = x;
+      begins = e;
+    }
+
+    module _ (fg : FitGroups s) where
+      start-row : (reading : Bool) (device : Device) (p : Passed c l s reading device) (x : Part (groupOf device)) → actsOn c l s device .prepares (own device) ≡ answer done.Success x
+          → Holds (plannedOf device (work.Transfer (kindOf reading (wayOf (p .directed .transfer .records) (c .length)))) c)
+      start-row true device p x e =
+          let t = started true device p x e in
+          record {
+            line = subst Row (sym (ap replyStatus (get-status device (t .way) x e))) (get-row device t (got-ends device fg t));
+            counts = counted-reply true device t;
+            blocks = stays _ _ (transfer-table device _ x e) (no-close true device (p .directed .transfer)) (λ q r. no-open true device (p .directed .transfer) q);
+          }
+      start-row false device p x e =
+          let t = started false device p x e in
+          record {
+            line = subst Row (sym (ap replyStatus (put-status device (t .way) x e))) (put-row device t (put-ended device t));
+            counts = counted-reply false device t;
+            blocks = stays _ _ (transfer-table device _ x e) (no-close false device (p .directed .transfer)) (λ q r. no-open false device (p .directed .transfer) q);
+          }
+
+      passed-row : (reading : Bool) (device : Device) (p : Passed c l s reading device)
+          → Holds (plannedOf device (work.Transfer (kindOf reading (wayOf (p .directed .transfer .records) (c .length)))) c)
+      passed-row reading device p =
+          ⊎-elim
+          (λ q.
+          leaf _ 0x91 (transfer-refused device _ 0x91 (q .1)) (no-mode reading device p (q .0))
+          (stays 0x91 _ (transfer-refused-table device _ 0x91 (q .1)) (no-close reading device (p .directed .transfer)) (λ u r. omega (arith, r))))
+          (λ q. start-row reading device p (q .0) (q .1))
+          (prepares-says device (asksOn (l .number) (c .iocb)) (own device))
+
+      area-row : (reading : Bool) (device : Device) (d : Directed c l s reading device) → Holds (areaPlan reading (d .transfer .records) device c)
+      unfolding areaPlan
+      area-row reading device d =
+          by-eq (c .length) 0
+          (λ z. rw (eq-eqb (c .length) 0 z) (passed-row reading device (record { directed = d; buffer = inl z })))
+          (λ n. rw (ne-eqb (c .length) 0 n) (
+          pick-le Holds (c .address + c .length) areaLength _ (atOnce 0xB0 c)
+          (λ h. passed-row reading device (record { directed = d; buffer = inr h }))
+          (λ h.
+          leaf _ 0xB0 (at-once 0xB0) (buffer-past reading device d (omega arith) h)
+          (refuses 0xB0 (no-close reading device (d .transfer)) (λ r. omega (arith, r))))))
+
+      transfer-row : (reading : Bool) (device : Device) (t : Transfer c l s reading device) → Holds (transferPlan reading (t .records) device (t .aux1) c)
+      unfolding transferPlan
+      transfer-row true device t =
+          pick-go Holds (reads (t .aux1)) _ (atOnce 0x83 c)
+          (λ e. area-row true device (record { transfer = t; with = e }))
+          (λ e.
+          leaf _ 0x83 (at-once 0x83) (record { device = device; transfer = t; without = e })
+          (refuses 0x83 (no-close true device t) (λ r. omega (arith, r))))
+      transfer-row false device t =
+          pick-go Holds (writes (t .aux1)) _ (atOnce 0x87 c)
+          (λ e. area-row false device (record { transfer = t; with = e }))
+          (λ e.
+          leaf _ 0x87 (at-once 0x87) (record { device = device; transfer = t; without = e })
+          (refuses 0x87 (no-close false device t) (λ r. omega (arith, r))))
+
+      block-row : (k : Command) (b : BlockState) → OnBlock c l s b → HasNumber k (c .command) → Holds (blockPlan k b c half)
+      unfolding blockPlan
+      block-row command.Bad b on h = leaf _ 0x84 (at-once 0x84) (bad-command (on .iocb) h) (refuses 0x84 (λ i q. bad-number (c .command) h q) (λ r. omega (arith, r)))
+      block-row command.Open block.Closed on h = opening-row after.Stay (record { on = on; command = inl h }) h
+      block-row command.Open (block.Open device number aux1) on h =
+          leaf _ 0x81 (at-once 0x81) (record { device = device; number = number; aux1 = aux1; on = on; command = h })
+          (refuses 0x81 (λ i q. omega (arith, h, q)) (λ r. omega (arith, r)))
+      block-row command.Close block.Closed on h =
+          leaf _ 0x01 (at-once 0x01) tt (record {
+            opens = λ q r device number d. absurd (omega (arith, h, q));
+            closes = λ i q. at-once-table 0x01 ∙ closed-again on;
+            others = λ x y. absurd (x (on .iocb) h);
+          })
+      block-row command.Close (block.Open device number aux1) on h =
+          leaf _ 0x01 (close-said device) tt (record {
+            opens = λ q r other n d. absurd (omega (arith, h, q));
+            closes = λ i q. close-table device;
+            others = λ x y. absurd (x (on .iocb) h);
+          })
+      block-row command.Status block.Closed on h = opening-row after.Status (record { on = on; command = inr (omega arith) }) h
+      block-row command.Status (block.Open device number aux1) on h =
+          leaf _ 0x01 (status-said device) tt (stays 0x01 _ (status-table device) (λ i q. omega (arith, h, q)) (λ q r. omega (arith, h, q)))
+      block-row command.Special block.Closed on h = opening-row after.Special (record { on = on; command = inr (omega arith) }) h
+      block-row command.Special (block.Open device number aux1) on h =
+          leaf _ 0x84 (special-said device) (special-on-open device number aux1 on h)
+          (stays 0x84 _ (special-table device) (λ i q. omega (arith, h, q)) (λ q r. omega (arith, r)))
+      block-row (command.Transfer reading records) block.Closed on h =
+          leaf _ 0x85 (at-once 0x85) (record { reading = reading; records = records; on = on; command = h })
+          (refuses 0x85 (λ i q. transfer-number reading records (c .command) h .1 q) (λ r. omega (arith, r)))
+      block-row (command.Transfer reading records) (block.Open device number aux1) on h =
+          transfer-row reading device (record { records = records; number = number; aux1 = aux1; on = on; command = h })
+
+      row-holds : Holds planned
+      unfolding callPlan
+      row-holds =
+          pick-lt Holds 7 (c .iocb) (atOnce 0x86 c) _
+          (λ h. leaf _ 0x86 (at-once 0x86) h (refuses 0x86 (λ i q. omega (arith, h, i)) (λ r. omega (arith, r))))
+          (λ h. block-row (commandOf (c .command)) (blockAt (l .table) (c .iocb) .state) (record { iocb = h; has = refl }) (command-number (commandOf (c .command)) (c .command) .0 refl))
+
+  -- The way back: from a line to its status
 
   -- past the $86 check a CALL comes to what its command and its block do
-  reached : {c : Command} {b : BlockState} → Has c b → planned ≡ blockPlan c b call half
+  reached : (k : Command) (b : BlockState) → OnBlock c l s b → HasNumber k (c .command) → planned ≡ blockPlan k b c half
   unfolding callPlan
-  reached has = rw (le-ltb 7 (call .iocb) (has .iocb), has .command, has .state)
+  reached k b on h = rw (le-ltb 7 (c .iocb) (on .iocb), command-number k (c .command) .1 h, on .has)
 
-  block-opens : (then : After) → blockPlan (commandThen then) block.Closed call half ≡ openPlan then (specificationOf half (call .address)) half call
-  unfolding blockPlan
-  block-opens after.Stay = refl
-  block-opens after.Status = refl
-  block-opens after.Special = refl
+  abbrev ends : ℕ → Type 0
+  ends status = statusOf planned ≡ status
 
-  -- an opening comes to what its specification says
-  opens : (s : Specification) (o : Opening s) → planned ≡ openPlan (o .then) s half call
-  opens s o = reached (o .has) ∙ block-opens (o .then) ∙ ap (λ (t : Specification). openPlan (o .then) t half call) (o .specification)
+  refused-by : (status : ℕ) → planned ≡ atOnce status c → ends status
+  refused-by status e = ap statusOf e ∙ ap replyStatus (at-once status)
 
-  -- a transfer comes to what its block's AUX1 allows
-  transfers : (reading : Bool) (t : TransferOnOpen reading) → planned ≡ transferPlan reading (t .records) (t .device) (t .aux1) call
-  unfolding blockPlan
-  transfers reading t = reached (t .has)
+  -- refused before the group
+  abbrev Refuses : ℕ → Type 0
+  Refuses status = planned ≡ atOnce status c
 
-  allowed-area : (reading records : Bool) (device : Device) (aux1 : ℕ) → allows reading aux1 ≡ true → transferPlan reading records device aux1 call ≡ areaPlan reading records device call
-  unfolding transferPlan
-  allowed-area true records device aux1 e = rw e
-  allowed-area false records device aux1 e = rw e
-
-  -- This status at once: nothing changes, no group is needed. Each row below says too that the checks before it are passed.
-  abbrev pub AtOnce : ℕ → Type 0
-  AtOnce status = planned ≡ atOnce status call
-
-  -- "$86 | IOCB above 7", whatever else is wrong
-  pub status-86 : AtOnce 0x86 ↔ (7 < call .iocb)
+  plan-86 : 7 < c .iocb → Refuses 0x86
   unfolding callPlan
-  status-86 = (when 0x86, λ h. rw (lt-ltb 7 (call .iocb) h))
+  plan-86 h = rw (lt-ltb 7 (c .iocb) h)
 
-  -- "$84 | command 0 to 2, 4, 6, 8, $0A"
-  pub status-84 : AtOnce 0x84 ↔ ((call .iocb ≤ 7) × BadCommand (call .command))
-  unfolding callPlan blockPlan
-  status-84 = (when 0x84, λ h. rw (le-ltb 7 (call .iocb) (h .0), bad-commands (call .command) .1 (h .1)))
-
-  -- "$81 | OPEN on an open block"
-  pub status-81 : AtOnce 0x81 ↔ OpenOnOpen
+  plan-84 : c .iocb ≤ 7 → BadCommand (c .command) → Refuses 0x84
   unfolding blockPlan
-  status-81 = (when 0x81, λ o. reached (o .has))
+  plan-84 i h = reached command.Bad (blockAt (l .table) (c .iocb) .state) (record { iocb = i; has = refl }) h
 
-  -- "$85 | transfer on a closed block"
-  pub status-85 : AtOnce 0x85 ↔ TransferOnClosed
+  plan-81 : OpenOnOpen c l s → Refuses 0x81
   unfolding blockPlan
-  status-85 = (when 0x85, λ t. reached (t .has))
+  plan-81 o = reached command.Open (block.Open (o .device) (o .number) (o .aux1)) (o .on) (o .command)
 
-  -- "$83 .. | reading without R": by the block's AUX1
-  pub status-83 : AtOnce 0x83 ↔ ((t : TransferOnOpen true) × (reads (t .aux1) ≡ false))
+  plan-85 : TransferOnClosed c l s → Refuses 0x85
+  unfolding blockPlan
+  plan-85 t = reached (command.Transfer (t .reading) (t .records)) block.Closed (t .on) (t .command)
+
+  transfers : (reading : Bool) (device : Device) (t : Transfer c l s reading device) → planned ≡ transferPlan reading (t .records) device (t .aux1) c
+  unfolding blockPlan
+  transfers reading device t = reached (command.Transfer reading (t .records)) (block.Open device (t .number) (t .aux1)) (t .on) (t .command)
+
+  plan-83 : Undirected c l s true → Refuses 0x83
   unfolding transferPlan
-  status-83 = (when 0x83, λ h. transfers true (h .0) ∙ rw (h .1))
+  plan-83 u = transfers true (u .device) (u .transfer) ∙ rw (u .without)
 
-  -- "$87 | .. writing without W"
-  pub status-87 : AtOnce 0x87 ↔ ((t : TransferOnOpen false) × (writes (t .aux1) ≡ false))
+  plan-87 : Undirected c l s false → Refuses 0x87
   unfolding transferPlan
-  status-87 = (when 0x87, λ h. transfers false (h .0) ∙ rw (h .1))
+  plan-87 u = transfers false (u .device) (u .transfer) ∙ rw (u .without)
 
-  past-area : BufferPast → AtOnce 0xB0
+  directed : (reading : Bool) (device : Device) (d : Directed c l s reading device) → planned ≡ areaPlan reading (d .transfer .records) device c
+  unfolding transferPlan
+  directed true device d = transfers true device (d .transfer) ∙ rw (d .with)
+  directed false device d = transfers false device (d .transfer) ∙ rw (d .with)
+
+  passes : (reading : Bool) (device : Device) (p : Passed c l s reading device)
+      → planned ≡ plannedOf device (work.Transfer (kindOf reading (wayOf (p .directed .transfer .records) (c .length)))) c
   unfolding areaPlan
-  past-area b =
-      let t = b .transfer in
-      transfers (b .reading) t
-      ∙ allowed-area (b .reading) (t .records) (t .device) (t .aux1) (b .allowed)
-      ∙ rw (ne-eqb (call .length) 0 (b .length), lt-leb (call .address + call .length) areaLength (b .past))
+  passes reading device p =
+      directed reading device (p .directed)
+      ∙ ⊎-elim
+      (λ z. rw (eq-eqb (c .length) 0 z))
+      (λ h. rw (le-leb (c .address + c .length) areaLength h, or-true (eqb (c .length) 0)))
+      (p .buffer)
 
-  -- "$B0 | buffer or specification past the area"
-  pub status-b0 : AtOnce 0xB0 ↔ (BufferPast ⊎ Opening (Refused 0xB0))
-  status-b0 = (when 0xB0, ⊎-elim past-area (opens (Refused 0xB0)))
+  -- OPEN, GET STATUS and SPECIAL
+  pub record Opens : Type 0 where
+    pub then : After
+    pub plan : planned ≡ openPlan then (specificationOf half (c .address)) half c
+    pub special : 0x0D < c .command → then ≡ after.Special
 
-  -- "$82 | unknown device, or malformed specification"
-  pub status-82 : AtOnce 0x82 ↔ Opening (Refused 0x82)
-  status-82 = (when 0x82, opens (Refused 0x82))
-
-  -- CLOSE: "$01, also if closed before"
-  pub status-01 : AtOnce 0x01 ↔ Has command.Close block.Closed
+  opening-plan : Opening c l s → Opens
   unfolding blockPlan
-  status-01 = (when 0x01, λ has. reached has)
+  opening-plan o =
+      ⊎-elim
+      (λ e. record { then = after.Stay; plan = reached command.Open block.Closed (o .on) e; special = λ h. absurd (omega (arith, e, h)) })
+      (λ g. by-eq (c .command) 0x0D
+      (λ e. record { then = after.Status; plan = reached command.Status block.Closed (o .on) e; special = λ h. absurd (omega (arith, e, h)) })
+      (λ n. record { then = after.Special; plan = reached command.Special block.Closed (o .on) (above (c .command) (omega (arith, g)) (λ e. omega (arith, e, g)) n); special = λ h. refl }))
+      (o .command)
 
-  -- no other status is given at once
-  pub no-other : (status : ℕ) → AtOnce status → T (oneOf status (0x86 ∷ 0x84 ∷ 0x81 ∷ 0x85 ∷ 0x83 ∷ 0x87 ∷ 0xB0 ∷ 0x82 ∷ 0x01 ∷ []))
-  no-other status e =
-      row-any (eqb status 0x86) _ _ _
-      (row-any (eqb status 0x84) _ _ _
-      (row-any (eqb status 0x81) _ _ _
-      (row-any (eqb status 0x85) _ _ _
-      (row-any (eqb status 0x83) _ _ _
-      (row-any (eqb status 0x87) _ _ _
-      (row-any (eqb status 0xB0) _ _ _
-      (row-any (eqb status 0x82) _ _ _
-      (row-any (eqb status 0x01) _ _ _ (λ r. r))))))))) (when status e)
+  specification-plan : (o : Opening c l s) (status : ℕ) → specificationOf half (c .address) ≡ Refused status → Refuses status
+  specification-plan o status e =
+      let p = opening-plan o in
+      p .plan ∙ ap (λ (sp : Specification). openPlan (p .then) sp half c) e
 
-  -- "A CALL past the $82 check needs its device's group": what is left is work on the device
+  plan-82 : NoDevice c l s → Refuses 0x82
+  plan-82 n = specification-plan (n .opening) 0x82 (specifies half (c .address) .malformed .1 (n .malformed))
 
-  pub opening-work : (device : Device) (number : ℕ) (o : Opening (Names device number)) → planned ≡ plannedOf device (work.Open (o .then) number (nameOf half (call .address))) call
-  opening-work device number o = opens (Names device number) o
-
-  pub transfer-work : (reading : Bool) (t : TransferOnOpen reading) → allows reading (t .aux1) ≡ true → (call .length ≡ 0) ⊎ (call .address + call .length ≤ areaLength)
-      → planned ≡ plannedOf (t .device) (work.Transfer (kindOf reading (wayOf (t .records) (call .length)))) call
+  plan-b0 : PastArea c l s → Refuses 0xB0
   unfolding areaPlan
-  transfer-work reading t a (inl z) =
-      transfers reading t ∙ allowed-area reading (t .records) (t .device) (t .aux1) a ∙ rw (eq-eqb (call .length) 0 z)
-  transfer-work reading t a (inr h) =
-      transfers reading t
-      ∙ allowed-area reading (t .records) (t .device) (t .aux1) a
-      ∙ rw (le-leb (call .address + call .length) areaLength h, or-true (eqb (call .length) 0))
+  plan-b0 (buffer-past reading device d h g) =
+      directed reading device d ∙ rw (ne-eqb (c .length) 0 (omega (arith, h)), lt-leb (c .address + c .length) areaLength g)
+  plan-b0 (specification-past o p) = specification-plan o 0xB0 (specifies half (c .address) .past .1 p)
 
-  module _ (device : Device) (number aux1 : ℕ) where
-    pub close-work : Has command.Close (block.Open device number aux1) → planned ≡ plannedOf device work.Close call
-    unfolding blockPlan
-    close-work has = reached has
+  -- an opening's plan, past the $82 check
+  device-plan : (device : Device) (d : OpensDevice c l s device) → planned ≡ opens device (opening-plan (d .opening) .then) (d .number) (nameOf half (c .address))
+  device-plan device d =
+      let p = opening-plan (d .opening) in
+      p .plan ∙ ap (λ (sp : Specification). openPlan (p .then) sp half c) (specifies half (c .address) .names device (d .number) .1 (d .specified))
 
-    pub status-work : Has command.Status (block.Open device number aux1) → planned ≡ plannedOf device work.Status call
-    unfolding blockPlan
-    status-work has = reached has
+  opened : (device : Device) → (BadMode device (c .aux1) (c .aux2) → ⊥) → (name : ℕ) → deviceActs device (asks name) .opens (own device) .says ≡ done.Success
+  opened device b name = ⊎-elim (λ p. absurd (b (p .0))) (λ p. p .1) (opens-says device (asks name) (own device))
 
-    pub special-work : Has command.Special (block.Open device number aux1) → planned ≡ plannedOf device work.Special call
-    unfolding blockPlan
-    special-work has = reached has
+  unopened : (device : Device) → BadMode device (c .aux1) (c .aux2) → (name : ℕ) → deviceActs device (asks name) .opens (own device) .says ≡ done.Refused 0x91
+  unopened device b name = ⊎-elim (λ p. p .1) (λ p. absurd (p .0 b)) (opens-says device (asks name) (own device))
 
--- With the group held
+  line-84 : Illegal c l s → ends 0x84
+  unfolding blockPlan
+  line-84 (bad-command i h) = refused-by 0x84 (plan-84 i h)
+  line-84 (not-offered device d n) = ap statusOf (device-plan device d) ∙ ap replyStatus (open-not device _ (d .number) _ (offers-not device (c .aux1) .1 n))
+  line-84 (special-on-open device number aux1 on h) = ap statusOf (reached command.Special (block.Open device number aux1) on h) ∙ ap replyStatus (special-said device)
+  line-84 (special-on-closed device d h n b) =
+      let name = nameOf half (c .address) in
+      ap statusOf (device-plan device d ∙ ap (λ (then : After). opens device then (d .number) name) (opening-plan (d .opening) .special h))
+      ∙ ap replyStatus (opened-special device (d .number) name (offered device n) (opened device b name))
 
--- the status of a reply $90; a request that goes on has none
-abbrev pub statusIn : Out → ℕ
-statusIn (goes run) = 0
-statusIn (ends reply) = getD reply 3 0
+  prepare-91 : s .console .console .mode ≡ 0 → actsOn c l s S .prepares (own S) .says ≡ done.Refused 0x91
+  unfolding prepareOf prepareS
+  prepare-91 e = rw e
 
--- what a handler may know of an opening
-abbrev pub openingOn : (port : ℕ) → Call → (name : ℕ) → Asked
-openingOn port call name = asksOpen port (call .iocb) (call .aux1) (call .aux2) name
+  line-91 : NoMode c l s → ends 0x91
+  line-91 (open-mode device d n b) =
+      let name = nameOf half (c .address) in
+      ap statusOf (device-plan device d) ∙ ap replyStatus (open-refused device _ (d .number) name 0x91 (offered device n) (unopened device b name))
+  line-91 (transfer-mode reading p e) = ap statusOf (passes reading S p) ∙ ap replyStatus (transfer-refused S _ 0x91 (prepare-91 e))
 
--- H the device's handler, port the number of the port that asks, b the block
-module _ {D : Type 0} (H : Asked → Acts D) (port : ℕ) (device : Device) (call : Call) (b : ControlBlock) (x : D) where
-  abbrev pub asked : Asked
-  asked = asksOn port (call .iocb)
+  -- the group that it needs
+  free : (status : ℕ) → Refuses status → groupNeeded planned ≡ group.Nobody
+  free status e = ap groupNeeded e
 
-  -- CLOSE: "$01"
-  pub close-01 : statusIn (workOf H port work.Close device call b x .out) ≡ 0x01
-  unfolding workOf
-  close-01 = refl
+  needs-one : (reading : Bool) → Undirected c l s reading → groupNeeded planned ≡ group.Nobody
+  needs-one true u = free 0x83 (plan-83 u)
+  needs-one false u = free 0x87 (plan-87 u)
 
-  -- GET STATUS, SPECIAL on an open block: what the handler says
-  pub status-said : statusIn (workOf H port work.Status device call b x .out) ≡ doneStatus (H asked .statuses x)
-  unfolding workOf
-  status-said = refl
+  needs-open : (device : Device) (number aux1 : ℕ) → OnBlock c l s (block.Open device number aux1) → 0x0C ≤ c .command → groupNeeded planned ≡ groupOf device
+  unfolding blockPlan
+  needs-open device number aux1 on h =
+      by-eq (c .command) 0x0C
+      (λ e. ap groupNeeded (reached command.Close (block.Open device number aux1) on e))
+      (λ n. by-eq (c .command) 0x0D
+      (λ e. ap groupNeeded (reached command.Status (block.Open device number aux1) on e))
+      (λ m. ap groupNeeded (reached command.Special (block.Open device number aux1) on (above (c .command) h n m))))
 
-  pub special-said : statusIn (workOf H port work.Special device call b x .out) ≡ doneStatus (H asked .specials x .says)
-  unfolding workOf
-  special-said = refl
+  pub call-needs : CallNeeds c l s (needOf (askedOf (call c)) (l .table) half)
+  unfolding planOf planIn blockPlan
+  call-needs = record {
+    iocb-above-7 = λ h. free 0x86 (plan-86 h);
+    bad-command = λ i h. free 0x84 (plan-84 i h);
+    open-on-open = λ o. free 0x81 (plan-81 o);
+    transfer-on-closed = λ t. free 0x85 (plan-85 t);
+    undirected = needs-one;
+    past-area = λ p. free 0xB0 (plan-b0 p);
+    no-device = λ n. free 0x82 (plan-82 n);
+    closes-closed = λ on h. free 0x01 (reached command.Close block.Closed on h);
+    opens-device = λ device d. ap groupNeeded (device-plan device d);
+    transfers = λ reading device p. ap groupNeeded (passes reading device p);
+    on-open = needs-open;
+  }
 
-  -- "mode, handler": a transfer whose handler refuses at the start
-  pub prepare-refused : (kind : Kind) (status : ℕ) → H asked .prepares x .says ≡ done.Refused status → statusIn (workOf H port (work.Transfer kind) device call b x .out) ≡ status
-  unfolding workOf transferOf
-  prepare-refused kind status e = rw e
+  -- a transfer that starts
+  starts : (reading : Bool) (device : Device) (t : Started c l s reading device) → planned ≡ plannedOf device (work.Transfer (kindOf reading (t .way))) c
+  starts reading device t =
+      passes reading device (t .passed)
+      ∙ ap (λ (way : Way). plannedOf device (work.Transfer (kindOf reading way)) c) (way-has (t .way) (t .passed .directed .transfer .records) (c .length) .1 (t .has-way))
 
-  module _ (then : After) (number name : ℕ) where
-    abbrev pub opened : Begun D
-    opened = workOf H port (work.Open then number name) device call b x
+  put-line : (device : Device) (t : Started c l s false device) {status count : ℕ} → PutEnds (actsOn c l s device) (t .way) (c .length) (sentBy c l s (t .way)) (t .stands) status count → ends status
+  put-line device t e =
+      ap statusOf (starts false device t) ∙ ap replyStatus (put-status device (t .way) (t .stands) (t .begins))
+      ∙ put-once (actsOn c l s device) (t .way) (c .length) (sentBy c l s (t .way)) (t .stands) (put-ended device t) e .0
 
-    abbrev pub asks : Asked
-    asks = openingOn port call name
+  module _ (fg : FitGroups s) where
+    get-line : (device : Device) (t : Started c l s true device) {status count : ℕ} → GetEnds (actsOn c l s device) (t .way) (c .length) (t .stands) status count → ends status
+    get-line device t e =
+        ap statusOf (starts true device t) ∙ ap replyStatus (get-status device (t .way) (t .stands) (t .begins))
+        ∙ get-once (actsOn c l s device) (t .way) (c .length) (t .stands) (got-ends device fg t) e .0
 
-    -- "$84 | .. AUX1 not offered", before the handler is asked
-    pub not-offered : offersOf device (call .aux1) ≡ false → opened ≡ over call b x 0x84
-    unfolding workOf openingOf
-    not-offered e = rw e
+    line-88 : EndOfFile c l s → ends 0x88
+    line-88 r =
+        get-line K (r .started)
+        (get-refused (r .k) 0x88 (r .comes) (keys-reads (asksOn (l .number) (c .iocb)) (readTo (actsOn c l s K) (r .k) (r .started .stands)) (r .at)))
 
-    module _ (offered : offersOf device (call .aux1) ≡ true) where
-      pub open-said : statusIn (opened .out) ≡ doneStatus (openedOf (H asks) then x .says)
-      unfolding workOf openingOf
-      open-said = rw offered
+    line-89 : RecordCut c l s → ends 0x89
+    line-89 r = get-line (r .device) (r .reads .started) (get-cut (r .reads .k) (r .reads .comes) (r .reads .at) (r .way) (r .stored))
 
-      -- "a failed open's status stands"
-      pub open-refused : (status : ℕ) → H asks .opens x .says ≡ done.Refused status → statusIn (opened .out) ≡ status
-      unfolding openedOf
-      open-refused status e = open-said ∙ rw e
+    line-8d : CursorPast c l s → ends 0x8D
+    line-8d (inl r) =
+        get-line S (r .started)
+        (get-refused (r .k) 0x8D (r .comes) (screen-reads (asksOn (l .number) (c .iocb)) (readTo (actsOn c l s S) (r .k) (r .started .stands)) (r .at)))
+    line-8d (inr w) =
+        put-line S (w .started)
+        (put-refused (w .k) 0x8D (w .comes)
+        (screen-writes (asksOn (l .number) (c .iocb)) (getD (sentBy c l s (w .started .way)) (w .k) 0) (writtenTo (actsOn c l s S) (sentBy c l s (w .started .way)) (w .k) (w .started .stands)) (w .at)))
 
-      module _ (e : H asks .opens x .says ≡ done.Success) where
-        pub open-01 : then ≡ after.Stay → statusIn (opened .out) ≡ 0x01
-        unfolding openedOf thenOf
-        open-01 f = open-said ∙ rw (e, f)
+  line-90 : PaperFull c l s → ends 0x90
+  line-90 w =
+      put-line P (w .started)
+      (put-refused (w .k) 0x90 (w .comes)
+      (paper-writes (asksOn (l .number) (c .iocb)) (getD (sentBy c l s (w .started .way)) (w .k) 0) (writtenTo (actsOn c l s P) (sentBy c l s (w .started .way)) (w .k) (w .started .stands)) (w .at)))
 
-        -- "opened as OPEN does, then $01 or $84": what the handler says of the opened device
-        pub open-status : then ≡ after.Status → statusIn (opened .out) ≡ doneStatus (H asks .statuses (H asks .opens x .leaves))
-        unfolding openedOf thenOf
-        open-status f = open-said ∙ rw (e, f)
+  module _ (fl : FitLocal l) (fg : FitGroups s) where
+    to : (status : ℕ) → ends status → Row status
+    to status e = subst Row e (row-holds fl fg .line)
 
-        pub open-special : then ≡ after.Special → statusIn (opened .out) ≡ doneStatus (H asks .specials (H asks .opens x .leaves) .says)
-        unfolding openedOf thenOf
-        open-special f = open-said ∙ rw (e, f)
+    one-of : (status : ℕ) → Row status → oneOf (0x01 ∷ 0x86 ∷ 0x84 ∷ 0x81 ∷ 0x85 ∷ 0x83 ∷ 0x87 ∷ 0xB0 ∷ 0x82 ∷ 0x91 ∷ 0x88 ∷ 0x89 ∷ 0x8D ∷ 0x90 ∷ []) status ≡ true
+    one-of status r =
+        row-any (eqb status 0x01) _ _ _
+        (row-any (eqb status 0x86) _ _ _
+        (row-any (eqb status 0x84) _ _ _
+        (row-any (eqb status 0x81) _ _ _
+        (row-any (eqb status 0x85) _ _ _
+        (row-any (eqb status 0x83) _ _ _
+        (row-any (eqb status 0x87) _ _ _
+        (row-any (eqb status 0xB0) _ _ _
+        (row-any (eqb status 0x82) _ _ _
+        (row-any (eqb status 0x91) _ _ _
+        (row-any (eqb status 0x88) _ _ _
+        (row-any (eqb status 0x89) _ _ _
+        (row-any (eqb status 0x8D) _ _ _
+        (row-any (eqb status 0x90) _ _ _
+        (λ n. absurd n)))))))))))))) r
 
--- "GET STATUS $0D, SPECIAL above .. $01 or $84": so says every handler, and SPECIAL changes no device
-pub says-01 : (o : Owner) (asked : Asked) (x : Part (groupIn o)) → ownActs o asked .statuses x ≡ done.Success
-says-01 (owner.Console h) asked x = refl
-says-01 owner.Printer asked x = refl
+    pub call-statuses : CallStatuses c l s (replyStatus (aloneOf (call c) l s .reply))
+    unfolding aloneOf planOf planIn
+    call-statuses = record {
+      iocb-above-7 = (to 0x86, λ h. refused-by 0x86 (plan-86 h));
+      illegal = (to 0x84, line-84);
+      open-on-open = (to 0x81, λ h. refused-by 0x81 (plan-81 h));
+      transfer-on-closed = (to 0x85, λ h. refused-by 0x85 (plan-85 h));
+      reading-without-R = (to 0x83, λ h. refused-by 0x83 (plan-83 h));
+      writing-without-W = (to 0x87, λ h. refused-by 0x87 (plan-87 h));
+      past-area = (to 0xB0, λ h. refused-by 0xB0 (plan-b0 h));
+      no-device = (to 0x82, λ h. refused-by 0x82 (plan-82 h));
+      screen-mode = (to 0x91, line-91);
+      end-of-file = (to 0x88, line-88 fg);
+      record-cut = (to 0x89, line-89 fg);
+      cursor-past = (to 0x8D, line-8d fg);
+      paper-full = (to 0x90, line-90);
+      numbers = one-of (statusOf planned) (row-holds fl fg .line);
+    }
 
-pub says-84 : (o : Owner) (asked : Asked) (x : Part (groupIn o)) → ownActs o asked .specials x ≡ answer (done.Refused 0x84) x
-says-84 (owner.Console h) asked x = refl
-says-84 owner.Printer asked x = refl
+    -- "Count is bytes stored into or taken from the area."
+    get-reply : (device : Device) (t : Started c l s true device) → GetReply c l s device t (replied planned)
+    get-reply device t =
+        let n = c .length in
+        let fits = way-fits (t .way) (t .passed .directed .transfer .records) n (t .has-way) in
+        record {
+          status = gets device (t .way) (t .stands) .status;
+          count = gets device (t .way) (t .stands) .count;
+          a = gets device (t .way) (t .stands) .a;
+          says = ap replied (starts true device t) ∙ get-status device (t .way) (t .stands) (t .begins);
+          ends = got-ends device fg t;
+          a-read = λ z byte e. get-read (actsOn c l s device) (deviceLeft device) (c .a) (t .way) n (c .address) half (t .stands) byte fits z e;
+          a-kept = λ none. get-kept (actsOn c l s device) (deviceLeft device) (c .a) (t .way) n (c .address) half (t .stands) fits none;
+        }
 
-module _ (o : Owner) (port : ℕ) (device : Device) (call : Call) (b : ControlBlock) (x : Part (groupIn o)) where
-  -- "On an open one: $01 or $84."
-  pub status-on-open : statusIn (workOf (ownActs o) port work.Status device call b x .out) ≡ 0x01
-  unfolding workOf
-  status-on-open = ap doneStatus (says-01 o (asksOn port (call .iocb)) x)
+    put-reply : (device : Device) (t : Started c l s false device) → PutReply c l s device t (replied planned)
+    put-reply device t = record {
+      status = puts device (t .way) (t .stands) .status;
+      count = puts device (t .way) (t .stands) .count;
+      says =
+          ap replied (starts false device t) ∙ put-status device (t .way) (t .stands) (t .begins)
+          ∙ ap (callReply _ _) (put-kept (actsOn c l s device) (deviceLeft device) (c .a) (t .way) (c .length) (c .address) half (t .stands));
+      ends = put-ended device t;
+    }
 
-  pub special-on-open : statusIn (workOf (ownActs o) port work.Special device call b x .out) ≡ 0x84
-  unfolding workOf
-  special-on-open = ap (λ (y : Answer Done (Part (groupIn o))). doneStatus (y .says)) (says-84 o (asksOn port (call .iocb)) x)
+    other-reply : Counted (replied planned) → ((reading : Bool) (device : Device) → Started c l s reading device → ⊥) → Uncounted c l s (replied planned)
+    other-reply (uncounted-reply status e) none = record { status = status; says = e }
+    other-reply (counted-reply reading device t) none = absurd (none reading device t)
 
-  -- "On a closed block: opened as OPEN does, then $01 or $84"
-  module _ (number name : ℕ) (offered : offersOf device (call .aux1) ≡ true) (e : ownActs o (openingOn port call name) .opens x .says ≡ done.Success) where
-    pub status-on-closed : statusIn (workOf (ownActs o) port (work.Open after.Status number name) device call b x .out) ≡ 0x01
-    status-on-closed = open-status (ownActs o) port device call b x after.Status number name offered e refl ∙ ap doneStatus (says-01 o (openingOn port call name) _)
+    -- "Reply $90, length 4: status, count (2), A."
+    pub record Shape (reply : List ℕ) : Type 0 where
+      pub status : ℕ
+      pub count : ℕ
+      pub a : ℕ
+      pub says : reply ≡ callReply status count a
 
-    pub special-on-closed : statusIn (workOf (ownActs o) port (work.Open after.Special number name) device call b x .out) ≡ 0x84
-    special-on-closed =
-        open-special (ownActs o) port device call b x after.Special number name offered e refl
-        ∙ ap (λ (y : Answer Done (Part (groupIn o))). doneStatus (y .says)) (says-84 o (openingOn port call name) _)
+    shape : Counted (replied planned) → Shape (replied planned)
+    shape (uncounted-reply status e) = record { status = status; count = 0; a = c .a; says = e }
+    shape (counted-reply true device t) = let r = get-reply device t in record { status = r .status; count = r .count; a = r .a; says = r .says }
+    shape (counted-reply false device t) = let r = put-reply device t in record { status = r .status; count = r .count; a = c .a; says = r .says }
 
--- an OPEN's statuses with the group held, of each handler
+    pub call-shape : Shape (aloneOf (call c) l s .reply)
+    unfolding aloneOf planOf planIn
+    call-shape = shape (row-holds fl fg .counts)
 
-or-split : (a b : Bool) → or a (not b) ≡ true → (a ≡ true) ⊎ (b ≡ false)
-or-split true b e = inl refl
-or-split false b e = inr (not-true b e)
+    pub call-blocks : CallBlocks c l s (replyStatus (aloneOf (call c) l s .reply)) (aloneOf (call c) l s .local .table)
+    unfolding aloneOf planOf planIn
+    call-blocks = row-holds fl fg .blocks
 
-or-join : (a b : Bool) → (a ≡ true) ⊎ (b ≡ false) → or a (not b) ≡ true
-or-join a b (inl e) = rw e
-or-join a b (inr e) = rw e (or-true a)
+    pub call-replies : CallReplies c l s (aloneOf (call c) l s .reply)
+    unfolding aloneOf planOf planIn
+    call-replies = record { gets = get-reply; puts = put-reply; others = other-reply (row-holds fl fg .counts) }
 
--- "AUX2 is the mode, 3 to 8, else $91; AUX1 bit 4 is $91"
-abbrev pub BadMode : (aux1 aux2 : ℕ) → Type 0
-BadMode aux1 aux2 = (bit 16 aux1 ≡ true) ⊎ (within 3 8 aux2 ≡ false)
+-- LOAD and FETCH
+pub load-statuses : (address : ℕ) (bytes : List ℕ) (l : Local) (s : Groups) → LoadStatuses address (length bytes) (replyStatus (aloneOf (load address bytes) l s .reply))
+unfolding aloneOf planOf planIn alonePlan aloneErrand loadStatus
+load-statuses address bytes l s =
+    let end = address + length bytes in
+    pick-le (LoadStatuses address (length bytes)) end areaLength 0x01 0xB0
+    (λ h. record { past = (λ e. absurd (omega (arith, e)), λ g. absurd (omega arith)); success = (λ e. h, λ g. refl) })
+    (λ h. record { past = (λ e. h, λ g. refl); success = (λ e. absurd (omega (arith, e)), λ g. absurd (omega arith)) })
 
--- S's opening
-abbrev pub IsScreen : Owner → Type 0
-IsScreen o = o ≡ owner.Console console.S
-
-s-refuses : (asked : Asked) (g : ConsoleGroup) → BadMode (asked .aux1) (asked .aux2) → consoleActs console.S asked .opens g .says ≡ done.Refused 0x91
-unfolding openOf openS graphics.openOf
-s-refuses asked g b = rw (or-join (bit 16 (asked .aux1)) (within 3 8 (asked .aux2)) b)
-
-s-accepts : (asked : Asked) (g : ConsoleGroup) → or (bit 16 (asked .aux1)) (not (within 3 8 (asked .aux2))) ≡ false → consoleActs console.S asked .opens g .says ≡ done.Success
-unfolding openOf openS graphics.openOf
-s-accepts asked g e = rw e
-
-says-91 : (o : Owner) (asked : Asked) (x : Part (groupIn o)) → IsScreen o → BadMode (asked .aux1) (asked .aux2) → ownActs o asked .opens x .says ≡ done.Refused 0x91
-says-91 o asked x s b =
-    subst (λ (k : Owner). (y : Part (groupIn k)) → ownActs k asked .opens y .says ≡ done.Refused 0x91) (sym s) (λ g. s-refuses asked g b) x
-
--- each opening is S's $91, or a success
-opens-or : (o : Owner) (asked : Asked) (x : Part (groupIn o)) → (IsScreen o × BadMode (asked .aux1) (asked .aux2)) ⊎ (ownActs o asked .opens x .says ≡ done.Success)
-unfolding openOf
-opens-or (owner.Console console.E) asked x = inr refl
-opens-or (owner.Console console.S) asked x =
-    by-test (or (bit 16 (asked .aux1)) (not (within 3 8 (asked .aux2))))
-    (λ t. inl (refl, or-split (bit 16 (asked .aux1)) (within 3 8 (asked .aux2)) t))
-    (λ t. inr (s-accepts asked x t))
-opens-or (owner.Console console.K) asked x = inr refl
-opens-or owner.Printer asked x = inr refl
-
--- S in mode 0
-abbrev pub NoPicture : (o : Owner) → Part (groupIn o) → Type 0
-NoPicture (owner.Console console.E) x = ⊥
-NoPicture (owner.Console console.S) x = x .console .mode ≡ 0
-NoPicture (owner.Console console.K) x = ⊥
-NoPicture owner.Printer x = ⊥
-
-module _ (o : Owner) (port : ℕ) (device : Device) (call : Call) (b : ControlBlock) (x : Part (groupIn o)) where
-  module _ (number name : ℕ) where
-    abbrev pub openSays : ℕ
-    openSays = statusIn (workOf (ownActs o) port (work.Open after.Stay number name) device call b x .out)
-
-    not-says : offersOf device (call .aux1) ≡ false → openSays ≡ 0x84
-    not-says e = ap (λ (y : Begun (Part (groupIn o))). statusIn (y .out)) (not-offered (ownActs o) port device call b x after.Stay number name e)
-
-    offered-says : offersOf device (call .aux1) ≡ true → ((IsScreen o × BadMode (call .aux1) (call .aux2)) × (openSays ≡ 0x91)) ⊎ (openSays ≡ 0x01)
-    offered-says t =
-        ⊎-elim
-        (λ p. inl (p, open-refused (ownActs o) port device call b x after.Stay number name t 0x91 (says-91 o (openingOn port call name) x (p .0) (p .1))))
-        (λ e. inr (open-01 (ownActs o) port device call b x after.Stay number name t e refl))
-        (opens-or o (openingOn port call name) x)
-
-    -- "$84 | .. AUX1 not offered"
-    pub open-84 : (openSays ≡ 0x84) ↔ (offersOf device (call .aux1) ≡ false)
-    open-84 = (
-      λ e. by-test (offersOf device (call .aux1))
-          (λ t. ⊎-elim (λ p. absurd (other 0x91 0x84 tt (sym (p .1) ∙ e))) (λ p. absurd (other 0x01 0x84 tt (sym p ∙ e))) (offered-says t))
-          (λ t. t),
-      not-says,
-    )
-
-    -- "$91 | screen mode": S's alone, and after AUX1
-    pub open-91 : (openSays ≡ 0x91) ↔ ((offersOf device (call .aux1) ≡ true) × (IsScreen o × BadMode (call .aux1) (call .aux2)))
-    open-91 = (
-      λ e. by-test (offersOf device (call .aux1))
-          (λ t. ⊎-elim (λ p. (t, p .0)) (λ p. absurd (other 0x01 0x91 tt (sym p ∙ e))) (offered-says t))
-          (λ t. absurd (other 0x84 0x91 tt (sym (not-says t) ∙ e))),
-      λ p. open-refused (ownActs o) port device call b x after.Stay number name (p .0) 0x91 (says-91 o (openingOn port call name) x (p .1 .0) (p .1 .1)),
-    )
-
-begins-91 : (o : Owner) (port : ℕ) (device : Device) (call : Call) (b : ControlBlock) (x : Part (groupIn o)) (kind : Kind)
-    → statusIn (workOf (ownActs o) port (work.Transfer kind) device call b x .out) ≡ 0x91 → NoPicture o x
-unfolding workOf transferOf prepareOf prepareS
-begins-91 (owner.Console console.E) port device call b x kind e = absurd (other 0 0x91 tt e)
-begins-91 (owner.Console console.S) port device call b x kind e =
-    by-eq (x .console .mode) 0 (λ z. z) (λ n. absurd (other 0 0x91 tt (rw (ne-eqb (x .console .mode) 0 n) at e)))
-begins-91 (owner.Console console.K) port device call b x kind e = absurd (other 0 0x91 tt e)
-begins-91 owner.Printer port device call b x kind e = absurd (other 0 0x91 tt e)
-
-prepare-91 : (o : Owner) (asked : Asked) (x : Part (groupIn o)) → NoPicture o x → ownActs o asked .prepares x .says ≡ done.Refused 0x91
-unfolding prepareOf prepareS
-prepare-91 (owner.Console console.E) asked x p = absurd p
-prepare-91 (owner.Console console.S) asked x p = rw p
-prepare-91 (owner.Console console.K) asked x p = absurd p
-prepare-91 owner.Printer asked x p = absurd p
-
--- "A transfer in mode 0 is $91 at the start.": S's
-pub transfer-91 : (o : Owner) (port : ℕ) (device : Device) (call : Call) (b : ControlBlock) (x : Part (groupIn o)) (kind : Kind)
-    → (statusIn (workOf (ownActs o) port (work.Transfer kind) device call b x .out) ≡ 0x91) ↔ NoPicture o x
-transfer-91 o port device call b x kind = (
-  begins-91 o port device call b x kind,
-  λ p. prepare-refused (ownActs o) port device call b x kind 0x91 (prepare-91 o (asksOn port (call .iocb)) x p),
-)
-
--- With a character: what the handlers refuse it with, and the cut record
-
-abbrev isRefused : Done → Type 0
-isRefused done.Success = ⊥
-isRefused (done.Refused status) = Unit
-
-abbrev isNothing : Got → Type 0
-isNothing (got.Character byte) = ⊥
-isNothing (got.Refused status) = Unit
-
-pub never : {A : Type 0} {status : ℕ} → done.Success ≡ done.Refused status → A
-never e = absurd (subst isRefused (sym e) tt)
-
-got-never : {A : Type 0} {byte status : ℕ} → got.Character byte ≡ got.Refused status → A
-got-never e = absurd (subst isNothing (sym e) tt)
-
--- "$88 .. | end of file from K": no key, or no character
-pub read-88 : (asked : Asked) (g : ConsoleGroup) → let k = g .console .keyboard in (consoleActs console.K asked .reads g .says ≡ got.Refused 0x88) ↔ (256 ≤ translateOf (k .code) (k .lock) (k .inverse))
-unfolding readOf readK keys.getOf keys.struckBy
-read-88 asked g =
-    let k = g .console .keyboard in
-    let n = translateOf (k .code) (k .lock) (k .inverse) in
-    (λ e. by-lt n 256 (λ h. got-never (rw (lt-ltb n 256 h) at e)) (λ h. h), λ h. rw (le-ltb n 256 h))
-
--- "$8D | S cursor past the last row"
-pub read-8d : (asked : Asked) (g : ConsoleGroup) → (consoleActs console.S asked .reads g .says ≡ got.Refused 0x8D) ↔ (shapeOf (g .console .mode) .rows ≤ g .console .row)
-unfolding readOf readS graphics.getOf
-read-8d asked g =
-    let r = shapeOf (g .console .mode) .rows in
-    (λ e. by-lt (g .console .row) r (λ h. got-never (rw (lt-leb r (g .console .row) h) at e)) (λ h. h), λ h. rw (le-leb r (g .console .row) h))
-
--- "At row = rows all but $7D give $8D."
-pub write-8d : (asked : Asked) (byte : ℕ) (g : ConsoleGroup) → (consoleActs console.S asked .writes byte g .says ≡ done.Refused 0x8D) ↔ ((byte ≡ 0x7D → ⊥) × (shapeOf (g .console .mode) .rows ≤ g .console .row))
-unfolding writeOf writeS graphics.putOf
-write-8d asked byte g =
-    let r = shapeOf (g .console .mode) .rows in
-    let written = consoleActs console.S asked .writes byte g .says in
-    let eol-said : (byte ≡ 0x7D → ⊥) → g .console .row < r → written ≡ done.Success
-    = λ n h. by-eq byte 0x9B
-    (λ e. rw (ne-eqb byte 0x7D n, lt-leb r (g .console .row) h, eq-eqb byte 0x9B e))
-    (λ m. rw (ne-eqb byte 0x7D n, lt-leb r (g .console .row) h, ne-eqb byte 0x9B m)) in (
-      λ e. by-eq byte 0x7D
-          (λ q. never (rw (eq-eqb byte 0x7D q) at e))
-          (λ n. (n, by-lt (g .console .row) r (λ h. never (sym (eol-said n h) ∙ e)) (λ h. h))),
-      λ p. rw (ne-eqb byte 0x7D (p .0), le-leb r (g .console .row) (p .1)),
-    )
-
--- "$90 | paper full": "at 4,096 used"
-pub write-90 : (asked : Asked) (byte : ℕ) (g : PrinterGroup) → (printerActs asked .writes byte g .says ≡ done.Refused 0x90) ↔ (paperLength ≤ g .used)
-unfolding printer.putOf
-write-90 asked byte g =
-    (λ e. by-lt (g .used) paperLength (λ h. never (rw (lt-ltb (g .used) paperLength h) at e)) (λ h. h), λ h. rw (le-ltb (g .used) paperLength h))
-
--- what a character leaves to go on, and what ends it with $01, are not $89
-onward-says : (run : Run) → (statusIn (outOf (onwardOf run)) ≡ 0x89) → ⊥
-unfolding onwardOf
-onward-says run = pick-go (λ (n : Next). statusIn (outOf n) ≡ 0x89 → ⊥) (eqb (run .left) 0) (endedOf 0x01 run) (On run) (λ t. other 0x01 0x89 tt) (λ t. other 0 0x89 tt)
-
-record-says : (run : Run) (byte : ℕ) → (statusIn (outOf (recordOf run byte)) ≡ 0x89) → ⊥
-unfolding recordOf
-record-says run byte = pick-go (λ (n : Next). statusIn (outOf n) ≡ 0x89 → ⊥) (eqb byte eol) (endedOf 0x01 run) (On run) (λ t. other 0x01 0x89 tt) (λ t. other 0 0x89 tt)
-
-module _ (run : Run) (byte : ℕ) (area : List ℕ) where
-  record-89 : statusIn (outOf (gotCharacter Record run byte area .next)) ≡ 0x89 → (run .left ≡ 0) × (byte ≡ eol)
-  unfolding gotCharacter
-  record-89 e =
-      by-eq (run .left) 0
-      (λ z. (z, by-eq byte eol (λ q. q) (λ n. absurd (other 0 0x89 tt (rw (eq-eqb (run .left) 0 z, ne-eqb byte 0x9B n) at e)))))
-      (λ n. absurd (record-says (furtherOf run) byte (rw (ne-eqb (run .left) 0 n) at e)))
-
-  only-89 : (way : Way) → statusIn (outOf (gotCharacter way run byte area .next)) ≡ 0x89 → (way ≡ Record) × ((run .left ≡ 0) × (byte ≡ eol))
-  unfolding gotCharacter
-  only-89 One e = absurd (other 0x01 0x89 tt e)
-  only-89 Characters e = absurd (onward-says (furtherOf run) e)
-  only-89 Record e = (refl, record-89 e)
-
-  -- "$89 | .. record cut": "With n stored and no EOL, characters are dropped through the EOL, then $89"
-  pub read-89 : (way : Way) → (statusIn (outOf (gotCharacter way run byte area .next)) ≡ 0x89) ↔ ((way ≡ Record) × ((run .left ≡ 0) × (byte ≡ eol)))
-  unfolding gotCharacter
-  read-89 way = (only-89 way, λ p. rw (p .0, eq-eqb (run .left) 0 (p .1 .0), eq-eqb byte 0x9B (p .1 .1)))
+pub fetch-statuses : (address count : ℕ) (l : Local) (s : Groups) → FetchStatuses address count (replyStatus (aloneOf (fetch address count) l s .reply))
+unfolding aloneOf planOf planIn alonePlan aloneErrand fetchReply
+fetch-statuses address count l s = fetched address count

@@ -27,7 +27,8 @@ use Rattle.plan.specs.declared.Errand.{Errand}
 use Rattle.plan.specs.declared.Errand.the-variants as errand
 use Rattle.plan.specs.declared.Plan.{Plan}
 use Rattle.plan.specs.declared.Plan.the-variants as plan
-use Rattle.plan.specs.Plan.{commandOf, blockPlan, callPlan, planIn, planOf, groupNeeded, needOf}
+use Rattle.commands.specs.Commands.{commandOf}
+use Rattle.plan.specs.Plan.{blockPlan, callPlan, planIn, planOf, groupNeeded, needOf}
 use Rattle.cio.specs.Start.{loadOf, errandOf, jobBegun, startOf}
 use Rattle.calls.specs.Port.{Reach, startPlan, Ticked, ticked, readyTick, tickPort}
 use Rattle.calls.specs.Stick.{Outcome, reachAt}

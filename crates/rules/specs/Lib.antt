@@ -1,3 +1,4 @@
 pub mod Answers
 pub mod Ports
 pub mod Running
+pub mod Statuses

@@ -1,21 +1,56 @@
 // The ops of a call script, read from standard input: one byte and its operands, numbers low byte first.
 use libc::STDIN_FILENO;
 
-// What one of the stick's calls is asked; `Ticks` stands for as many ticks as there are while the port runs on.
-pub enum Operation {
+// What the stick is asked: one of the five calls, or none.
+pub enum Call {
+    Nothing,
     Fresh,
     Take(u8, u8),
     Tick(u8),
     Give(u8),
     Press(u8),
-    Ticks(u8, u16),
 }
 
+// `Start` stands before a script: a fresh start for which nothing is written. `Ticks` has a port, how many ticks there are at most,
+// while the port runs on, and how many there were.
 pub enum Op {
+    Start,
     End,
     Lend(u8, u32),
     Dump,
-    Operation(Operation),
+    Ticks(u8, u16, u16),
+    Call(Call),
+}
+
+impl Op {
+    // Nothing more is played.
+    pub fn ends(self) -> bool {
+        match self {
+            Op::Start => false,
+            Op::End => true,
+            Op::Lend(which, length) => false,
+            Op::Dump => false,
+            Op::Ticks(port, most, made) => false,
+            Op::Call(call) => false,
+        }
+    }
+
+    // What the op asks the stick now.
+    pub fn call(self) -> Call {
+        match self {
+            Op::Start => Call::Fresh,
+            Op::End => Call::Nothing,
+            Op::Lend(which, length) => Call::Nothing,
+            Op::Dump => Call::Nothing,
+            Op::Ticks(port, most, made) => {
+                if made < most {
+                    return Call::Tick(port);
+                }
+                Call::Nothing
+            }
+            Op::Call(call) => call,
+        }
+    }
 }
 
 // How many bytes an op's operands have.
@@ -42,12 +77,12 @@ fn long(low: u8, middle: u8, high: u8) -> u32 {
 // An op and its operands, as far as it has some.
 fn op_of(op: u8, first: u8, second: u8, third: u8, fourth: u8) -> Op {
     match op {
-        b'F' => Op::Operation(Operation::Fresh),
-        b'T' => Op::Operation(Operation::Take(first, second)),
-        b'K' => Op::Operation(Operation::Tick(first)),
-        b'G' => Op::Operation(Operation::Give(first)),
-        b'P' => Op::Operation(Operation::Press(first)),
-        b'X' => Op::Operation(Operation::Ticks(first, word(second, third))),
+        b'F' => Op::Call(Call::Fresh),
+        b'T' => Op::Call(Call::Take(first, second)),
+        b'K' => Op::Call(Call::Tick(first)),
+        b'G' => Op::Call(Call::Give(first)),
+        b'P' => Op::Call(Call::Press(first)),
+        b'X' => Op::Ticks(first, word(second, third), 0),
         b'L' => Op::Lend(first, long(second, third, fourth)),
         b'D' => Op::Dump,
         _ => Op::End,

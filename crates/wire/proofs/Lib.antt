@@ -4,3 +4,4 @@ pub mod Spelling
 pub mod Giving
 pub mod Cases
 pub mod Decided
+pub mod Fields

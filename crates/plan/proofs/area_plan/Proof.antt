@@ -9,8 +9,7 @@ pub area-plan-spec : {M : Type 1} → statement M
 area-plan-spec =
     tie.close
     (tie.spec
-    (λ c κs. search needs)  -- way-of-requires
-    (λ c κs. search needs)  -- kind-of-requires
+    (λ c κs. search needs)  -- transfer-kind-requires
     (λ c κs. search needs)  -- planned-requires
     (λ c. search area-one)  -- returns
     (λ c. search needs)  -- cast-if2

@@ -6,10 +6,10 @@ use Rattle.play.proofs.main.Statement.{statement}
 use Rattle.play.proofs.main.Tie as tie
 
 abbrev Inv-loop : tie.InvT-loop
-Inv-loop state₀ area₀ screen₀ paper₀ lengths₀ i₀ state area screen paper lengths i = i ≤ 18446744073709551615
+Inv-loop state₀ area₀ screen₀ paper₀ op₀ lengths₀ i₀ state area screen paper op lengths i = i ≤ 18446744073709551615
 
 abbrev μ-loop : tie.MeasureT-loop
-μ-loop state₀ area₀ screen₀ paper₀ lengths₀ i₀ state area screen paper lengths i = 18446744073709551615 - i
+μ-loop state₀ area₀ screen₀ paper₀ op₀ lengths₀ i₀ state area screen paper op lengths i = 18446744073709551615 - i
 
 pub main-spec : {M : Type 1} → statement M
 main-spec =
@@ -21,13 +21,14 @@ main-spec =
     (λ c. search needs)  -- slice-aggregate-area
     (λ c. search needs)  -- slice-aggregate-screen
     (λ c. search needs)  -- slice-aggregate-paper
-    (λ c κs. search needs)  -- fixlomand-fresh-requires
     (λ c κs. search needs)  -- whole-requires
     (λ c. search needs)  -- loop-holds
-    (λ c κs. search needs)  -- read-requires
     (λ c κs. search needs)  -- ends-requires
     (λ c. search needs)  -- returns
-    (λ c κs. search needs)  -- play-requires
+    (λ c κs. search needs)  -- call-requires
+    (λ c κs. search needs)  -- perform-cut-requires
+    (λ c κs. search needs)  -- after-requires
+    (λ c κs. search needs)  -- next-requires
     (λ c. search needs)  -- add-i
     (λ c. search needs)  -- loop-less
     (λ c. search needs)  -- loop-again

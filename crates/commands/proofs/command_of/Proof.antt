@@ -1,9 +1,9 @@
 -- `command_of` meets its contract, by `tests`.
 -- Assumes nothing.
 use Rattle.base.proofs.Tests.{tests}
-use Rattle.plan.specs.Plan.{commandOf}
-use Rattle.plan.proofs.command_of.Statement.{statement}
-use Rattle.plan.proofs.command_of.Tie as tie
+use Rattle.commands.specs.Commands.{commandOf}
+use Rattle.commands.proofs.command_of.Statement.{statement}
+use Rattle.commands.proofs.command_of.Tie as tie
 
 pub command-of-spec : {M : Type 1} → statement M
 unfolding commandOf

@@ -29,7 +29,8 @@ use Rattle.replies.specs.Replies.{bytesAt, fetchStatus, fetchReply, callReply}
 use Rattle.transfer.specs.Transfer.{onwardOf, recordOf, gotCharacter, gotOf, sentByte, sentRecord, sentNext, sentOf}
 use Rattle.devices.specs.declared.Group.{Group}
 use Rattle.devices.specs.declared.Group.the-variants as groups
-use Rattle.plan.specs.Plan.{commandOf, wayOf, nameOf, areaPlan, transferPlan, blockPlan, callPlan, planIn, planOf}
+use Rattle.commands.specs.Commands.{commandOf, wayOf}
+use Rattle.plan.specs.Plan.{nameOf, areaPlan, transferPlan, blockPlan, callPlan, planIn, planOf}
 use Rattle.moves.specs.Move as moves
 use Rattle.cio.specs.Start.{loadedOf, loadStatus, thenOf, openedOf, openingOf, transferOf, workOf}
 use Rattle.alone.specs.Transfer.{getOne, putOne, getCharacters, dropLine, getRecord, putCharacters, putRecord, getting, putting, transferred}
@@ -47,13 +48,13 @@ use Rattle.serial.specs.Demand2.{WaitingRule, OneCharacter, Along, Bound, Alone
 use Rattle.serial.specs.Demand3.{Whole, serial, SerialRule, requestsOf, TakenRule, GivenRule, bytesOfAll, Demand3}
 use Rattle.serial.proofs.WrongCores.{Calls, with-call, replied, atRunning, whenTicked, whenReady, whenRunning, idles, pressesThrough, neverStarts, pretends, oneLock, movesNothing, allAtOnce, firstOnly, oneBuffer, crossed, wrongHost}
 use Rattle.serial.proofs.NeverStarting.{never-starting-serial, pretending-serial}
 use Rattle.machine.specs.Spells.{Gather, nothingYet, feed, fedOf, Gathered, none-taken, tag-taken, low-taken, value-taken}
 use Rattle.machine.specs.Real.{replyBy, needBy, errandStep, planStep, moveBy, real}
 use Rattle.machine.proofs.Lawful.{lawful}
 use Rattle.machine.proofs.Plugged.{first, led, begun, ok-by, leads, says, does, loads, calls, opens}
 
 -- what is seen: a status and a count's low byte in a CALL's reply, and the characters on the paper
-abbrev byteIn : ℕ → Phase real → ℕ
+abbrev pub byteIn : ℕ → Phase real → ℕ
 byteIn n (gathering x) = 0
 byteIn n (ready m) = 0
 byteIn n (running g k) = 0
@@ -65,11 +66,11 @@ status v = byteIn 2 (phaseAt real port-0 v)
 abbrev count : View real → ℕ
 count v = byteIn 3 (phaseAt real port-0 v)
 
-abbrev printed : View real → ℕ
+abbrev pub printed : View real → ℕ
 printed v = v .devs .printer .used
 
 -- a port whose tick leaves all as it is stays so
-stays : (C : Core real) (p : Port) (w : C .World) → C .call (tick p) w .world ≡ w → (n : ℕ) → ticked real C n p w ≡ w
+pub stays : (C : Core real) (p : Port) (w : C .World) → C .call (tick p) w .world ≡ w → (n : ℕ) → ticked real C n p w ≡ w
 unfolding ticked
 stays C p w e zero = refl
 stays C p w e (suc n) = ap (ticked real C n p) e ∙ stays C p w e n
@@ -89,10 +90,10 @@ module _ (f : Phase real → Port → View real → Effect real (View real)) (sa
       stays byPhase port-0 v (ap (λ (x : Phase real). f x port-0 v .world) e ∙ ap (λ (y : Effect real (View real)). y .world) (same r v) ∙ quiet-tick v r e) n
 
 -- "Never starting a request: demand 2's waiting rule"
-abbrev asksLoad : List (Call real)
+abbrev pub asksLoad : List (Call real)
 asksLoad = says port-0 (0x11 ∷ 5 ∷ 0 ∷ 0 ∷ 0 ∷ 0x45 ∷ 0x3A ∷ 0x9B ∷ [])
 
-abbrev loadE : Said
+abbrev pub loadE : Said
 loadE = load 0 (0x45 ∷ 0x3A ∷ 0x9B ∷ [])
 
 pub never-starting-wrong : WaitingRule real (with-call real (neverStarts real)) → ⊥
@@ -111,7 +112,7 @@ pub pretending-met : Demand3 real (with-call real (pretends real))
 pretending-met = pretending-serial real lawful
 
 -- "One lock over both groups: the same": port 1 is to open E, and port 0 prints
-abbrev opensE : Said
+abbrev pub opensE : Said
 opensE = call (record { iocb = 0; command = 0x03; address = 0; length = 0; aux1 = 0x0D; aux2 = 0; a = 0 })
 
 abbrev printsTwo : List ℕ
@@ -125,7 +126,7 @@ unfolding after feed fedOf goodField senseOf badStatus messageOf errandStep plan
 one-lock-wrong w = true≢false (sym (w .waits (led (oneLock real) bothBusy) (leads (oneLock real) bothBusy tt) port-1 opensE refl .0 refl))
 
 -- "Always refusing, or always status 1: demand 2 and cases 2, 3": every CALL is answered so
-abbrev answersAt : ℕ → Phase real → Port → View real → Effect real (View real)
+abbrev pub answersAt : ℕ → Phase real → Port → View real → Effect real (View real)
 answersAt s (gathering x) p v = callOf real (tick p) v
 answersAt s (ready (call c)) p v = record { world = replied real p (replyBy (callReply s 0 (c .a))) v; answer = done }
 answersAt s (ready (load address bytes)) p v = callOf real (tick p) v
@@ -134,10 +135,10 @@ answersAt s (ready (request.bad status)) p v = callOf real (tick p) v
 answersAt s (running g k) p v = callOf real (tick p) v
 answersAt s (replying r) p v = callOf real (tick p) v
 
-abbrev alwaysStatus : ℕ → Calls real
+abbrev pub alwaysStatus : ℕ → Calls real
 alwaysStatus s = whenTicked real (λ p v. answersAt s (phaseAt real p v) p v)
 
-abbrev case-2 : List (Call real)
+abbrev pub case-2 : List (Call real)
 case-2 = loads port-0 5 (0x45 ∷ 0x3A ∷ 0x9B ∷ []) ++ says port-0 (calls 0 0x03 0 0 0x0D)
 
 pub always-refusing-wrong : AloneRule real (with-call real (alwaysStatus 0x84)) → ⊥
@@ -148,10 +149,10 @@ always-refusing-wrong a =
     let e = sym (stays (with-call real f) port-0 (f (tick port-0) w .world) refl mostMoves) ∙ a w (leads f case-2 tt) port-0 opensE refl (λ h. h) in
     let z : _≡_ {A = ℕ} 0x84 0x01 = ap status e in omega arith
 
-abbrev case-3 : List (Call real)
+abbrev pub case-3 : List (Call real)
 case-3 = says port-0 (calls 8 0x0C 0 0 0)
 
-abbrev closesEight : Said
+abbrev pub closesEight : Said
 closesEight = call (record { iocb = 8; command = 0x0C; address = 0; length = 0; aux1 = 0; aux2 = 0; a = 0 })
 
 pub always-one-wrong : AloneRule real (with-call real (alwaysStatus 0x01)) → ⊥
@@ -163,16 +164,16 @@ always-one-wrong a =
     let z : _≡_ {A = ℕ} 0x01 0x86 = ap status e in omega arith
 
 -- "Doing the first character and claiming the rest: areas, screen and paper of demand 2": of two characters one is printed
-abbrev asksPrint : List (Call real)
+abbrev pub asksPrint : List (Call real)
 asksPrint = opens port-0 0x50 0 8 ++ says port-0 printsTwo
 
-abbrev printTwo : Said
+abbrev pub printTwo : Said
 printTwo = call (record { iocb = 0; command = 0x0B; address = 0; length = 2; aux1 = 0; aux2 = 0; a = 0 })
 
 abbrev claimed : Port → View real → Effect real (View real)
 claimed p v = record { world = replied real p (replyBy (callReply 0x01 2 0)) (callOf real (tick p) v .world); answer = done }
 
-abbrev claims : Calls real
+abbrev pub claims : Calls real
 claims = firstOnly real (replyBy (callReply 0x01 2 0))
 
 pub first-only-wrong : AloneRule real (with-call real claims) → ⊥
@@ -193,10 +194,10 @@ all-at-once-wrong o =
     let z : _≡_ {A = ℕ} 2 0 = ap printed e in omega arith
 
 -- a tick that moves nothing and answers 0
-abbrev prints : List (Call real)
+abbrev pub prints : List (Call real)
 prints = opens port-0 0x50 0 8 ++ does port-0 printsTwo 1 0
 
-abbrev printing : Run
+abbrev pub printing : Run
 printing = record { kind = Put Characters; device = P; iocb = 0; left = 2; place = 0; count = 0; a = 0 }
 
 pub moving-nothing-wrong : OneCharacter real (with-call real (movesNothing real)) → ⊥
@@ -318,16 +319,16 @@ along-still : (v : View real) → Runs real (phaseAt real port-0 v) → movesNot
 along-still v r e zero = r
 along-still v r e (suc n) = (r, subst (λ (u : View real). Along real (with-call real (movesNothing real)) port-0 (replicate n (tick port-0)) u) (sym e) (along-still v r e n))
 
-so-many : (n : ℕ) → ticks real port-0 (replicate n (tick port-0)) ≡ n
+pub so-many : (n : ℕ) → ticks real port-0 (replicate n (tick port-0)) ≡ n
 unfolding ticks
 so-many zero = refl
 so-many (suc n) = ap suc (so-many n)
 
-ok-ticks : (n : ℕ) → OkCalls real (replicate n (tick port-0))
+pub ok-ticks : (n : ℕ) → OkCalls real (replicate n (tick port-0))
 ok-ticks zero = no-call
 ok-ticks (suc n) = one-more tt (ok-ticks n)
 
-runs-still : (v : View real) (g : Group) (k : Run) → phaseAt real port-0 v ≡ running g k → movesNothing real (tick port-0) v .world ≡ v
+pub runs-still : (v : View real) (g : Group) (k : Run) → phaseAt real port-0 v ≡ running g k → movesNothing real (tick port-0) v .world ≡ v
 runs-still v g k e = ap (λ (x : Phase real). atRunning real x (λ p u. record { world = u; answer = done }) port-0 v .world) e
 
 running-still : (v : View real) (g : Group) (k : Run) → phaseAt real port-0 v ≡ running g k → Runs real (phaseAt real port-0 v)

@@ -1,8 +1,8 @@
 -- `way_of` meets its contract, by `way-one`, `way-record` and `way-characters`.
 -- Assumes nothing.
-use Rattle.plan.proofs.Plans.{way-one, way-record, way-characters}
-use Rattle.plan.proofs.way_of.Statement.{statement}
-use Rattle.plan.proofs.way_of.Tie as tie
+use Rattle.commands.proofs.Ways.{way-one, way-record, way-characters}
+use Rattle.commands.proofs.way_of.Statement.{statement}
+use Rattle.commands.proofs.way_of.Tie as tie
 
 pub way-of-spec : {M : Type 1} → statement M
 way-of-spec =

@@ -1,0 +1,113 @@
+-- The statuses of document 01's tables are given in every run of a core that does each request as it is done alone.
+-- Assumes nothing.
+use mathlib.Core.Path.{_≡_, _∙_, refl, sym, ap, subst}
+use mathlib.Core.Logic.{_↔_}
+use mathlib.Core.List.{List, [], _∷_}
+use Prim.Native.Nat.{ℕ, suc}
+use native.Mathlib.Omega.{arith}
+use Rattle.wire.specs.declared.Message.{Message}
+use Rattle.wire.specs.declared.Message.the-variants as message
+use Rattle.wire.specs.Messages.{wordOf, headerOf, messageOf}
+use Rattle.wire.proofs.Fields.{field-statuses}
+use Rattle.replies.specs.Replies.{fetchReply}
+use Rattle.devices.specs.Groups.{Groups}
+use Rattle.devices.specs.Fit.{FitGroups}
+use Rattle.plan.specs.Plan.{planIn, planOf}
+use Rattle.alone.specs.Alone.{Said, call, load, fetch, bad, saidOf, Local, aloneErrand, alonePlan, aloneOf}
+use Rattle.alone.specs.Fit.{FitLocal}
+use Rattle.alone.proofs.Loading.{load-rule}
+use Rattle.serial.specs.Machine.{Port, port-0, port-1, Two, at, set}
+use Rattle.serial.specs.Core.{replying, PortView, View, localAt, Core}
+use Rattle.serial.specs.Undamaged.{NeverDamaged}
+use Rattle.serial.specs.Demand2.{AloneRule}
+use Rattle.serial.specs.Demand3.{bytesOf}
+use Rattle.rules.proofs.Statuses.{call-statuses, call-replies, call-blocks, call-shape, call-needs, load-statuses, fetch-statuses}
+use Rattle.machine.specs.Spells.{saidBy, Spells}
+use Rattle.machine.specs.Real.{replyBy, real}
+use Rattle.machine.specs.Statuses.{Replies, RepliesWith, StatusRule, FieldRule, FieldsRule, NeedsRule}
+use Rattle.machine.proofs.Course.{fit-mine}
+
+-- a reply that is not empty is its first byte and the rest
+back : (reply : List ℕ) (byte : ℕ) (bytes : List ℕ) → reply ≡ byte ∷ bytes → bytesOf real (replyBy reply) ≡ reply
+back reply byte bytes e = ap (λ (r : List ℕ). bytesOf real (replyBy r)) e ∙ sym e
+
+whole-reply : (m : Said) (l : Local) (s : Groups) → FitLocal l → FitGroups s → bytesOf real (replyBy (aloneOf m l s .reply)) ≡ aloneOf m l s .reply
+unfolding aloneOf planOf planIn alonePlan aloneErrand fetchReply
+whole-reply (call c) l s fl fg = back _ 0x90 _ (call-shape c l s fl fg .says)
+whole-reply (load address bytes) l s fl fg = refl
+whole-reply (fetch address count) l s fl fg = refl
+whole-reply (bad status) l s fl fg = refl
+
+replies : (m : Said) (l : Local) (s : Groups) → FitLocal l → FitGroups s → Replies m l s (aloneOf m l s .local) (aloneOf m l s .reply)
+unfolding aloneOf planOf planIn alonePlan aloneErrand
+replies (call c) l s fl fg = (call-statuses c l s fl fg, (call-replies c l s fl fg, call-blocks c l s fl fg))
+replies (load address bytes) l s fl fg = (load-statuses address bytes l s, load-rule l s address bytes fl)
+replies (fetch address count) l s fl fg = fetch-statuses address count l s
+replies (bad status) l s fl fg = refl
+
+-- a port that has been set
+set-at : (p : Port) (x : PortView real) (t : Two (PortView real)) → at p (set p x t) ≡ x
+set-at port-0 x t = refl
+set-at port-1 x t = refl
+
+-- the port after a request that is done as it is done alone
+done-alone : (m : Said) (l : Local) (s : Groups) → FitLocal l → FitGroups s
+    → RepliesWith m l s (record { local = aloneOf m l s .local; phase = replying (replyBy (aloneOf m l s .reply)) })
+done-alone m l s fl fg = record {
+  reply = replyBy (aloneOf m l s .reply);
+  made = refl;
+  says = subst (Replies m l s (aloneOf m l s .local)) (sym (whole-reply m l s fl fg)) (replies m l s fl fg);
+}
+
+pub statuses : (C : Core real) → AloneRule real C → NeverDamaged real C → StatusRule C
+statuses C alone u w r p m e n =
+    let v = C .see w in
+    let l = localAt real p v in
+    let f = u w r .fit in
+    let own : PortView real = record { local = aloneOf m l (v .devs) .local; phase = replying (replyBy (aloneOf m l (v .devs) .reply)) } in
+    subst (RepliesWith m l (v .devs))
+    (sym (ap (λ (view : View real). at p (view .ports)) (alone w r p m e n) ∙ set-at p own (v .ports)))
+    (done-alone m l (v .devs) (fit-mine p v f) (f .groups))
+
+pub needs : NeedsRule
+unfolding planOf planIn
+needs = record {
+  calls = λ c l s. call-needs c l s;
+  loads = λ address bytes l. refl;
+  fetches = λ address count l. refl;
+  refused = λ status l. refl;
+}
+
+-- one more than the status that a message is refused with; 0 where it is not
+abbrev refusal : Message → ℕ
+refusal (message.Call c) = 0
+refusal (message.Load address size) = 0
+refusal (message.Fetch address count) = 0
+refusal (message.Bad status) = suc status
+
+abbrev saidRefusal : Said → ℕ
+saidRefusal (call c) = 0
+saidRefusal (load address bytes) = 0
+saidRefusal (fetch address count) = 0
+saidRefusal (bad status) = suc status
+
+-- what a message says is refused exactly when the message is
+said-bad : (m : Message) (value : List ℕ) (status : ℕ) → (saidOf m value ≡ bad status) ↔ (m ≡ message.Bad status)
+said-bad (message.Call c) value status = (λ e. absurd (omega (arith, ap saidRefusal e)), λ e. absurd (omega (arith, ap refusal e)))
+said-bad (message.Load address size) value status = (λ e. absurd (omega (arith, ap saidRefusal e)), λ e. absurd (omega (arith, ap refusal e)))
+said-bad (message.Fetch address count) value status = (λ e. absurd (omega (arith, ap saidRefusal e)), λ e. absurd (omega (arith, ap refusal e)))
+said-bad (message.Bad given) value status =
+    (λ e. ap message.Bad (omega (arith, ap saidRefusal e)), λ e. ap bad (omega (arith, ap refusal e)))
+
+field-rule : (tag size : ℕ) (value : List ℕ) → FieldRule tag size (saidBy tag size value)
+field-rule tag size value =
+    let f = field-statuses tag size value in
+    let m = messageOf (headerOf tag size) value in
+    record {
+      unknown = (λ e. f .unknown .0 (said-bad m value 0x92 .0 e), λ n. said-bad m value 0x92 .1 (f .unknown .1 n));
+      wrong = (λ e. f .wrong .0 (said-bad m value 0x84 .0 e), λ n. said-bad m value 0x84 .1 (f .wrong .1 n));
+      good = λ g status e. f .good g status (said-bad m value status .0 e);
+    }
+
+pub fields : FieldsRule
+fields bytes said s = subst (FieldRule (s .tag) (wordOf (s .low) (s .high))) (sym (s .says)) (field-rule (s .tag) (wordOf (s .low) (s .high)) (s .value))

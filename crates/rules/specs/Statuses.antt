@@ -1,0 +1,267 @@
+-- Document 01, Statuses: the table and the order of the checks, a line each: a request alone ends with a status exactly when its line
+-- says so. From the message, the port's blocks and area, and the device alone.
+-- Assumes nothing.
+use mathlib.Core.Path.{_≡_}
+use mathlib.Core.Logic.{_↔_, _⊎_}
+use mathlib.Core.Bool.{Bool, true, false}
+use mathlib.Core.List.{List, [], _∷_}
+use Prim.Native.Nat.{ℕ, _+_, _<_, _≤_}
+use lib.ListN.{getD, length}
+use Rattle.base.specs.Choice.{bit}
+use Rattle.handler.specs.declared.Done.the-variants as done
+use Rattle.handler.specs.declared.Got.the-variants as got
+use Rattle.handler.specs.Answer.{answer}
+use Rattle.handler.specs.Acts.{Acts, asksOn}
+use Rattle.keys.specs.Translation.{translateOf}
+use Rattle.cells.specs.Modes.{shapeOf}
+use Rattle.console.specs.Group.{ConsoleGroup}
+use Rattle.printer.specs.Printer.{paperLength, PrinterGroup}
+use Rattle.blocks.specs.declared.BlockState.{BlockState}
+use Rattle.blocks.specs.declared.BlockState.the-variants as block
+use Rattle.blocks.specs.declared.Device.{Device}
+use Rattle.blocks.specs.declared.Device.the-variants.{E, S, K, P}
+use Rattle.blocks.specs.declared.Way.{Way}
+use Rattle.blocks.specs.declared.Way.the-variants.{Record}
+use Rattle.blocks.specs.declared.Table.{Table}
+use Rattle.blocks.specs.Blocks.{closedBlock, openBlock, blockAt, withBlock}
+use Rattle.blocks.specs.Opening.{areaLength}
+use Rattle.blocks.specs.Specified.{Specified, Malformed, NeededPast, NotOffered}
+use Rattle.commands.specs.declared.Command.the-variants as command
+use Rattle.commands.specs.Numbers.{BadCommand, HasNumber, HasWay}
+use Rattle.wire.specs.declared.Call.{Call}
+use Rattle.replies.specs.Replies.{callReply}
+use Rattle.transfer.specs.Transfer.{eol}
+use Rattle.devices.specs.declared.Group.{Group}
+use Rattle.devices.specs.declared.Group.the-variants as group
+use Rattle.devices.specs.Groups.{Groups, Part, getGroup, groupOf, deviceActs}
+use Rattle.alone.specs.Alone.{Local}
+use Rattle.alone.specs.Ending.{readTo, ReadsTo, GetEnds, sentOf, writtenTo, WritesTo, PutEnds}
+use Rattle.rules.specs.Answers.{oneOf}
+
+-- "status", the first byte of a reply's value
+abbrev pub replyStatus : List ℕ → ℕ
+replyStatus reply = getD reply 3 0
+
+-- "$11 LOAD: address (2), data"
+pub record LoadStatuses (address size status : ℕ) : Type 0 where
+  -- "LOAD or FETCH past the area: $B0"
+  pub past : (status ≡ 0xB0) ↔ (areaLength < address + size)
+  pub success : (status ≡ 0x01) ↔ (address + size ≤ areaLength)
+
+-- "AUX1: R is 4, W is 8."
+abbrev pub directionBit : (reading : Bool) → ℕ
+directionBit true = 4
+directionBit false = 8
+
+-- "OPEN: AUX2 is the mode, 3 to 8, else $91; AUX1 bit 4 is $91.": S's
+abbrev pub BadMode : Device → (aux1 aux2 : ℕ) → Type 0
+BadMode E aux1 aux2 = ⊥
+BadMode S aux1 aux2 = (bit 16 aux1 ≡ true) ⊎ ((aux2 < 3) ⊎ (8 < aux2))
+BadMode K aux1 aux2 = ⊥
+BadMode P aux1 aux2 = ⊥
+
+module _ (c : Call) (l : Local) (s : Groups) where
+  abbrev pub blockState : BlockState
+  blockState = blockAt (l .table) (c .iocb) .state
+
+  -- past the $86 check, with this block
+  pub record OnBlock (state : BlockState) : Type 0 where
+    pub iocb : c .iocb ≤ 7
+    pub has : blockState ≡ state
+
+  -- "$81 OPEN on an open block"
+  pub record OpenOnOpen : Type 0 where
+    pub device : Device
+    pub number : ℕ
+    pub aux1 : ℕ
+    pub on : OnBlock (block.Open device number aux1)
+    pub command : c .command ≡ 0x03
+
+  -- "$85 transfer on a closed block"
+  pub record TransferOnClosed : Type 0 where
+    pub reading : Bool
+    pub records : Bool
+    pub on : OnBlock block.Closed
+    pub command : HasNumber (command.Transfer reading records) (c .command)
+
+  -- a transfer on an open block of this device
+  pub record Transfer (reading : Bool) (device : Device) : Type 0 where
+    pub records : Bool
+    pub number : ℕ
+    pub aux1 : ℕ
+    pub on : OnBlock (block.Open device number aux1)
+    pub command : HasNumber (command.Transfer reading records) (c .command)
+
+  -- "$83, $87 reading without R, writing without W": by the block's AUX1
+  pub record Undirected (reading : Bool) : Type 0 where
+    pub device : Device
+    pub transfer : Transfer reading device
+    pub without : bit (directionBit reading) (transfer .aux1) ≡ false
+
+  pub record Directed (reading : Bool) (device : Device) : Type 0 where
+    pub transfer : Transfer reading device
+    pub with : bit (directionBit reading) (transfer .aux1) ≡ true
+
+  -- OPEN, GET STATUS or SPECIAL on a closed block: "opened as OPEN does"
+  pub record Opening : Type 0 where
+    pub on : OnBlock block.Closed
+    pub command : (c .command ≡ 0x03) ⊎ (0x0D ≤ c .command)
+
+  -- "$B0 buffer or specification past the area"; a buffer of length 0 is not looked at
+  pub data PastArea : Type 0 where
+    buffer-past : (reading : Bool) (device : Device) → Directed reading device → 0 < c .length → areaLength < c .address + c .length → PastArea
+    specification-past : Opening → NeededPast (l .area) (c .address) → PastArea
+
+  -- "$82 unknown device, or malformed specification"
+  pub record NoDevice : Type 0 where
+    pub opening : Opening
+    pub malformed : Malformed (l .area) (c .address)
+
+  -- an opening past the $82 check
+  pub record OpensDevice (device : Device) : Type 0 where
+    pub opening : Opening
+    pub number : ℕ
+    pub specified : Specified (l .area) (c .address) device number
+
+  -- "$84 command 0 to 2, 4, 6, 8, $0A; SPECIAL; AUX1 not offered"
+  pub data Illegal : Type 0 where
+    bad-command : c .iocb ≤ 7 → BadCommand (c .command) → Illegal
+    not-offered : (device : Device) → OpensDevice device → NotOffered device (c .aux1) → Illegal
+    special-on-open : (device : Device) (number aux1 : ℕ) → OnBlock (block.Open device number aux1) → 0x0D < c .command → Illegal
+    -- "a failed open's status stands"
+    special-on-closed : (device : Device) → OpensDevice device → 0x0D < c .command → (NotOffered device (c .aux1) → ⊥) → (BadMode device (c .aux1) (c .aux2) → ⊥) → Illegal
+
+  -- a transfer past the $B0 check
+  pub record Passed (reading : Bool) (device : Device) : Type 0 where
+    pub directed : Directed reading device
+    pub buffer : (c .length ≡ 0) ⊎ (c .address + c .length ≤ areaLength)
+
+  -- "$91 screen mode": "AUX1, mode, handler"; S's: "A transfer in mode 0 is $91 at the start."
+  pub data NoMode : Type 0 where
+    open-mode : (device : Device) → OpensDevice device → (NotOffered device (c .aux1) → ⊥) → BadMode device (c .aux1) (c .aux2) → NoMode
+    transfer-mode : (reading : Bool) → Passed reading S → s .console .console .mode ≡ 0 → NoMode
+
+  -- the handler of an open block's device
+  abbrev pub actsOn : (device : Device) → Acts (Part (groupOf device))
+  actsOn device = deviceActs device (asksOn (l .number) (c .iocb))
+
+  -- a transfer that the handler lets start, and the device as it then stands
+  pub record Started (reading : Bool) (device : Device) : Type 0 where
+    pub passed : Passed reading device
+    pub way : Way
+    pub has-way : HasWay way (passed .directed .transfer .records) (c .length)
+    pub stands : Part (groupOf device)
+    pub begins : actsOn device .prepares (getGroup (groupOf device) s) ≡ answer done.Success stands
+
+  -- it comes to a character that is read of this device
+  pub record ReadsAt (device : Device) (At : Part (groupOf device) → Type 0) : Type 0 where
+    pub started : Started true device
+    pub k : ℕ
+    pub comes : ReadsTo (actsOn device) (started .way) (c .length) (started .stands) k
+    pub at : At (readTo (actsOn device) k (started .stands))
+
+  abbrev pub sentBy : Way → List ℕ
+  sentBy way = sentOf way (c .a) (c .length) (l .area) (c .address)
+
+  -- it comes to this byte, that is written to this device
+  pub record WritesAt (device : Device) (At : (byte : ℕ) → Part (groupOf device) → Type 0) : Type 0 where
+    pub started : Started false device
+    pub k : ℕ
+    pub comes : WritesTo (actsOn device) (started .way) (c .length) (sentBy (started .way)) (started .stands) k
+    pub at : At (getD (sentBy (started .way)) k 0) (writtenTo (actsOn device) (sentBy (started .way)) k (started .stands))
+
+  -- "$88 .. end of file from K": "Empty, above $BF, or no character: $88": key translation gives no character
+  abbrev pub EndOfFile : Type 0
+  EndOfFile = ReadsAt K (λ (g : ConsoleGroup). let k = g .console .keyboard in 256 ≤ translateOf (k .code) (k .lock) (k .inverse))
+
+  -- "$89 .. record cut": "With n stored and no EOL, characters are dropped through the EOL, then $89"
+  pub record RecordCut : Type 0 where
+    pub device : Device
+    pub reads : ReadsAt device (λ (x : Part (groupOf device)). actsOn device .reads x .says ≡ got.Character eol)
+    pub way : reads .started .way ≡ Record
+    pub stored : c .length ≤ reads .k
+
+  -- "$8D S cursor past the last row": "At row = rows all but $7D give $8D."
+  abbrev pub PastRows : ConsoleGroup → Type 0
+  PastRows g = shapeOf (g .console .mode) .rows ≤ g .console .row
+
+  abbrev pub CursorPast : Type 0
+  CursorPast = ReadsAt S PastRows ⊎ WritesAt S (λ (byte : ℕ) (g : ConsoleGroup). (byte ≡ 0x7D → ⊥) × PastRows g)
+
+  -- "$90 paper full": "at 4,096 used, $90"
+  abbrev pub PaperFull : Type 0
+  PaperFull = WritesAt P (λ (byte : ℕ) (g : PrinterGroup). paperLength ≤ g .used)
+
+  -- "CALL order: $86; bad command; $81 or $85; $83 or $87; $B0 and $82; then with the group held AUX1, mode, handler.": each line says
+  -- too that the checks before it are passed
+  pub record CallStatuses (status : ℕ) : Type 0 where
+    pub iocb-above-7 : (status ≡ 0x86) ↔ (7 < c .iocb)
+    pub illegal : (status ≡ 0x84) ↔ Illegal
+    pub open-on-open : (status ≡ 0x81) ↔ OpenOnOpen
+    pub transfer-on-closed : (status ≡ 0x85) ↔ TransferOnClosed
+    pub reading-without-R : (status ≡ 0x83) ↔ Undirected true
+    pub writing-without-W : (status ≡ 0x87) ↔ Undirected false
+    pub past-area : (status ≡ 0xB0) ↔ PastArea
+    pub no-device : (status ≡ 0x82) ↔ NoDevice
+    pub screen-mode : (status ≡ 0x91) ↔ NoMode
+    pub end-of-file : (status ≡ 0x88) ↔ EndOfFile
+    pub record-cut : (status ≡ 0x89) ↔ RecordCut
+    pub cursor-past : (status ≡ 0x8D) ↔ CursorPast
+    pub paper-full : (status ≡ 0x90) ↔ PaperFull
+    -- "$01 success", where none of these; no other status
+    pub numbers : oneOf (0x01 ∷ 0x86 ∷ 0x84 ∷ 0x81 ∷ 0x85 ∷ 0x83 ∷ 0x87 ∷ 0xB0 ∷ 0x82 ∷ 0x91 ∷ 0x88 ∷ 0x89 ∷ 0x8D ∷ 0x90 ∷ []) status ≡ true
+
+  -- "Reply $90, length 4: status, count (2), A.": of a GET
+  pub record GetReply (device : Device) (t : Started true device) (reply : List ℕ) : Type 0 where
+    pub status : ℕ
+    pub count : ℕ
+    pub a : ℕ
+    pub says : reply ≡ callReply status count a
+    -- "Count is bytes stored into or taken from the area."
+    pub ends : GetEnds (actsOn device) (t .way) (c .length) (t .stands) status count
+    -- "The reply's A is the request's except after a successful read of length 0."
+    pub a-read : c .length ≡ 0 → (byte : ℕ) → actsOn device .reads (t .stands) .says ≡ got.Character byte → a ≡ byte
+    pub a-kept : (c .length ≡ 0 → (byte : ℕ) → actsOn device .reads (t .stands) .says ≡ got.Character byte → ⊥) → a ≡ c .a
+
+  -- of a PUT
+  pub record PutReply (device : Device) (t : Started false device) (reply : List ℕ) : Type 0 where
+    pub status : ℕ
+    pub count : ℕ
+    pub says : reply ≡ callReply status count (c .a)
+    pub ends : PutEnds (actsOn device) (t .way) (c .length) (sentBy (t .way)) (t .stands) status count
+
+  -- of what moves no character
+  pub record Uncounted (reply : List ℕ) : Type 0 where
+    pub status : ℕ
+    pub says : reply ≡ callReply status 0 (c .a)
+
+  pub record CallReplies (reply : List ℕ) : Type 0 where
+    pub gets : (device : Device) (t : Started true device) → GetReply device t reply
+    pub puts : (device : Device) (t : Started false device) → PutReply device t reply
+    -- "Count is 0 for anything but transfers."; "A refusal at the start changes .. count 0"
+    pub others : ((reading : Bool) (device : Device) → Started reading device → ⊥) → Uncounted reply
+
+  -- what a CALL leaves of its port's blocks
+  pub record CallBlocks (status : ℕ) (after : Table) : Type 0 where
+    -- OPEN: "open with its device, number and AUX1"
+    pub opens : c .command ≡ 0x03 → status ≡ 0x01 → (device : Device) (number : ℕ) → Specified (l .area) (c .address) device number
+        → after ≡ withBlock (l .table) (c .iocb) (openBlock device number (c .aux1))
+    -- "CLOSE $0C. The block becomes the closed one"
+    pub closes : c .iocb ≤ 7 → c .command ≡ 0x0C → after ≡ withBlock (l .table) (c .iocb) closedBlock
+    -- "A failed open leaves the block closed"; GET STATUS and SPECIAL on a closed block: "then closed"; a transfer changes none
+    pub others : (c .iocb ≤ 7 → c .command ≡ 0x0C → ⊥) → (c .command ≡ 0x03 → status ≡ 0x01 → ⊥) → after ≡ l .table
+
+  -- "A CALL past the $82 check needs its device's group; CLOSE of a closed block .. and refused messages need none"
+  pub record CallNeeds (need : Group) : Type 0 where
+    pub iocb-above-7 : 7 < c .iocb → need ≡ group.Nobody
+    pub bad-command : c .iocb ≤ 7 → BadCommand (c .command) → need ≡ group.Nobody
+    pub open-on-open : OpenOnOpen → need ≡ group.Nobody
+    pub transfer-on-closed : TransferOnClosed → need ≡ group.Nobody
+    pub undirected : (reading : Bool) → Undirected reading → need ≡ group.Nobody
+    pub past-area : PastArea → need ≡ group.Nobody
+    pub no-device : NoDevice → need ≡ group.Nobody
+    pub closes-closed : OnBlock block.Closed → c .command ≡ 0x0C → need ≡ group.Nobody
+    pub opens-device : (device : Device) → OpensDevice device → need ≡ groupOf device
+    pub transfers : (reading : Bool) (device : Device) → Passed reading device → need ≡ groupOf device
+    -- CLOSE, GET STATUS and SPECIAL
+    pub on-open : (device : Device) (number aux1 : ℕ) → OnBlock (block.Open device number aux1) → 0x0C ≤ c .command → need ≡ groupOf device

@@ -1,0 +1,54 @@
+// How much of each buffer is lent: its first so many bytes, at most its whole.
+use crate::ops::Op;
+
+pub struct LentLengths {
+    pub area: u32,
+    pub screen: u32,
+    pub paper: u32,
+    pub state: u32,
+}
+
+impl LentLengths {
+    // No buffer has so many bytes: each is lent whole.
+    pub fn whole() -> LentLengths {
+        LentLengths {
+            area: u32::MAX,
+            screen: u32::MAX,
+            paper: u32::MAX,
+            state: u32::MAX,
+        }
+    }
+
+    // Another length for buffer 0, area; 1, screen; 2, paper; 3, state.
+    fn lend(self, which: u8, length: u32) -> LentLengths {
+        let mut next = self;
+        match which {
+            0 => {
+                next.area = length;
+            }
+            1 => {
+                next.screen = length;
+            }
+            2 => {
+                next.paper = length;
+            }
+            3 => {
+                next.state = length;
+            }
+            _ => {}
+        }
+        next
+    }
+
+    // How much is lent after an op.
+    pub fn after(self, op: Op) -> LentLengths {
+        match op {
+            Op::Start => self,
+            Op::End => self,
+            Op::Lend(which, length) => self.lend(which, length),
+            Op::Dump => self,
+            Op::Ticks(port, most, made) => self,
+            Op::Call(call) => self,
+        }
+    }
+}

@@ -1,0 +1,2 @@
+pub mod Cores
+pub mod Rules
