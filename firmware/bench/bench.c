@@ -12,8 +12,15 @@
 #include <time.h>
 #include <ucontext.h>
 
-enum { OPEN = 3, GET_RECORD = 5, GET_CHARACTERS = 7, PUT_CHARACTERS = 11, CLOSE = 12 };
-enum { R = 4, W = 8, FORCED = 1, PORT_AREA = 16384, REPLY_LEN = 260 };
+enum {
+    OPEN = FIXLOMAND_COMMAND_OPEN,
+    GET_RECORD = FIXLOMAND_COMMAND_GET_RECORD,
+    GET_CHARACTERS = FIXLOMAND_COMMAND_GET_CHARACTERS,
+    PUT_CHARACTERS = FIXLOMAND_COMMAND_PUT_CHARACTERS,
+    CLOSE = FIXLOMAND_COMMAND_CLOSE
+};
+enum { R = FIXLOMAND_AUX1_READ, W = FIXLOMAND_AUX1_WRITE, FORCED = FIXLOMAND_AUX1_FORCED };
+enum { SUCCESS = FIXLOMAND_STATUS_SUCCESS, REPLY_LEN = FIXLOMAND_ROOM_LEN };
 /* where the specifications are in each port's area; buffers may lie over them once the blocks are open */
 enum { AT_E = 0, AT_S = 2, AT_K = 4, AT_P = 6 };
 /* the blocks: port 0 has E, S and K open, port 1 P */
@@ -52,7 +59,7 @@ static void send(uint8_t port, const uint8_t *message, size_t length)
 static void send_call(uint8_t port, unsigned block, unsigned command, unsigned address, unsigned length, unsigned aux1,
                       unsigned aux2)
 {
-    uint8_t m[12] = {0x10, 9, 0, (uint8_t)block, (uint8_t)command};
+    uint8_t m[12] = {FIXLOMAND_TAG_CALL, FIXLOMAND_CALL_LEN, 0, (uint8_t)block, (uint8_t)command};
     m[5] = (uint8_t)address;
     m[6] = (uint8_t)(address >> 8);
     m[7] = (uint8_t)length;
@@ -84,9 +91,9 @@ static size_t receive(uint8_t port)
 {
     size_t length = 0;
     uint16_t given;
-    while (((given = fixlomand_give(LENT, port)) & 255) == FIXLOMAND_DONE) {
+    while (given = fixlomand_give(LENT, port), FIXLOMAND_ANSWER(given) == FIXLOMAND_DONE) {
         want(length < sizeof reply, "give");
-        reply[length++] = (uint8_t)(given >> 8);
+        reply[length++] = FIXLOMAND_BYTE(given);
     }
     return length;
 }
@@ -105,23 +112,23 @@ static unsigned long call(uint8_t port, unsigned block, unsigned command, unsign
 static void specifications(void)
 {
     memcpy(area, "E:S:K:P:", 8);
-    memcpy(area + PORT_AREA, "E:S:K:P:", 8);
+    memcpy(area + FIXLOMAND_PORT_AREA_LEN, "E:S:K:P:", 8);
 }
 
 static void open_screen(unsigned mode)
 {
     specifications();
-    call(0, BLOCK_S, CLOSE, 0, 0, 0, 0, 1);
-    call(0, BLOCK_S, OPEN, AT_S, 0, R | W, mode, 1);
+    call(0, BLOCK_S, CLOSE, 0, 0, 0, 0, SUCCESS);
+    call(0, BLOCK_S, OPEN, AT_S, 0, R | W, mode, SUCCESS);
 }
 
 static void start(void)
 {
     want(fixlomand_fresh(LENT) == FIXLOMAND_DONE, "fresh start");
     specifications();
-    call(0, BLOCK_E, OPEN, AT_E, 0, R | W | FORCED, 0, 1);
-    call(0, BLOCK_K, OPEN, AT_K, 0, R, 0, 1);
-    call(1, BLOCK_P, OPEN, AT_P, 0, W, 0, 1);
+    call(0, BLOCK_E, OPEN, AT_E, 0, R | W | FORCED, 0, SUCCESS);
+    call(0, BLOCK_K, OPEN, AT_K, 0, R, 0, SUCCESS);
+    call(1, BLOCK_P, OPEN, AT_P, 0, W, 0, SUCCESS);
 }
 
 /* A new paper, and the cursor home: no message does either alone, so the state is written between two calls, by its
@@ -152,23 +159,23 @@ static unsigned long take_many(void)
     send(0, header, sizeof header);
     for (unsigned i = 0; i < 65535; i++)
         fixlomand_take(LENT, 0, 1);
-    want(run(0) == 1 && receive(0) == 4 && reply[3] == 0x92, "an unknown tag");
+    want(run(0) == 1 && receive(0) == 4 && reply[3] == FIXLOMAND_STATUS_UNKNOWN_TAG, "an unknown tag");
     return 65535 + 3 + 1 + 5;
 }
 
 static unsigned long give_many(void)
 {
-    static const uint8_t fetch[] = {0x12, 4, 0, 0, 0, 0, 1};
+    static const uint8_t fetch[] = {FIXLOMAND_TAG_FETCH, FIXLOMAND_FETCH_LEN, 0, 0, 0, 0, 1};
     send(0, fetch, sizeof fetch);
-    want(run(0) == 1 && receive(0) == 260 && reply[3] == 1, "FETCH");
+    want(run(0) == 1 && receive(0) == REPLY_LEN && reply[3] == SUCCESS, "FETCH");
     return 7 + 1 + 261;
 }
 
 static unsigned long load_once(void)
 {
-    static uint8_t load[261] = {0x11, 2, 1, 64};
+    static uint8_t load[261] = {FIXLOMAND_TAG_LOAD, 2, 1, 64};
     send(0, load, sizeof load);
-    want(run(0) == 1 && receive(0) == 4 && reply[3] == 1, "LOAD");
+    want(run(0) == 1 && receive(0) == 4 && reply[3] == SUCCESS, "LOAD");
     return 261 + 1 + 5;
 }
 
@@ -198,7 +205,7 @@ static unsigned long damaged_many(void)
 static unsigned long key_once(void)
 {
     want(fixlomand_press(LENT, 0x3F) == FIXLOMAND_DONE, "press");
-    return 1 + 12 + call(0, BLOCK_K, GET_CHARACTERS, 64, 1, 0, 0, 1) + 8;
+    return 1 + 12 + call(0, BLOCK_K, GET_CHARACTERS, 64, 1, 0, 0, SUCCESS) + 8;
 }
 
 static unsigned long translate_many(void)
@@ -214,31 +221,31 @@ static unsigned length_now;
 
 static unsigned long put_editor(void)
 {
-    return 12 + call(0, BLOCK_E, PUT_CHARACTERS, 0, length_now, 0, 0, 1) + 8;
+    return 12 + call(0, BLOCK_E, PUT_CHARACTERS, 0, length_now, 0, 0, SUCCESS) + 8;
 }
 
 static unsigned long get_editor(void)
 {
-    return 12 + call(0, BLOCK_E, GET_CHARACTERS, 0, length_now, 0, 0, 1) + 8;
+    return 12 + call(0, BLOCK_E, GET_CHARACTERS, 0, length_now, 0, 0, SUCCESS) + 8;
 }
 
 static unsigned long put_screen(void)
 {
     home();
-    return 12 + call(0, BLOCK_S, PUT_CHARACTERS, 0, length_now, 0, 0, 1) + 8;
+    return 12 + call(0, BLOCK_S, PUT_CHARACTERS, 0, length_now, 0, 0, SUCCESS) + 8;
 }
 
 static unsigned long put_printer(void)
 {
     new_paper();
-    return 12 + call(1, BLOCK_P, PUT_CHARACTERS, 0, length_now, 0, 0, 1) + 8;
+    return 12 + call(1, BLOCK_P, PUT_CHARACTERS, 0, length_now, 0, 0, SUCCESS) + 8;
 }
 
 static unsigned long record_screen(void)
 {
     unsigned long ticks;
     home();
-    ticks = call(0, BLOCK_S, GET_RECORD, 64, 1, 0, 0, 0x8D);
+    ticks = call(0, BLOCK_S, GET_RECORD, 64, 1, 0, 0, FIXLOMAND_STATUS_CURSOR_PAST_LAST_ROW);
     want(ticks == 61442, "GET RECORD of a mode 8 screen (61,441 ticks after its start)");
     return 12 + ticks + 8;
 }
@@ -394,7 +401,7 @@ static void work_fresh(void)
 
 static void work_take(void)
 {
-    fixlomand_take(LENT, 0, 0x11);
+    fixlomand_take(LENT, 0, FIXLOMAND_TAG_LOAD);
 }
 
 static void work_tick0(void)
@@ -419,7 +426,7 @@ static void work_press(void)
 
 static void work_translate(void)
 {
-    fixlomand_translate(0x3F, 1, 0);
+    fixlomand_translate(0x3F, FIXLOMAND_LOCK_SHIFT, 0);
 }
 
 static size_t deepest;
@@ -450,8 +457,8 @@ static void say_call(const char *what, uint8_t port, unsigned block, unsigned co
 
 static void say_stack(void)
 {
-    static const uint8_t fetch[] = {0x12, 4, 0, 0, 0, 0, 1};
-    static uint8_t load[261] = {0x11, 2, 1, 64};
+    static const uint8_t fetch[] = {FIXLOMAND_TAG_FETCH, FIXLOMAND_FETCH_LEN, 0, 0, 0, 0, 1};
+    static uint8_t load[261] = {FIXLOMAND_TAG_LOAD, 2, 1, 64};
     printf("stack, bytes\n");
     say_depth("fresh start", work_fresh);
     start();
@@ -466,7 +473,7 @@ static void say_stack(void)
     send(0, fetch, sizeof fetch);
     say_depth("tick, FETCH of 256", work_tick0);
     receive(0);
-    area[0] = 0x9B; /* from the last row: scrolls */
+    area[0] = FIXLOMAND_EOL; /* from the last row: scrolls */
     state[FIXLOMAND_ROW] = 23;
     say_call("PUT to E, a new row", 0, BLOCK_E, PUT_CHARACTERS, 2, 0, 0);
     say_call("GET from E", 0, BLOCK_E, GET_CHARACTERS, 2, 0, 0);

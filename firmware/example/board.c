@@ -4,7 +4,7 @@
  * a turn of the loop has a bound: so no host can hold up the other, nor the keys, by what it sends or does not read. */
 #include "board.h"
 
-enum { PORTS = 2 };
+enum { PORTS = FIXLOMAND_PORTS };
 
 /* In memory that starts as zeros. The fresh start below needs not even that. */
 struct board board;
@@ -15,8 +15,8 @@ struct board board;
 
 /* ---- when something is wrong ---- */
 
-/* Pressed keys that the core has not stored yet, the oldest first. */
-enum { TYPED = 8 };
+/* Pressed keys that the core has not stored yet, the oldest first. What is pressed while so many wait is lost. */
+enum { TYPED = 64 };
 static uint8_t typed[TYPED];
 static unsigned typed_length;
 
@@ -43,10 +43,10 @@ static void start(void)
  * brown-out. Nothing in it can be trusted then, not for either port. */
 static void unexpected(uint8_t answer)
 {
-    if (answer == FIXLOMAND_DAMAGED)
-        start();
-    else
+    if (answer != FIXLOMAND_DAMAGED)
         board_fault(answer);
+    start();
+    board_tell_restart();
 }
 
 /* ---- the ports ---- */
@@ -137,17 +137,17 @@ static void scan(void)
         uint8_t with = matrix_modifiers();
         down = key;
         if (typed_length < TYPED)
-            typed[typed_length++] = (uint8_t)(key + ((with & MATRIX_SHIFT) != 0 ? 64 : 0) +
-                                              ((with & MATRIX_CONTROL) != 0 ? 128 : 0));
+            typed[typed_length++] = (uint8_t)(key + ((with & MATRIX_SHIFT) != 0 ? FIXLOMAND_WITH_SHIFT : 0) +
+                                              ((with & MATRIX_CONTROL) != 0 ? FIXLOMAND_WITH_CONTROL : 0));
     }
 }
 
-/* Stores the oldest key; while a request is at the console (6), it waits here. The core has one place: a key that no host
- * reads before the next is gone, as on the machine that this stick stands for. */
+/* Stores the oldest key. The core has one place, and would store it over a key that no host has read: so it waits here
+ * until the place is empty, and while a request is at the console (6). */
 static void press(void)
 {
     uint8_t answer;
-    if (typed_length == 0)
+    if (typed_length == 0 || board.state[FIXLOMAND_KEY] != FIXLOMAND_NO_KEY)
         return;
     answer = fixlomand_press(LENT, typed[0]);
     if (answer == FIXLOMAND_CONSOLE_HELD)

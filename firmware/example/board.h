@@ -26,7 +26,8 @@ int link_has_room(unsigned port);
 /* Sends a byte to the host, now or a little later. */
 void link_write(unsigned port, uint8_t byte);
 
-/* Drops what is under way in both directions, so that the host sees it: on USB, a reset of the device. */
+/* Drops what is under way in both directions, also a reply that the host has not read yet, so that the host sees it: on
+ * USB, a reset of the device. */
 void link_reset(unsigned port);
 
 /* ---- the keys: 64 switches, and shift and control by themselves ---- */
@@ -49,6 +50,10 @@ uint32_t board_clock(void);
 
 /* There was nothing to do: sleep until a byte comes, or for a millisecond or so. */
 void board_idle(void);
+
+/* Tells whoever looks after the board that the core's memory was damaged, and that everything has started again: a
+ * light, a line in a log. */
+void board_tell_restart(void);
 
 /* Something that a right firmware never meets: an answer that it should not get. Does not return. */
 void board_fault(uint8_t answer);

@@ -3,6 +3,7 @@
  * and output, a line each:
  *
  *     3F         presses the key of this code (hexadecimal) for a while, with contacts that bounce
+ *     15 3F 23   presses one key after the other
  *     show       writes the text screen, and what is on the paper
  *     damage     spoils a byte of the core's state, as a brown-out might
  *
@@ -20,12 +21,17 @@
 #include <time.h>
 #include <unistd.h>
 
-enum { PORTS = 2, PIECE = 256 };
+enum { PORTS = FIXLOMAND_PORTS, PIECE = 256 };
 
 static void die(const char *what)
 {
     fprintf(stderr, "board: %s: %s\n", what, strerror(errno));
     exit(1);
+}
+
+void board_tell_restart(void)
+{
+    fprintf(stderr, "board: the core's state was damaged: fresh start, both links reset\n");
 }
 
 void board_fault(uint8_t answer)
@@ -43,9 +49,10 @@ uint32_t board_clock(void)
 
 /* ---- the links ---- */
 
-/* The stick's end of a pseudo-terminal, with what is read ahead and what is still to be written. */
+/* Both ends of a pseudo-terminal, with what is read ahead and what is still to be written. The host's end stays open
+ * here, so that hosts may come and go. */
 static struct plug {
-    int file;
+    int file, host;
     uint8_t in[PIECE], out[PIECE];
     size_t in_at, in_length, out_length;
     uint32_t flushed;
@@ -54,19 +61,17 @@ static struct plug {
 static void plug_in(struct plug *plug)
 {
     struct termios raw;
-    int host;
     plug->file = posix_openpt(O_RDWR | O_NOCTTY);
     if (plug->file < 0 || grantpt(plug->file) != 0 || unlockpt(plug->file) != 0)
         die("no pseudo-terminal");
-    /* The host's end stays open here, so that hosts may come and go. */
-    host = open(ptsname(plug->file), O_RDWR | O_NOCTTY);
-    if (host < 0 || tcgetattr(host, &raw) != 0)
+    plug->host = open(ptsname(plug->file), O_RDWR | O_NOCTTY);
+    if (plug->host < 0 || tcgetattr(plug->host, &raw) != 0)
         die("no pseudo-terminal");
     raw.c_iflag = raw.c_oflag = raw.c_lflag = 0;
     raw.c_cflag = (raw.c_cflag & ~(tcflag_t)(CSIZE | PARENB)) | CS8;
     raw.c_cc[VMIN] = 1;
     raw.c_cc[VTIME] = 0;
-    if (tcsetattr(host, TCSANOW, &raw) != 0 || fcntl(plug->file, F_SETFL, O_NONBLOCK) != 0)
+    if (tcsetattr(plug->host, TCSANOW, &raw) != 0 || fcntl(plug->file, F_SETFL, O_NONBLOCK) != 0)
         die("the pseudo-terminal");
 }
 
@@ -117,46 +122,50 @@ void link_write(unsigned port, uint8_t byte)
     plugs[port].out[plugs[port].out_length++] = byte;
 }
 
+/* A reply that the host has not read waits at the host's end. A pseudo-terminal has no reset that its host could see:
+ * here the host sees no more than that no reply comes. */
 void link_reset(unsigned port)
 {
     struct plug *plug = &plugs[port];
-    tcflush(plug->file, TCIOFLUSH);
+    if (tcflush(plug->file, TCIOFLUSH) != 0 || tcflush(plug->host, TCIOFLUSH) != 0)
+        die("a link cannot be reset");
     plug->in_at = plug->in_length = plug->out_length = 0;
 }
 
 /* ---- the keys ---- */
 
-enum { BOUNCE = 8, CLOSED = 60, RELEASED = 120, PENDING = 32 };
+enum { PENDING = 256, BOUNCE = 3, CLOSED = 12, RELEASED = 24 };
 
-/* Codes still to be typed; the first is under way since a time. */
+/* Codes still to be typed; the first is under way since so many scans. Counted so, no key is lost on a computer that is
+ * busy with something else. */
 static uint8_t pending[PENDING];
-static unsigned pending_length;
-static uint32_t since;
+static unsigned pending_length, scans;
 
 /* Whether the first key's switch is closed just now: for a while after each change it is both. */
 static int is_closed(void)
 {
-    uint32_t time = board_clock() - since;
-    if (pending_length == 0 || time >= CLOSED + BOUNCE)
+    if (pending_length == 0 || scans >= CLOSED + BOUNCE)
         return 0;
-    return time < BOUNCE || time >= CLOSED ? time % 3 == 0 : 1;
+    return scans < BOUNCE || scans >= CLOSED ? scans % 2 == 0 : 1;
 }
 
 static void type(uint8_t code)
 {
-    if (pending_length == PENDING)
+    if (pending_length == PENDING) {
+        fprintf(stderr, "board: %d keys are still to be pressed: key %02X is not\n", PENDING, code);
         return;
+    }
     if (pending_length == 0)
-        since = board_clock();
+        scans = 0;
     pending[pending_length++] = code;
 }
 
 static void type_on(void)
 {
-    if (pending_length == 0 || board_clock() - since < RELEASED)
+    if (pending_length == 0 || ++scans < RELEASED)
         return;
     memmove(pending, pending + 1, --pending_length);
-    since = board_clock();
+    scans = 0;
 }
 
 static void read_lines(void);
@@ -164,11 +173,14 @@ static void read_lines(void);
 /* The keys are typed at standard input: so a scan looks there too. */
 uint8_t matrix_row(unsigned row)
 {
-    uint8_t key = pending[0] & 63;
     struct pollfd input = {STDIN_FILENO, POLLIN, 0};
-    if (row == 0 && poll(&input, 1, 0) > 0)
-        read_lines();
-    type_on();
+    uint8_t key;
+    if (row == 0) {
+        if (poll(&input, 1, 0) > 0)
+            read_lines();
+        type_on();
+    }
+    key = pending[0] % 64;
     return is_closed() && key / 8 == row ? (uint8_t)(1 << key % 8) : 0;
 }
 
@@ -183,38 +195,56 @@ uint8_t matrix_modifiers(void)
 static void show(void)
 {
     unsigned used = board.state[FIXLOMAND_USED] + 256u * board.state[FIXLOMAND_USED + 1];
-    for (unsigned row = 0; row < 24; row++) {
+    for (unsigned row = 0; row < FIXLOMAND_ROWS(0); row++) {
         printf("screen: ");
-        for (unsigned column = 0; column < 40; column++) {
-            uint8_t c = board.screen[40 * row + column] & 0x7F;
+        for (unsigned column = 0; column < FIXLOMAND_COLUMNS(0); column++) {
+            uint8_t c = board.screen[FIXLOMAND_COLUMNS(0) * row + column] & 0x7F;
             putchar(c >= 0x20 && c < 0x7F ? c : '.');
         }
         putchar('\n');
     }
     printf("paper: ");
-    for (unsigned i = 0; i < used; i++)
-        putchar(board.paper[i] == 0x9B ? '/' : board.paper[i] >= 0x20 && board.paper[i] < 0x7F ? board.paper[i] : '.');
+    for (unsigned i = 0; i < used; i++) {
+        uint8_t c = board.paper[i];
+        putchar(c == FIXLOMAND_EOL ? '/' : c >= 0x20 && c < 0x7F ? c : '.');
+    }
     printf("\nshown\n");
     fflush(stdout);
 }
 
+enum { LINE = 1024 };
+
+/* Presses the keys of a line of codes; 0 if it is none. */
+static int type_codes(const char *line)
+{
+    uint8_t codes[LINE / 2];
+    unsigned length = 0;
+    while (*line != 0) {
+        char *end;
+        unsigned long code = strtoul(line, &end, 16);
+        if (end == line || (*end != 0 && *end != ' ') || code > 255)
+            return 0;
+        codes[length++] = (uint8_t)code;
+        line = end + strspn(end, " ");
+    }
+    for (unsigned i = 0; i < length; i++)
+        type(codes[i]);
+    return length > 0;
+}
+
 static void obey(const char *line)
 {
-    char *end;
-    unsigned long code = strtoul(line, &end, 16);
     if (strcmp(line, "show") == 0)
         show();
     else if (strcmp(line, "damage") == 0)
         board.state[FIXLOMAND_MODE] = 1;
-    else if (*line != 0 && *end == 0 && code < 256)
-        type((uint8_t)code);
-    else
-        fprintf(stderr, "board: show, damage or a key code, not '%s'\n", line);
+    else if (!type_codes(line))
+        fprintf(stderr, "board: show, damage or codes of keys, not '%s'\n", line);
 }
 
 static void read_lines(void)
 {
-    static char line[80];
+    static char line[LINE];
     static size_t length;
     char some[80];
     ssize_t got = read(STDIN_FILENO, some, sizeof some);
@@ -239,7 +269,7 @@ static void tell_names(void)
     told = 1;
     printf("laptop: %s\n", ptsname(plugs[0].file));
     printf("phone: %s\n", ptsname(plugs[1].file));
-    fprintf(stderr, "board: type a key code in hexadecimal (3F is A), show or damage; it ends with its input\n");
+    fprintf(stderr, "board: type codes of keys in hexadecimal (3F is A), show or damage; it ends with its input\n");
     fflush(stdout);
 }
 

@@ -14,6 +14,8 @@
  * firmware/build, or rt staticlib firmware, writes target/staticlib/libfirmware.a, for x86-64: link it after your own
  * objects, as in
  *     gcc -Ifirmware/include mine.c target/staticlib/libfirmware.a
+ * or let firmware/install PREFIX put it (as libfixlomand.a), this header and a file for pkg-config where compilers look:
+ *     gcc mine.c $(pkg-config --cflags --libs fixlomand)
  * It needs memmove and memset, and nothing else; it has no data and no bss. Calls follow the System V ABI: the code uses
  * xmm registers, and the 128 bytes below the stack pointer (red zone), so that an interrupt on the same stack must save
  * the one and step over the other.
@@ -30,6 +32,11 @@
 extern "C" {
 #endif
 
+/* The version of this header, and of the library that it was installed with; as a number it is 10,000 times the first
+ * part, plus 100 times the second, plus the third. */
+#define FIXLOMAND_VERSION "1.0.0"
+#define FIXLOMAND_VERSION_NUMBER 10000
+
 /* ---- What you lend -------------------------------------------------------------------------------------------------
  *
  * Four buffers, the same ones in every call, with exactly these lengths. None needs an alignment. They stay yours: the
@@ -37,7 +44,8 @@ extern "C" {
  *
  *   state    what the core remembers between two calls. Its layout is at the end of this header; most firmware never
  *            looks into it.
- *   area     the memory that the hosts load and fetch: bytes 0 to 16,383 are port 0's, the rest port 1's.
+ *   area     the memory that the hosts load and fetch: the first FIXLOMAND_PORT_AREA_LEN bytes are port 0's, the rest
+ *            port 1's.
  *   screen   a byte for each cell, row by row from the upper left. Mode 0 is text of 40 columns by 24 rows, its cells
  *            are characters (ATASCII); modes 3 to 8 are graphics, their cells are colours: 0 to 3 in modes 3, 5 and
  *            7, 0 and 1 in modes 4, 6 and 8. FIXLOMAND_MODE in the state says which it is; cells past the mode's are
@@ -49,6 +57,24 @@ extern "C" {
 #define FIXLOMAND_AREA_LEN 32768
 #define FIXLOMAND_SCREEN_LEN 61440
 #define FIXLOMAND_PAPER_LEN 4096
+
+enum { FIXLOMAND_PORTS = 2, FIXLOMAND_PORT_AREA_LEN = 16384 };
+
+/* The columns, rows and colours of a mode; 0 of a number that is no mode. */
+#define FIXLOMAND_COLUMNS(mode)                                                                                        \
+    ((mode) == 0 || (mode) == 3 ? 40 :                                                                                 \
+     (mode) == 4 || (mode) == 5 ? 80 :                                                                                 \
+     (mode) == 6 || (mode) == 7 ? 160 :                                                                                \
+     (mode) == 8 ? 320 : 0)
+#define FIXLOMAND_ROWS(mode)                                                                                           \
+    ((mode) == 0 || (mode) == 3 ? 24 :                                                                                 \
+     (mode) == 4 || (mode) == 5 ? 48 :                                                                                 \
+     (mode) == 6 || (mode) == 7 ? 96 :                                                                                 \
+     (mode) == 8 ? 192 : 0)
+#define FIXLOMAND_COLOURS(mode)                                                                                        \
+    ((mode) == 0 ? 256 :                                                                                               \
+     (mode) == 3 || (mode) == 5 || (mode) == 7 ? 4 :                                                                   \
+     (mode) == 4 || (mode) == 6 || (mode) == 8 ? 2 : 0)
 
 /* ---- What a call answers -------------------------------------------------------------------------------------------
  *
@@ -78,6 +104,9 @@ enum {
  *     tick the port                            0, 7 and 8 are all in order
  *     if the link has room for a byte, give    0: send the byte; 5: there is none
  *     if a key was pressed, press              0: it is stored; 6: keep it and offer it again later
+ *
+ * The core keeps one key. A firmware that shall lose none keeps the next until the last has been read: until
+ * state[FIXLOMAND_KEY] is FIXLOMAND_NO_KEY.
  *
  * A tick starts a request or moves one character, so that a port waits only while the other's request is at work at the
  * device group it needs (8). A device that comes free goes to the port that is ticked first: tick the ports in turn, and
@@ -130,13 +159,89 @@ uint16_t fixlomand_give(FIXLOMAND_LENT, uint8_t port);
  *   32 ,  33 space  34 .  35 N  37 M  38 /  39 inverse  40 R  42 E  43 Y  44 TAB  45 T  46 W  47 Q
  *   48 9  50 0  51 7  52 BACKSPACE  53 8  54 <  55 >  56 F  57 H  58 D  60 CAPS  61 G  62 S  63 A */
 uint8_t fixlomand_press(FIXLOMAND_LENT, uint8_t code);
+enum { FIXLOMAND_WITH_SHIFT = 64, FIXLOMAND_WITH_CONTROL = 128 };
 
-/* What a key means, for a firmware that wants to know itself; it is lent nothing and changes nothing. lock is 0 none, 1
- * shift, 2 control; inverse is 0 or 1. Gives the character, 0 to 255; or
- *   256  no character (also every code above $BF)    257  the key that flips inverse
- *   258  unlock     259  shift lock    260  control lock     261  end of file
- *   262  lock or inverse is none of those above, whatever the code */
+/* What a key means, for a firmware that wants to know itself; it is lent nothing and changes nothing. lock is one of the
+ * locks below; inverse is 0 or 1. Gives the character, 0 to 255, or one of the meanings below. */
 uint16_t fixlomand_translate(uint8_t code, uint8_t lock, uint8_t inverse);
+enum { FIXLOMAND_LOCK_NONE = 0, FIXLOMAND_LOCK_SHIFT = 1, FIXLOMAND_LOCK_CONTROL = 2 };
+enum {
+    FIXLOMAND_MEANS_NOTHING = 256,      /* no character (also every code above $BF) */
+    FIXLOMAND_MEANS_INVERSE = 257,      /* the key that flips inverse */
+    FIXLOMAND_MEANS_UNLOCK = 258,       /* the key that ends a lock */
+    FIXLOMAND_MEANS_SHIFT_LOCK = 259,   /* the key of shift lock */
+    FIXLOMAND_MEANS_CONTROL_LOCK = 260, /* the key of control lock */
+    FIXLOMAND_MEANS_END_OF_FILE = 261,  /* the key of end of file */
+    FIXLOMAND_MEANS_BAD_LOCK = 262      /* lock or inverse is none of those above, whatever the code */
+};
+
+/* ---- What the hosts send and get -----------------------------------------------------------------------------------
+ *
+ * For a host in C, or a firmware that looks at the bytes it moves; the calls above need none of it. docs/HOSTS.md has
+ * all of it in sentences.
+ *
+ * A message is a tag, a length (2) and that many bytes; so is its reply.
+ */
+enum {
+    FIXLOMAND_TAG_CALL = 0x10,        /* 9 bytes: control block, command, address (2), length (2), AUX1, AUX2, A */
+    FIXLOMAND_TAG_LOAD = 0x11,        /* 3 to 258: address (2), 1 to 256 bytes */
+    FIXLOMAND_TAG_FETCH = 0x12,       /* 4: address (2), count (2), which is 1 to 256 */
+    FIXLOMAND_TAG_CALL_REPLY = 0x90,  /* 4: status, count (2), A */
+    FIXLOMAND_TAG_LOAD_REPLY = 0x91,  /* 1: status */
+    FIXLOMAND_TAG_FETCH_REPLY = 0x92, /* 1, or 1 + count: status, then the bytes if it is $01 */
+    FIXLOMAND_TAG_REFUSED = 0xFF      /* 1: status; the message has an unknown tag, or a wrong length */
+};
+enum {
+    FIXLOMAND_HEADER_LEN = 3, /* tag and length */
+    FIXLOMAND_CALL_LEN = 9,
+    FIXLOMAND_CALL_REPLY_LEN = 4,
+    FIXLOMAND_FETCH_LEN = 4,
+    FIXLOMAND_PIECE_LEN = 256, /* the most bytes that a LOAD brings or a FETCH gets */
+    FIXLOMAND_BLOCK_COUNT = 8  /* a port's control blocks are 0 to 7 */
+};
+
+/* Commands of CALL. Those that are neither named nor above GET STATUS, 0 to 2, 4, 6, 8 and $0A, are none. */
+enum {
+    FIXLOMAND_COMMAND_OPEN = 0x03,
+    FIXLOMAND_COMMAND_GET_RECORD = 0x05,
+    FIXLOMAND_COMMAND_GET_CHARACTERS = 0x07,
+    FIXLOMAND_COMMAND_PUT_RECORD = 0x09,
+    FIXLOMAND_COMMAND_PUT_CHARACTERS = 0x0B,
+    FIXLOMAND_COMMAND_CLOSE = 0x0C,
+    FIXLOMAND_COMMAND_GET_STATUS = 0x0D,
+    FIXLOMAND_COMMAND_SPECIAL = 0x0E /* and every one above; no device has one */
+};
+
+/* The end of a record. */
+enum { FIXLOMAND_EOL = 0x9B };
+
+/* AUX1 is a sum. */
+enum {
+    FIXLOMAND_AUX1_FORCED = 0x01, /* E: forced read, needed with READ */
+    FIXLOMAND_AUX1_READ = 0x04,   /* R */
+    FIXLOMAND_AUX1_WRITE = 0x08,  /* W */
+    FIXLOMAND_AUX1_SPLIT = 0x10,  /* S: split screen, refused with FIXLOMAND_STATUS_SCREEN_MODE */
+    FIXLOMAND_AUX1_KEEP = 0x20    /* S: the cells are kept, each modulo the colours; else they are cleared */
+};
+
+/* From $80 on a status is a refusal. */
+enum {
+    FIXLOMAND_STATUS_SUCCESS = 0x01,
+    FIXLOMAND_STATUS_ALREADY_OPEN = 0x81,         /* OPEN on an open block */
+    FIXLOMAND_STATUS_UNKNOWN_DEVICE = 0x82,       /* or malformed specification */
+    FIXLOMAND_STATUS_NOT_READABLE = 0x83,         /* reading without R */
+    FIXLOMAND_STATUS_BAD_COMMAND = 0x84,          /* SPECIAL, AUX1 not offered, FETCH count, field length too */
+    FIXLOMAND_STATUS_NOT_OPEN = 0x85,             /* transfer on a closed block */
+    FIXLOMAND_STATUS_BAD_IOCB = 0x86,             /* control block above 7 */
+    FIXLOMAND_STATUS_NOT_WRITABLE = 0x87,         /* writing without W */
+    FIXLOMAND_STATUS_END_OF_FILE = 0x88,          /* from K: no key pressed, or one that is no character */
+    FIXLOMAND_STATUS_RECORD_CUT = 0x89,           /* the buffer was full before the EOL */
+    FIXLOMAND_STATUS_CURSOR_PAST_LAST_ROW = 0x8D, /* of S */
+    FIXLOMAND_STATUS_PAPER_FULL = 0x90,
+    FIXLOMAND_STATUS_SCREEN_MODE = 0x91,          /* no mode of S, split screen, or the editor has the screen */
+    FIXLOMAND_STATUS_UNKNOWN_TAG = 0x92,
+    FIXLOMAND_STATUS_PAST_AREA = 0xB0             /* buffer or specification past the area */
+};
 
 /* ---- The state, byte by byte ---------------------------------------------------------------------------------------
  *

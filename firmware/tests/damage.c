@@ -5,10 +5,7 @@
 
 #include <stddef.h>
 
-const uint16_t mode_columns[9] = {40, 0, 0, 40, 80, 80, 160, 160, 320};
-const uint8_t mode_rows[9] = {24, 0, 0, 24, 48, 48, 96, 96, 192};
-
-enum { R = 4, W = 8, FORCED = 1, SPLIT = 16, PORT_AREA = 16384 };
+enum { R = FIXLOMAND_AUX1_READ, W = FIXLOMAND_AUX1_WRITE };
 
 static unsigned long number(const uint8_t *bytes, unsigned length)
 {
@@ -36,9 +33,9 @@ static const char *block_damage(const uint8_t *block)
         return number_of != 0 || aux1 != 0 ? "a closed block with numbers" : NULL;
     if (number_of < 1 || number_of > 8)
         return "a block's number";
-    if (device == FIXLOMAND_E && (aux1 & R) != 0 && (aux1 & FORCED) == 0)
+    if (device == FIXLOMAND_E && (aux1 & R) != 0 && (aux1 & FIXLOMAND_AUX1_FORCED) == 0)
         return "E with R and without forced read";
-    if (device == FIXLOMAND_S && (aux1 & SPLIT) != 0)
+    if (device == FIXLOMAND_S && (aux1 & FIXLOMAND_AUX1_SPLIT) != 0)
         return "S with a split screen";
     if (device == FIXLOMAND_K && (aux1 & W) != 0)
         return "K with W";
@@ -70,7 +67,7 @@ static const char *running_damage(const uint8_t *port, uint8_t mode)
         return "a request's kind";
     if (device < FIXLOMAND_E || device > FIXLOMAND_P)
         return "a request's device";
-    if (block > 7)
+    if (block >= FIXLOMAND_BLOCK_COUNT)
         return "a request's block";
     if (its[0] != device)
         return "a request on another device than its block";
@@ -80,7 +77,7 @@ static const char *running_damage(const uint8_t *port, uint8_t mode)
         return "a request in another mode";
     if (kind % 3 == 0)
         return left != 0 || count != 0 ? "one character with left or count" : NULL;
-    if (place + left > PORT_AREA)
+    if (place + left > FIXLOMAND_PORT_AREA_LEN)
         return "a buffer past the area";
     if (count > place)
         return "a count past the place";
@@ -91,7 +88,7 @@ static const char *running_damage(const uint8_t *port, uint8_t mode)
 
 static const char *port_damage(const uint8_t *port, uint8_t mode)
 {
-    for (unsigned i = 0; i < 8; i++) {
+    for (unsigned i = 0; i < FIXLOMAND_BLOCK_COUNT; i++) {
         const char *why = block_damage(port + FIXLOMAND_BLOCKS + FIXLOMAND_BLOCK_LEN * i);
         if (why != NULL)
             return why;
@@ -118,15 +115,15 @@ static const char *console_damage(const uint8_t *state)
 {
     unsigned mode = state[FIXLOMAND_MODE], row = state[FIXLOMAND_ROW], reading = state[FIXLOMAND_READ_COLUMN];
     unsigned long column = number(state + FIXLOMAND_COLUMN, 2);
-    if (mode > 8 || mode_columns[mode] == 0)
+    if (FIXLOMAND_COLUMNS(mode) == 0)
         return "a mode";
-    if (mode == 0 ? row > 23 : row > mode_rows[mode])
+    if (mode == 0 ? row > 23 : row > FIXLOMAND_ROWS(mode))
         return "a row";
-    if (mode == 0 ? column < 2 || column > 39 : column >= mode_columns[mode])
+    if (mode == 0 ? column < 2 || column > 39 : column >= FIXLOMAND_COLUMNS(mode))
         return "a column";
     if (reading != FIXLOMAND_NO_COLUMN && (reading < 2 || reading > 40))
         return "a read column";
-    if (state[FIXLOMAND_ESCAPE] > 1 || state[FIXLOMAND_LOCK] > 2 || state[FIXLOMAND_INVERSE] > 1)
+    if (state[FIXLOMAND_ESCAPE] > 1 || state[FIXLOMAND_LOCK] > FIXLOMAND_LOCK_CONTROL || state[FIXLOMAND_INVERSE] > 1)
         return "escape, lock or inverse";
     return NULL;
 }
@@ -149,7 +146,7 @@ int holds_console(const uint8_t *state, unsigned port)
 const char *damage(const uint8_t *state)
 {
     const char *why = console_damage(state);
-    for (unsigned port = 0; port < 2 && why == NULL; port++)
+    for (unsigned port = 0; port < FIXLOMAND_PORTS && why == NULL; port++)
         why = port_damage(state + port * FIXLOMAND_PORT_LEN, state[FIXLOMAND_MODE]);
     if (why == NULL && number(state + FIXLOMAND_USED, 2) > FIXLOMAND_PAPER_LEN)
         why = "the paper's used length";

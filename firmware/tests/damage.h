@@ -10,8 +10,4 @@ const char *damage(const uint8_t *state);
 /* Whether a port's running request is at the console (E, S, K). */
 int holds_console(const uint8_t *state, unsigned port);
 
-/* The columns and rows of the modes; 0 for a number that is no mode. */
-extern const uint16_t mode_columns[9];
-extern const uint8_t mode_rows[9];
-
 #endif

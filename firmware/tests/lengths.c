@@ -38,7 +38,7 @@ static unsigned call(unsigned which, const struct buffer b[BUFFERS], uint8_t por
     case 0:
         return fixlomand_fresh(LENT);
     case 1:
-        return fixlomand_take(LENT, port, 0x11);
+        return fixlomand_take(LENT, port, FIXLOMAND_TAG_LOAD);
     case 2:
         return fixlomand_tick(LENT, port);
     case 3:

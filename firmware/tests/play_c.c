@@ -80,10 +80,10 @@ static void dump(void)
     say(state + FIXLOMAND_KEY, 1);
     say(state + FIXLOMAND_LOCK, 1);
     say(state + FIXLOMAND_INVERSE, 1);
-    for (unsigned port = 0; port < 2; port++)
-        for (unsigned block = 0; block < 8; block++)
+    for (unsigned port = 0; port < FIXLOMAND_PORTS; port++)
+        for (unsigned block = 0; block < FIXLOMAND_BLOCK_COUNT; block++)
             say_block(state + port * FIXLOMAND_PORT_LEN + FIXLOMAND_BLOCKS + block * FIXLOMAND_BLOCK_LEN);
-    for (unsigned port = 0; port < 2; port++)
+    for (unsigned port = 0; port < FIXLOMAND_PORTS; port++)
         say_byte(state[port * FIXLOMAND_PORT_LEN + FIXLOMAND_PHASE]);
 }
 
@@ -131,8 +131,8 @@ static int play(int op)
         break;
     case 'G':
         given = fixlomand_give(LENT, a[0]);
-        say_byte((uint8_t)given);
-        say_byte((uint8_t)(given >> 8));
+        say_byte(FIXLOMAND_ANSWER(given));
+        say_byte(FIXLOMAND_BYTE(given));
         break;
     case 'P':
         say_byte(fixlomand_press(LENT, a[0]));

@@ -15,7 +15,8 @@
 #include <stdlib.h>
 #include <string.h>
 
-enum { FRESH, TAKE, TICK, GIVE, PRESS, CALLS, ANSWERS = 9, HALF = 16384 };
+enum { FRESH, TAKE, TICK, GIVE, PRESS, CALLS, ANSWERS = 9, HALF = FIXLOMAND_PORT_AREA_LEN };
+enum { R = FIXLOMAND_AUX1_READ, W = FIXLOMAND_AUX1_WRITE, FORCED = FIXLOMAND_AUX1_FORCED };
 
 static const char *const names[CALLS] = {"fresh", "take", "tick", "give", "press"};
 static uint8_t *state, *area, *screen, *paper;
@@ -77,14 +78,14 @@ static void put_random(uint8_t *bytes, size_t length)
 static uint8_t random_aux1(uint8_t device)
 {
     unsigned aux1 = below(256);
-    if (device == FIXLOMAND_E && (aux1 & 4) != 0)
-        aux1 |= 1;
+    if (device == FIXLOMAND_E && (aux1 & R) != 0)
+        aux1 |= FORCED;
     if (device == FIXLOMAND_S)
-        aux1 &= ~16u;
+        aux1 &= ~(unsigned)FIXLOMAND_AUX1_SPLIT;
     if (device == FIXLOMAND_K)
-        aux1 &= ~8u;
+        aux1 &= ~(unsigned)W;
     if (device == FIXLOMAND_P)
-        aux1 &= ~4u;
+        aux1 &= ~(unsigned)R;
     return (uint8_t)aux1;
 }
 
@@ -99,27 +100,31 @@ static void random_block(uint8_t *block, uint8_t device)
  * LOAD or a FETCH; now and then rubbish. */
 static void random_ready(uint8_t *port, uint8_t *room)
 {
-    static const uint8_t commands[] = {3, 3, 5, 7, 9, 11, 12, 13, 14, 0};
-    port[1] = (uint8_t)(0x10 + below(3));
+    static const uint8_t commands[] = {
+        FIXLOMAND_COMMAND_OPEN,           FIXLOMAND_COMMAND_OPEN,       FIXLOMAND_COMMAND_GET_RECORD,
+        FIXLOMAND_COMMAND_GET_CHARACTERS, FIXLOMAND_COMMAND_PUT_RECORD, FIXLOMAND_COMMAND_PUT_CHARACTERS,
+        FIXLOMAND_COMMAND_CLOSE,          FIXLOMAND_COMMAND_GET_STATUS, FIXLOMAND_COMMAND_SPECIAL,
+        0};
+    port[1] = (uint8_t)(FIXLOMAND_TAG_CALL + below(3));
     if (one_in(16))
         port[1] = (uint8_t)below(256);
     put_random(room, FIXLOMAND_ROOM_LEN);
     switch (port[1]) {
-    case 0x10:
-        put(port + 2, 9);
-        room[0] = (uint8_t)below(one_in(16) ? 256 : 8);
+    case FIXLOMAND_TAG_CALL:
+        put(port + 2, FIXLOMAND_CALL_LEN);
+        room[0] = (uint8_t)below(one_in(16) ? 256 : FIXLOMAND_BLOCK_COUNT);
         room[1] = commands[below(sizeof commands)];
         put(room + 2, one_in(16) ? between(0, 65535) : 8 * below(8));
         put(room + 4, one_in(16) ? between(0, 65535) : between(0, 300));
         room[6] = (uint8_t)below(64);
         room[7] = (uint8_t)below(10);
         break;
-    case 0x11:
-        put(port + 2, between(3, 258));
+    case FIXLOMAND_TAG_LOAD:
+        put(port + 2, between(3, 2 + FIXLOMAND_PIECE_LEN));
         put(room, one_in(2) ? between(HALF - 300, HALF) : between(64, 65535));
         break;
-    case 0x12:
-        put(port + 2, 4);
+    case FIXLOMAND_TAG_FETCH:
+        put(port + 2, FIXLOMAND_FETCH_LEN);
         put(room, one_in(2) ? between(HALF - 300, HALF) : between(0, 65535));
         put(room + 2, between(0, 300));
         break;
@@ -141,12 +146,12 @@ static void random_running(uint8_t *port, uint8_t mode)
         device = mode == 0 ? FIXLOMAND_E : FIXLOMAND_S;
     port[1] = kind;
     port[2] = device;
-    port[3] = (uint8_t)below(8);
+    port[3] = (uint8_t)below(FIXLOMAND_BLOCK_COUNT);
     block = port + FIXLOMAND_BLOCKS + FIXLOMAND_BLOCK_LEN * port[3];
     random_block(block, device);
-    block[2] |= kind < 3 ? 4 : 8;
-    if (device == FIXLOMAND_E && (block[2] & 4) != 0)
-        block[2] |= 1;
+    block[2] |= kind < 3 ? R : W;
+    if (device == FIXLOMAND_E && (block[2] & R) != 0)
+        block[2] |= FORCED;
     if (kind % 3 == 0) {
         put(port + 6, below(65536));
     } else {
@@ -163,7 +168,7 @@ static void random_port(uint8_t *port, uint8_t *room, uint8_t mode)
 {
     unsigned length, taken;
     memset(port, 0, FIXLOMAND_PORT_LEN);
-    for (unsigned i = 0; i < 8; i++)
+    for (unsigned i = 0; i < FIXLOMAND_BLOCK_COUNT; i++)
         random_block(port + FIXLOMAND_BLOCKS + FIXLOMAND_BLOCK_LEN * i, (uint8_t)below(5));
     port[FIXLOMAND_PHASE] = (uint8_t)below(4);
     switch (port[FIXLOMAND_PHASE]) {
@@ -199,8 +204,8 @@ static void random_console(uint8_t *s)
     static const uint8_t modes[] = {0, 0, 0, 3, 4, 5, 6, 7, 8};
     uint8_t mode = modes[below(sizeof modes)];
     s[FIXLOMAND_MODE] = mode;
-    s[FIXLOMAND_ROW] = (uint8_t)between(0, mode == 0 ? 23 : mode_rows[mode]);
-    put(s + FIXLOMAND_COLUMN, mode == 0 ? between(2, 39) : between(0, mode_columns[mode] - 1u));
+    s[FIXLOMAND_ROW] = (uint8_t)between(0, mode == 0 ? 23 : FIXLOMAND_ROWS(mode));
+    put(s + FIXLOMAND_COLUMN, mode == 0 ? between(2, 39) : between(0, FIXLOMAND_COLUMNS(mode) - 1));
     s[FIXLOMAND_LAST] = (uint8_t)below(256);
     s[FIXLOMAND_ESCAPE] = (uint8_t)below(2);
     s[FIXLOMAND_READ_COLUMN] = one_in(2) ? FIXLOMAND_NO_COLUMN : (uint8_t)between(2, 40);

@@ -1,9 +1,11 @@
 """The host side of the stick, and the command for people over it.
 
-For hosts:
+What a host needs is here: a ``Stick`` over any byte stream, its files, the
+bits of AUX1 and an exception for each status. It comes from:
 
 - ``wire``: messages made, replies read; the constants of both.
 - ``errors``: an exception for each status from $80.
+- ``line``: a byte stream with time limits.
 - ``cio``: a ``Stick`` over any byte stream, and its files.
 
 For talking to ``play``:
@@ -11,17 +13,95 @@ For talking to ``play``:
 - ``script``: the call script, as bytes and as readable text.
 - ``play``: a running ``play``, its two ports as byte streams.
 - ``toolchain``: where ``play`` comes from: proved, built, started.
+- ``unproved``: ``play`` compiled without its proof.
+- ``crates``, ``progress``, ``stamp``: what is proved, how far, and when.
 - ``ports``: a port between a host's bytes and the calls.
 - ``hosts``: two host programs at one stick, in a fixed order.
 
 For people:
 
 - ``command``: the words of ``./stick``, and one line for what goes wrong.
-- ``demo``, ``live`` (drawn by ``view``), ``picture``: what the words do.
+- ``demo``, ``live`` (drawn by ``view``, noted by ``log``), ``picture``: what
+  the words do; ``helps``: what ``live`` and ``play`` say of themselves.
 - ``screen``, ``letters``, ``keys``: cells, letters and key codes.
 """
 
-from .cio import File, Stick
-from .errors import StatusError, StickError
+from .cio import ByteStream, File, Stick
+from .errors import (
+    AlreadyOpen,
+    BadCommand,
+    BadIocb,
+    BadReply,
+    CursorPastLastRow,
+    EndOfFile,
+    NotOpen,
+    NotReadable,
+    NotWritable,
+    PaperFull,
+    PastArea,
+    RecordCut,
+    ScreenMode,
+    StatusError,
+    StickError,
+    StreamEnded,
+    TimedOut,
+    UnknownDevice,
+    UnknownTag,
+)
+from .wire import (
+    AREA,
+    EOL,
+    FORCED,
+    KEEP,
+    PIECE,
+    READ,
+    WRITE,
+    CallReply,
+    Command,
+    FetchReply,
+    LoadReply,
+    Refusal,
+    Reply,
+    Tag,
+)
 
-__all__ = ["File", "StatusError", "Stick", "StickError"]
+__version__ = "1.0.0"
+
+__all__ = [
+    "AREA",
+    "EOL",
+    "FORCED",
+    "KEEP",
+    "PIECE",
+    "READ",
+    "WRITE",
+    "AlreadyOpen",
+    "BadCommand",
+    "BadIocb",
+    "BadReply",
+    "ByteStream",
+    "CallReply",
+    "Command",
+    "CursorPastLastRow",
+    "EndOfFile",
+    "FetchReply",
+    "File",
+    "LoadReply",
+    "NotOpen",
+    "NotReadable",
+    "NotWritable",
+    "PaperFull",
+    "PastArea",
+    "RecordCut",
+    "Refusal",
+    "Reply",
+    "ScreenMode",
+    "StatusError",
+    "Stick",
+    "StickError",
+    "StreamEnded",
+    "Tag",
+    "TimedOut",
+    "UnknownDevice",
+    "UnknownTag",
+]

@@ -6,17 +6,18 @@
 
 A stream has ``read(n)`` and ``write(data)``: a serial port, a
 pseudo-terminal opened unbuffered, or a port of ``play``. ``read`` gives 1 to
-n bytes; none (an end, or a timeout) raises ``StreamEnded``.
+n bytes. Without a ``fileno`` to wait for, no bytes (an end, or a timeout of
+the stream's own) raise ``StreamEnded``.
 """
 
 from __future__ import annotations
 
-import time
+import os
 from types import TracebackType
-from typing import Protocol
 
 from . import wire
 from .errors import BadReply, StatusError, StickError, StreamEnded, check
+from .line import ByteStream, Limit, Line
 from .wire import AREA, EOL, FORCED, KEEP, PIECE, READ, WRITE, CallReply, Command, FetchReply, LoadReply, Refusal
 
 __all__ = ["EOL", "FORCED", "KEEP", "READ", "WRITE", "ByteStream", "File", "Stick"]
@@ -27,58 +28,119 @@ SPECIFICATION = 0
 BUFFER = 16
 """Where in the area the buffer of transfers begins; it fills the rest."""
 BUFFER_LENGTH = AREA - BUFFER
+PATIENCE = 30.0
+"""How long a reply is awaited, in seconds, unless another time is asked for."""
+QUIET = 0.02
+"""Seconds without a byte after which a line is quiet."""
+BUSY = 1.0
+"""Seconds without a byte after which an unfinished message is taken to be a
+long one, and no request that is still at work."""
 
 
-class ByteStream(Protocol):
-    """What a stick is reached through."""
-
-    def read(self, size: int, /) -> bytes | None:
-        """Up to ``size`` bytes; ``b""`` at the end, ``None`` for none yet."""
-
-    def write(self, data: bytes, /) -> int | None:
-        """Writes the bytes; a number is how many of them."""
+def _bytes(data: bytes) -> bytes:
+    if isinstance(data, str):
+        raise TypeError(f"bytes are wanted, not a str: b{data!r}")
+    return data
 
 
 class Stick:
-    """One port of a stick. It has the port for itself."""
+    """One port of a stick. It has the port for itself.
 
-    def __init__(self, stream: ByteStream) -> None:
-        self._stream = stream
+    ``patience`` is how many seconds each reply is awaited, and each finding
+    of the place; then ``TimedOut`` is raised. A stick finds its place when it
+    is made, unless it is ``in_step``; a stream without ``fileno`` is, if
+    nothing is said. ``close_all`` closes what earlier hosts left open.
+    """
+
+    def __init__(
+        self,
+        stream: ByteStream,
+        patience: float = PATIENCE,
+        *,
+        in_step: bool | None = None,
+        close_all: bool = False,
+    ) -> None:
+        self.patience = patience
+        self._line = Line(stream)
         self._reader = wire.ReplyReader()
         self._files: dict[int, File] = {}
+        # Blocks whose OPEN was sent and its reply not read: nobody knows.
+        self._doubtful: set[int] = set()
+        self._in_step = not self._line.can_look if in_step is None else in_step
+        # Whether the last finding of the place came to nothing.
+        self._lost = False
+        if not self._in_step:
+            self.find_place()
+        if close_all:
+            self.close_all()
 
     # messages
 
     def request(self, message: bytes) -> wire.Reply:
-        """Sends a message and reads its reply."""
-        rest = memoryview(message)
-        while rest:
-            written = self._stream.write(bytes(rest))
-            rest = rest[len(rest) if written is None else written :]
-        flush = getattr(self._stream, "flush", None)
-        if flush is not None:
-            flush()
+        """Sends a message and reads its reply. After a fault on the way the
+        place is found before the next one is sent."""
+        if not wire.whole(message):
+            raise ValueError("a message is one whole field")
+        if not self._in_step or self._line.waiting:
+            self.find_place()
+        limit = Limit(f"the reply to {wire.name(message)}", self.patience)
+        self._in_step = False
+        if self._line.write(message, limit):
+            raise BadReply("a reply came before the message was sent")
         replies: list[wire.Reply] = []
         while not replies:
-            data = self._stream.read(self._reader.needed)
-            if data is None:
-                time.sleep(0.001)
-            elif not data:
-                raise StreamEnded("the stream ended before the reply did")
-            else:
-                replies = self._reader.feed(data)
-        if len(replies) > 1:
-            raise BadReply("more than one reply to a message")
+            replies = self._reader.feed(self._line.read(self._reader.needed, limit))
+        if len(replies) > 1 or not wire.answers(message, replies[0]):
+            raise BadReply(f"{wire.name(message)} was answered by {replies[0]}")
+        self._in_step = True
         if isinstance(replies[0], Refusal):
             check(replies[0].status)
         return replies[0]
 
+    def find_place(self) -> None:
+        """Gets in step with the port, whatever was sent and read before.
+
+        What is waiting is read; zeros end an unfinished message, and unknown
+        tags lead to a boundary; there a marked reply shows that all before it
+        has been read. An unfinished message is done with zeros for its rest.
+        """
+        self._in_step, self._lost = False, True
+        self._reader = wire.ReplyReader()
+        limit = Limit("the reply to a marked CALL", self.patience)
+        while self._line.look(QUIET):
+            limit.left()
+        if not (self._line.can_look and self._end_by_zeros(limit) and self._settle(limit, BUSY)):
+            self._line.write(wire.LONG_END, limit)
+            self._settle(limit, self.patience)
+        self._in_step, self._lost = True, False
+
+    def _end_by_zeros(self, limit: Limit) -> bool:
+        """Sends zeros, piece by piece, until something is heard."""
+        for size in wire.ZEROS:
+            if self._line.write(bytes(size), limit) or self._line.look(QUIET):
+                return True
+        return bool(self._line.look(min(BUSY, limit.left())))
+
+    def _settle(self, limit: Limit, silence: float) -> bool:
+        """Goes to a boundary and reads up to the reply that is marked; false
+        if nothing is heard for so long."""
+        marks = [1 + byte % 255 for byte in os.urandom(2)]
+        expected = b"".join(map(wire.marked_reply, marks))
+        came = self._line.write(wire.BOUNDARY + b"".join(map(wire.marked, marks)), limit)
+        while not came.endswith(expected):
+            left = limit.left()
+            data = self._line.look(min(silence, left)) if self._line.can_look else self._line.read(1, limit)
+            if not data and silence < left:
+                return False
+            came = came[-len(expected) :] + data
+        return True
+
     def load(self, address: int, data: bytes) -> None:
         """Writes bytes into the port's area, in pieces."""
+        data = _bytes(data)
         for at in range(0, len(data), PIECE):
             reply = self.request(wire.load(address + at, data[at : at + PIECE]))
-            if not isinstance(reply, LoadReply):
-                raise BadReply(f"LOAD was answered by {reply}")
+            assert isinstance(reply, LoadReply)
             check(reply.status)
 
     def fetch(self, address: int, count: int) -> bytes:
@@ -86,11 +148,8 @@ class Stick:
         data = b""
         while len(data) < count:
             reply = self.request(wire.fetch(address + len(data), min(PIECE, count - len(data))))
-            if not isinstance(reply, FetchReply):
-                raise BadReply(f"FETCH was answered by {reply}")
+            assert isinstance(reply, FetchReply)
             check(reply.status)
-            if not reply.data:
-                raise BadReply("FETCH was granted without a byte")
             data += reply.data
         return data
 
@@ -99,8 +158,7 @@ class Stick:
     ) -> CallReply:
         """A CALL; a status from $80 raises its exception."""
         reply = self.request(wire.call(iocb, command, address, length, aux1, aux2, a))
-        if not isinstance(reply, CallReply):
-            raise BadReply(f"CALL was answered by {reply}")
+        assert isinstance(reply, CallReply)
         check(reply.status, reply.count, reply.a)
         return reply
 
@@ -115,8 +173,14 @@ class Stick:
         """
         iocb = self._free_block()
         self._load_specification(specification)
-        self.call(iocb, Command.OPEN, SPECIFICATION, 0, aux1, aux2)
+        self._doubtful.add(iocb)
+        try:
+            self.call(iocb, Command.OPEN, SPECIFICATION, 0, aux1, aux2)
+        except StatusError:
+            self._doubtful.discard(iocb)
+            raise
         self._files[iocb] = File(self, iocb)
+        self._doubtful.discard(iocb)
         return self._files[iocb]
 
     def status(self, specification: str | bytes, aux1: int = 0, aux2: int = 0) -> int:
@@ -131,12 +195,16 @@ class Stick:
         self._files.clear()
         for iocb in range(BLOCKS):
             self.call(iocb, Command.CLOSE)
+        self._doubtful.clear()
 
     def _free_block(self) -> int:
-        for iocb in range(BLOCKS):
-            if iocb not in self._files:
-                return iocb
-        raise StickError(f"all {BLOCKS} control blocks are open")
+        free = [iocb for iocb in range(BLOCKS) if iocb not in self._files]
+        if not free:
+            raise StickError(f"all {BLOCKS} control blocks are open")
+        if free[0] in self._doubtful:
+            self.call(free[0], Command.CLOSE)
+            self._doubtful.discard(free[0])
+        return free[0]
 
     def _load_specification(self, specification: str | bytes) -> None:
         data = specification.encode("ascii") if isinstance(specification, str) else specification
@@ -159,6 +227,7 @@ class File:
 
     def put_characters(self, data: bytes) -> int:
         """Writes all bytes; how many."""
+        data = _bytes(data)
         done = 0
         while done < len(data):
             done += self._put(Command.PUT_CHARACTERS, data[done : done + BUFFER_LENGTH], done)
@@ -167,6 +236,7 @@ class File:
     def put_record(self, data: bytes) -> int:
         """Writes a record: up to and with the first EOL, else with one added.
         How many bytes of the data; an added EOL is not counted."""
+        data = _bytes(data)
         end = data.find(EOL)
         record = data if end < 0 else data[: end + 1]
         if not record:
@@ -217,8 +287,13 @@ class File:
         self, kind: type[BaseException] | None, error: BaseException | None, trace: TracebackType | None
     ) -> None:
         # After a lost stream there is nobody to close it with.
-        if not isinstance(error, (StreamEnded, BadReply, OSError)):
+        if isinstance(error, (StreamEnded, OSError)) or (error is not None and self._stick._lost):
+            return
+        try:
             self.close()
+        except (StickError, OSError):
+            if error is None:
+                raise
 
     def _put(self, command: Command, data: bytes, before: int) -> int:
         self._stick.load(BUFFER, data)

@@ -8,8 +8,10 @@ import sys
 from collections.abc import Callable
 from pathlib import Path
 
-from . import cases, demo, picture, screen, script, toolchain
+from . import __version__, cases, demo, picture, screen, script, toolchain
 from .errors import StickError
+from .helps import HELPS
+from .log import Log
 from .play import Player
 from .toolchain import Missing
 
@@ -18,15 +20,19 @@ stick: the I/O half of an Atari 400/800 between a laptop and a phone
 
   stick [demo]         two hosts at work at once, then one that waits
   stick live           the stick in this terminal, with a pseudo-terminal for
-                       each host; --speed N ticks each port N times a second
+                       each host; --speed N ticks each port N times a second,
+                       --log FILE writes what each port does (stick live
+                       --help tells the keys)
   stick play SCRIPT    plays a call script in readable form and shows the
                        answers; - is standard input
   stick picture FILE   writes the screen as a PNG: of a drawing, or after the
                        call script of --script SCRIPT; - is standard output
   stick cases          plays the papers' cases and compares each
-  stick --help         this text
+  stick --unproved ..  the same words without the wait for a proof: the sources
+                       are compiled without it, and every screen says so
+  stick --help         this text; stick --version
 
-A call script has one op a line; # begins a comment:
+A call script has one op a line; # begins a comment (more: stick play --help):
   fresh | take PORT BYTES | tick PORT [x N] | give PORT [x N] | press CODE
   lend BUFFER N | dump | raw BYTES         (BYTES and CODE are hexadecimal)
 
@@ -34,6 +40,7 @@ What is needed is proved and built first; {toolchain.OVERRIDE} names another
 program in its place. The end status is 0; 1 if a run went wrong; 2 for a bad
 word or something missing.
 """
+UNPROVED = "--unproved"
 
 
 class Usage(StickError):
@@ -84,10 +91,21 @@ def _say_or_not(text: str, status: int) -> int:
     return status
 
 
+def console() -> None:
+    """The command ``stick`` of an installed package."""
+    sys.exit(main(sys.argv[1:]))
+
+
 def _run(words: list[str]) -> int:
+    if UNPROVED in words:
+        toolchain.want_unproved()
+        words = [word for word in words if word != UNPROVED]
     word, rest = (words[0], words[1:]) if words else ("demo", [])
     if word in ("-h", "--help", "help"):
         print(HELP, end="")
+        return 0
+    if word == "--version":
+        print(f"stick {__version__}")
         return 0
     commands: dict[str, Callable[[list[str]], int]] = {
         "demo": _demo,
@@ -98,6 +116,9 @@ def _run(words: list[str]) -> int:
     }
     if word not in commands:
         raise Usage(f"unknown word '{word}' (try ./stick --help)")
+    if "--help" in rest or "-h" in rest:
+        print(HELPS.get(word, HELP), end="")
+        return 0
     return commands[word](rest)
 
 
@@ -110,6 +131,7 @@ def _demo(words: list[str]) -> int:
 
 def _live(words: list[str]) -> int:
     words, speed = _option(words, "--speed")
+    words, log_name = _option(words, "--log")
     _operands("live", words, 0)
     if speed is not None and not (speed.isascii() and speed.isdigit() and 0 < int(speed) <= 1_000_000):
         raise Usage(f"--speed takes a number from 1 to 1000000, not '{speed}'")
@@ -121,15 +143,26 @@ def _live(words: list[str]) -> int:
         from . import live
     except ImportError as error:
         raise Missing(f"live needs Python's curses module: {error}") from error
+    log = None if log_name is None else _open_log(log_name)
     with Player(toolchain.play_command(say)) as player:
+        player.listener = log
         try:
-            live.run(player, int(speed) if speed else live.SPEED, lambda text: print(text, flush=True))
+            saved = live.run(player, int(speed) if speed else live.SPEED, lambda text: print(text, flush=True))
         except curses.error as error:
             raise Missing(f"live cannot use this terminal: {error}") from error
+        finally:
+            if log is not None:
+                log.close()
         state = player.state()
     for line in screen.paper_lines(state):
         print(line)
+    for file in saved:
+        say(f"saved {file}")
     say(f"the stick is unplugged; its paper has {state.used} bytes")
+    if log is not None:
+        if log.fault:
+            raise StickError(f"{log_name}: {log.fault}; the log ends before the run did")
+        say(f"the log is {log_name}; ./stick play plays it again")
     return 0
 
 
@@ -140,7 +173,7 @@ def _play(words: list[str]) -> int:
     done = subprocess.run(
         toolchain.play_command(say), input=script.to_bytes(ops), stdout=subprocess.PIPE, check=False
     )
-    for line in script.format_answers(ops, done.stdout):
+    for line in script.format_answers(ops, done.stdout, screen.shown):
         print(line)
     if len(done.stdout) < sum(op.output for op in ops):
         raise StickError("play ended before the script did")
@@ -192,15 +225,25 @@ def _option(words: list[str], name: str) -> tuple[list[str], str | None]:
 
 
 def _read_script(file: str) -> list[script.Op]:
+    name = "standard input" if file == "-" else file
     try:
         data = sys.stdin.buffer.read() if file == "-" else Path(file).read_bytes()
         return script.parse(data.decode("utf-8"))
     except OSError as error:
         raise Missing(f"{file}: {error.strerror}") from error
     except UnicodeDecodeError:
-        raise Usage(f"{file}: a call script is text") from None
+        raise Usage(f"{name}: a call script is text") from None
     except script.ScriptError as error:
-        raise Usage(f"{file}: {error}") from None
+        raise Usage(f"{name}: {error}") from None
+
+
+def _open_log(file: str) -> Log:
+    if file.startswith("-"):
+        raise Usage(f"--log takes a file, not '{file}'")
+    try:
+        return Log(open(file, "w", encoding="utf-8"))
+    except OSError as error:
+        raise Missing(f"{file}: {error.strerror}") from error
 
 
 def _check_directory(file: str) -> None:

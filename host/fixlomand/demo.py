@@ -6,7 +6,7 @@ import os
 import sys
 from itertools import zip_longest
 
-from . import keys, screen
+from . import keys, screen, toolchain
 from .cio import EOL, FORCED, READ, WRITE, File
 from .hosts import Host, Step, run
 from .play import Player
@@ -110,7 +110,9 @@ def said(text: str = "") -> None:
 
 
 def title(text: str) -> None:
-    """A heading, bold in a terminal."""
+    """A heading, bold in a terminal, and above it that a core is not proved."""
+    if toolchain.is_unproved():
+        said(toolchain.title())
     bold = sys.stdout.isatty() and os.environ.get("TERM", "dumb") != "dumb"
     print(f"\033[1m{text}\033[0m" if bold else text)
 

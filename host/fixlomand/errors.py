@@ -1,4 +1,5 @@
-"""An exception for each status from $80, named after what it says."""
+"""What may go wrong: an exception for each status from $80, named after what
+it says, and those of the line."""
 
 from __future__ import annotations
 
@@ -10,7 +11,17 @@ class StickError(Exception):
 
 
 class StreamEnded(StickError):
-    """The byte stream ended, or timed out, in the middle of a reply."""
+    """The byte stream ended, or its own time was over, before a reply did."""
+
+
+class TimedOut(StickError):
+    """Something did not come in time: ``awaited`` says what, ``seconds`` for
+    how long it was awaited."""
+
+    def __init__(self, awaited: str, seconds: float) -> None:
+        super().__init__(f"{awaited} did not come in {seconds:g} s")
+        self.awaited = awaited
+        self.seconds = seconds
 
 
 class BadReply(StickError):

@@ -43,7 +43,7 @@ class Host:
 
     def __init__(self, player: Player, number: int, clock: Clock, program: Callable[[Host], None]) -> None:
         self.port = Port(player, number)
-        self.stick = Stick(self)
+        self.stick = Stick(self, in_step=True)
         self.steps: list[Step] = []
         self.finished = False
         self._player = player

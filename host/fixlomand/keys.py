@@ -25,6 +25,24 @@ CONTROL_LOCK = TABLE.index(0x84)
 END_OF_FILE = TABLE.index(0x85)
 
 LOCKS = ("no lock", "shift lock", "control lock")
+ACTIONS = {
+    0x1B: "escape",
+    0x1C: "up",
+    0x1D: "down",
+    0x1E: "left",
+    0x1F: "right",
+    0x7D: "clear",
+    0x7E: "backspace",
+    0x7F: "tab",
+    0x80: "none",
+    0x81: "inverse",
+    0x82: "unlock",
+    0x83: "shift lock",
+    0x84: "control lock",
+    0x85: "end of file",
+    0x9B: "return",
+}
+"""Entries of the table that are better said than shown."""
 
 
 def code_of(character: int) -> int | None:

@@ -12,10 +12,12 @@ import time
 import tty
 from collections import deque
 from collections.abc import Callable
+from itertools import count
+from pathlib import Path
 from types import FrameType
 
-from . import keys, script
-from .play import Player
+from . import keys, picture, screen, script
+from .play import CONSOLE_HELD, Player
 from .ports import Port
 from .view import View
 
@@ -29,7 +31,9 @@ FRESH = 0.1
 SLICE = 64
 """The most ticks of one port before the other has its turn."""
 PIECE = 4096
-CONSOLE_HELD = 6
+NOTICE = 5.0
+"""How long something is said at the foot of the window, in seconds."""
+NO_KEY = 0xFF
 QUIT = (3, curses.KEY_F10)
 """Control-C, F10."""
 
@@ -47,7 +51,8 @@ PRESSED = {
     curses.KEY_F5: keys.END_OF_FILE,
     curses.KEY_F6: keys.CLEAR,
 }
-"""Keys of the terminal that are no characters; they are on the last line."""
+"""Keys of the terminal that are no characters; they are at the foot."""
+SAVE_PAPER, SAVE_PICTURE = curses.KEY_F7, curses.KEY_F8
 
 
 class Plug:
@@ -93,6 +98,14 @@ class Live:
         self._speed = speed
         self.plugs = [Plug(Port(player, number)) for number in (0, 1)]
         self._typed: deque[int] = deque()
+        """Keys that are not pressed yet, the oldest first."""
+        self._stored = False
+        """Whether a key was pressed, and not seen to be read since."""
+        self._looked = 0
+        """How many requests were done when that was looked at."""
+        self._notice, self._noticed = "", 0.0
+        self.saved: list[str] = []
+        """The files that were written."""
         self._stopped = False
 
     def run(self, window: curses.window) -> None:
@@ -108,10 +121,12 @@ class Live:
             if moved is not None:
                 last = now
                 changed |= moved
-            changed |= self._keys(window)
+            changed |= self._keys(window) | self._press()
+            if self._notice and now - self._noticed > NOTICE:
+                self._notice, changed = "", True
             # A dump may be slow; most of the time is for the hosts.
             if changed and now - drawn >= max(FRESH, 3 * cost):
-                view.draw(self._player.state(), ports)
+                view.draw(self._player.state(), ports, len(self._typed), self._notice)
                 drawn, changed = now, any(port.under_way for port in ports)
                 cost = time.monotonic() - now
             self._rest(changed)
@@ -139,19 +154,71 @@ class Live:
         return moved
 
     def _keys(self, window: curses.window) -> bool:
-        """Presses what was typed; a refused key is pressed again later."""
+        """Does what was typed, or keeps it to be pressed."""
         changed = False
         while (key := window.getch()) != curses.ERR:
             code = PRESSED.get(key, keys.code_of(key))
             if key in QUIT:
                 self.stop()
+            elif key == SAVE_PAPER:
+                self._save_paper()
+            elif key == SAVE_PICTURE:
+                self._save("picture", ".png", picture.png(self._player.state()))
             elif code is not None:
                 self._typed.append(code)
-            changed |= key == curses.KEY_RESIZE
-        while self._typed and self._player.do(script.Press(self._typed[0]))[0][0] != CONSOLE_HELD:
-            self._typed.popleft()
             changed = True
         return changed
+
+    def _press(self) -> bool:
+        """Presses the keys that wait, each when the one before it was read:
+        the stick keeps one. A refused key is pressed again later."""
+        changed = False
+        while self._typed and self._is_free():
+            if self._player.do(script.Press(self._typed[0]))[0][0] == CONSOLE_HELD:
+                break
+            self._typed.popleft()
+            self._stored, self._looked, changed = True, self._requests(), True
+        return changed
+
+    def _is_free(self) -> bool:
+        """Whether no key would be lost. Only a request reads a key: there is
+        nothing to look for until one is done."""
+        if self._stored and self._looked != self._requests():
+            self._looked = self._requests()
+            self._stored = self._player.state().key != NO_KEY
+        return not self._stored
+
+    def _requests(self) -> int:
+        return sum(plug.port.requests for plug in self.plugs)
+
+    def _save_paper(self) -> None:
+        lines = screen.paper_lines(self._player.state())
+        if lines:
+            self._save("paper", ".txt", "".join(f"{line}\n" for line in lines).encode())
+        else:
+            self._say("the paper is empty: nothing is saved")
+
+    def _save(self, name: str, suffix: str, data: bytes) -> None:
+        """Writes a new file in the folder where the command was started."""
+        begun = False
+        try:
+            for number in count(1):
+                path = Path.cwd() / f"{name}-{number}{suffix}"
+                if not path.exists():
+                    break
+            with path.open("xb") as file:
+                begun = True
+                file.write(data)
+        except OSError as error:
+            if begun:
+                path.unlink(missing_ok=True)
+            self._say(f"the {name} is not saved: {error.strerror}")
+        else:
+            self.saved.append(str(path))
+            self._say(f"{path.name} is saved in {path.parent}")
+
+    def _say(self, notice: str) -> None:
+        self._notice, self._noticed = notice, time.monotonic()
 
     def _rest(self, changed: bool) -> None:
         """Until a host or a key comes, but not long. A terminal that has
@@ -168,8 +235,9 @@ class Live:
                 self.stop()
 
 
-def run(player: Player, speed: int, say: Callable[[str], None]) -> None:
-    """Runs the stick in this terminal until somebody quits."""
+def run(player: Player, speed: int, say: Callable[[str], None]) -> list[str]:
+    """Runs the stick in this terminal until somebody quits; the files that
+    were saved meanwhile."""
     live = Live(player, speed)
 
     def stop(number: int, frame: FrameType | None) -> None:
@@ -186,6 +254,7 @@ def run(player: Player, speed: int, say: Callable[[str], None]) -> None:
         live.close()
         for number, handler in before.items():
             signal.signal(number, handler)
+    return live.saved
 
 
 def _in_window(window: curses.window, live: Live) -> None:

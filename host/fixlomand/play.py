@@ -2,14 +2,18 @@
 
 from __future__ import annotations
 
+import errno
 import subprocess
-from collections.abc import Sequence
+from collections.abc import Callable, Sequence
 from types import TracebackType
 
 from . import script
 from .errors import StickError
 
+CONSOLE_HELD = 6
 GROUP_HELD = 8
+
+Listener = Callable[[Sequence[script.Op], Sequence[bytes]], None]
 
 
 class Player:
@@ -18,11 +22,17 @@ class Player:
     def __init__(self, command: Sequence[str]) -> None:
         # In a session of its own: the keys and the end of a terminal are for
         # its user here, and play ends when its input does.
-        self._process = subprocess.Popen(
-            command, stdin=subprocess.PIPE, stdout=subprocess.PIPE, start_new_session=True
-        )
+        try:
+            self._process = subprocess.Popen(
+                command, stdin=subprocess.PIPE, stdout=subprocess.PIPE, start_new_session=True
+            )
+        except OSError as error:
+            hint = "; it is for x86-64: 'tools/run play' runs it on another processor" if error.errno == errno.ENOEXEC else ""
+            raise StickError(f"{command[0]} cannot be run: {error.strerror}{hint}") from error
         assert self._process.stdin is not None and self._process.stdout is not None
         self._input, self._output = self._process.stdin, self._process.stdout
+        self.listener: Listener | None = None
+        """Is told the ops that were played and what was written for each."""
 
     def do(self, *ops: script.Op) -> list[bytes]:
         """Plays ops; what was written for each."""
@@ -38,6 +48,8 @@ class Player:
             outputs += [self._output.read(op.output) for op in piece]
         if any(len(output) < op.output for op, output in zip(ops, outputs)):
             raise StickError("play has ended")
+        if self.listener is not None:
+            self.listener(ops, outputs)
         return outputs
 
     def state(self) -> script.State:

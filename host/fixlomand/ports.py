@@ -6,9 +6,10 @@ stick as they would on the board.
 
 from __future__ import annotations
 
-from . import script, wire
+from . import script
 from .errors import StickError
 from .play import GROUP_HELD, Player
+from .wire import name as name
 
 
 class Port:
@@ -98,13 +99,3 @@ def describe(port: Port, state: script.State) -> str:
 def group(device: str) -> str:
     """The group of a device."""
     return "printer" if device == "P" else "console"
-
-
-def name(message: bytes) -> str:
-    """What a whole message asks for."""
-    tag = message[0]
-    if tag == wire.Tag.CALL and len(message) == 12:
-        command = message[4]
-        known = [each.name.replace("_", " ") for each in wire.Command if each == command]
-        return known[0] if known else f"command ${command:02X}"
-    return wire.Tag(tag).name if tag in list(wire.Tag) else f"tag ${tag:02X}"

@@ -9,14 +9,14 @@ The readable form has one op a line; ``#`` begins a comment::
     give 0                   G
     give 0 x 4               G, four times
     press 3F                 P (hexadecimal)
-    lend area 100            L: area, screen, paper, state, or a number
+    lend area 100            L: area, screen, paper, state, or 0 to 3
     dump                     D
     raw 54 00                bytes as they are (no op, or one that is cut)
 """
 
 from __future__ import annotations
 
-from collections.abc import Iterator, Sequence
+from collections.abc import Callable, Iterator, Sequence
 from dataclasses import dataclass
 from itertools import groupby
 from typing import Union
@@ -207,54 +207,81 @@ def _op(letter: bytes, operands: bytes) -> Op:
 
 
 def parse(text: str) -> list[Op]:
-    """Reads the readable form; the error names the line."""
+    """Reads the readable form; the error names the line, the field in it and
+    what the field may be."""
     script = b""
     for number, line in enumerate(text.splitlines(), 1):
         words = line.split("#")[0].split()
         if words:
             try:
                 script += to_bytes(_line_ops(words))
-            except ValueError:
-                raise ScriptError(f"line {number}: not an op: {line.split('#')[0].strip()}") from None
+            except ScriptError as error:
+                raise ScriptError(f"line {number}: {error}") from None
     return from_bytes(script)
 
 
-def _number(word: str, end: int) -> int:
-    if not (word.isascii() and word.isdigit()) or int(word) >= end:
-        raise ValueError(word)
+FORMS = {
+    "fresh": "fresh",
+    "take": "take PORT BYTES",
+    "tick": "tick PORT [x N]",
+    "give": "give PORT [x N]",
+    "press": "press CODE",
+    "lend": "lend BUFFER LENGTH",
+    "dump": "dump",
+    "raw": "raw BYTES",
+}
+"""The form of each op's line."""
+
+
+def _number(field: str, word: str, most: int) -> int:
+    if not (word.isascii() and word.isdigit()):
+        raise ScriptError(f"{field} {word}: not a number")
+    if int(word) > most:
+        raise ScriptError(f"{field} {word}: at most {most}")
     return int(word)
 
 
-def _byte(word: str) -> int:
-    if not 1 <= len(word) <= 2 or any(digit not in "0123456789abcdefABCDEF" for digit in word):
-        raise ValueError(word)
+def _byte(field: str, word: str) -> int:
+    if any(digit not in "0123456789abcdefABCDEF" for digit in word):
+        raise ScriptError(f"{field} {word}: not hexadecimal")
+    if int(word, 16) > 0xFF:
+        raise ScriptError(f"{field} {word}: at most FF")
     return int(word, 16)
+
+
+def _buffer(word: str) -> int:
+    names = ", ".join(f"{number} {name}" for number, name in enumerate(BUFFERS))
+    if word in BUFFERS:
+        return BUFFERS.index(word)
+    if word.isascii() and word.isdigit() and int(word) < len(BUFFERS):
+        return int(word)
+    raise ScriptError(f"buffer {word}: there is none; the buffers are {names}")
 
 
 def _line_ops(words: list[str]) -> list[Op]:
     name, operands = words[0], words[1:]
+    if name not in FORMS:
+        raise ScriptError(f"not an op: {' '.join(words)}")
     if name == "fresh" and not operands:
         return [Fresh()]
     if name == "dump" and not operands:
         return [Dump()]
     if name == "take" and len(operands) > 1:
-        port = _number(operands[0], 256)
-        return [Take(port, _byte(word)) for word in operands[1:]]
-    if name in ("tick", "give") and operands:
-        port = _number(operands[0], 256)
+        port = _number("port", operands[0], 255)
+        return [Take(port, _byte("byte", word)) for word in operands[1:]]
+    if name in ("tick", "give") and (len(operands) == 1 or len(operands) == 3 and operands[1] == "x"):
+        port = _number("port", operands[0], 255)
         if len(operands) == 1:
             return [Tick(port) if name == "tick" else Give(port)]
-        if len(operands) == 3 and operands[1] == "x":
-            count = _number(operands[2], 1 << 16)
-            return [Ticks(port, count)] if name == "tick" else [Give(port)] * count
+        count = _number("count", operands[2], 0xFFFF)
+        return [Ticks(port, count)] if name == "tick" else [Give(port)] * count
     if name == "press" and len(operands) == 1:
-        return [Press(_byte(operands[0]))]
+        return [Press(_byte("code", operands[0]))]
     if name == "lend" and len(operands) == 2:
-        buffer = BUFFERS.index(operands[0]) if operands[0] in BUFFERS else _number(operands[0], 256)
-        return [Lend(buffer, _number(operands[1], 1 << 24))]
+        return [Lend(_buffer(operands[0]), _number("length", operands[1], 0xFFFFFF))]
     if name == "raw" and operands:
-        return [Raw(bytes(_byte(word) for word in operands))]
-    raise ValueError(name)
+        return [Raw(bytes(_byte("byte", word) for word in operands))]
+    raise ScriptError(f"{' '.join(words)}: not of the form {FORMS[name]}")
 
 
 def to_text(ops: Sequence[Op]) -> str:
@@ -300,12 +327,11 @@ def _line(op: Op) -> str:
         return f"press {op.code:02X}"
     if isinstance(op, Ticks):
         return f"tick {op.port} x {op.count}"
-    if isinstance(op, Lend):
-        name = BUFFERS[op.buffer] if op.buffer < len(BUFFERS) else op.buffer
-        return f"lend {name} {op.length}"
+    if isinstance(op, Lend) and op.buffer < len(BUFFERS):
+        return f"lend {BUFFERS[op.buffer]} {op.length}"
     if isinstance(op, Dump):
         return "dump"
-    return f"raw {_hexadecimal(op.data)}"
+    return f"raw {_hexadecimal(op.encode())}"
 
 
 def _hexadecimal(data: bytes) -> str:
@@ -418,8 +444,11 @@ def _describe_dump(output: bytes) -> str:
     return ", ".join(parts)
 
 
-def format_answers(ops: Sequence[Op], output: bytes) -> list[str]:
-    """The lines of a script, each with what was written for it."""
+def format_answers(
+    ops: Sequence[Op], output: bytes, shown: Callable[[State], list[str]] = lambda state: []
+) -> list[str]:
+    """The lines of a script, each with what was written for it; after a dump
+    the lines that show it."""
     lines = []
     at = 0
     for line, of_line in _lines(ops):
@@ -428,6 +457,8 @@ def format_answers(ops: Sequence[Op], output: bytes) -> list[str]:
             pieces.append((op, output[at : at + op.output]))
             at += op.output
         lines.append(f"{line}: {_together(pieces)}" if of_line[0].output else line)
+        if isinstance(of_line[0], Dump) and len(pieces[0][1]) == DUMP:
+            lines += shown(read_dump(pieces[0][1]))
     return lines
 
 

@@ -85,6 +85,45 @@ def call(
     return field(Tag.CALL, bytes([iocb, command]) + word(address) + word(length) + bytes([aux1, aux2, a]))
 
 
+def whole(message: bytes) -> bool:
+    """Whether the bytes are one field, no more and no less."""
+    return len(message) >= 3 and len(message) == 3 + int.from_bytes(message[1:3], "little")
+
+
+def name(message: bytes) -> str:
+    """What a whole message asks for."""
+    tag = message[0]
+    if tag == Tag.CALL and len(message) == 12:
+        command = message[4]
+        known = [each.name.replace("_", " ") for each in Command if each == command]
+        return known[0] if known else f"command ${command:02X}"
+    return Tag(tag).name if tag in list(Tag) else f"tag ${tag:02X}"
+
+
+# what finds a port's place, whatever it has taken before
+
+ZEROS = tuple(1 << power for power in range(9))
+"""The growing pieces of zeros, 511 in all, that end every message which does
+something; a longer one is a wrong length, whose value is dropped."""
+LONG_END = bytes(sum(ZEROS)) + b"\x01" * (0xFFFF - sum(ZEROS)) + bytes(257)
+"""Ends a message of any length. What is left of the bytes $01 are messages
+of an unknown tag and of 257 bytes, few where zeros would be thousands; the
+zeros after them end the last one."""
+BOUNDARY = bytes.fromhex("00 00 01 00 00 00 FB 00") + bytes(251)
+"""Unknown tags that end together, whether none, one or two zeros were taken
+before them."""
+
+
+def marked(mark: int) -> bytes:
+    """A CALL that does nothing and never waits: its IOCB is refused."""
+    return call(0xFF, 0, a=mark)
+
+
+def marked_reply(mark: int) -> bytes:
+    """The reply to ``marked``, as bytes: it has the mark."""
+    return field(REPLY + Tag.CALL, bytes([0x86, 0, 0, mark]))
+
+
 @dataclass(frozen=True)
 class CallReply:
     """The reply to CALL."""
@@ -130,6 +169,19 @@ def reply_of(tag: int, value: bytes) -> Reply:
     if tag == REFUSED and len(value) == 1:
         return Refusal(value[0])
     raise BadReply(f"no reply: tag ${tag:02X}, {len(value)} bytes")
+
+
+def answers(message: bytes, reply: Reply) -> bool:
+    """Whether a reply can be that to a whole message."""
+    tag, length = message[0], len(message) - 3
+    if tag == Tag.CALL and length == 9:
+        return isinstance(reply, CallReply)
+    if tag == Tag.LOAD and 3 <= length <= 2 + PIECE:
+        return isinstance(reply, LoadReply)
+    if tag == Tag.FETCH and length == 4:
+        count = int.from_bytes(message[5:7], "little")
+        return isinstance(reply, FetchReply) and len(reply.data) == (count if reply.status == 1 else 0)
+    return reply == Refusal(0x84 if tag in list(Tag) else 0x92)
 
 
 class ReplyReader:

@@ -28,14 +28,12 @@ class StandIn:
     def write(self, data: bytes) -> int:
         data = data[: self.pace]
         self._taken += data
-        if len(self._taken) >= 3:
-            length = 3 + int.from_bytes(self._taken[1:3], "little")
-            if len(self._taken) == length:
-                message = bytes(self._taken)
-                self._taken.clear()
-                self.requests.append(message)
-                tag, value = self._answer(message[0], message[3:])
-                self._replies += bytes([tag]) + len(value).to_bytes(2, "little") + value
+        while len(self._taken) >= 3 and len(self._taken) >= 3 + int.from_bytes(self._taken[1:3], "little"):
+            message = bytes(self._taken[: 3 + int.from_bytes(self._taken[1:3], "little")])
+            del self._taken[: len(message)]
+            self.requests.append(message)
+            tag, value = self._answer(message[0], message[3:])
+            self._replies += bytes([tag]) + len(value).to_bytes(2, "little") + value
         return len(data)
 
     def read(self, size: int) -> bytes:
@@ -45,6 +43,8 @@ class StandIn:
 
     def _answer(self, tag: int, value: bytes) -> tuple[int, bytes]:
         word = int.from_bytes(value[0:2], "little")
+        if len(value) not in {0x10: (9,), 0x11: range(3, 259), 0x12: (4,)}.get(tag, (len(value),)):
+            return 0xFF, b"\x84"
         if tag == 0x11:
             if word + len(value) - 2 > AREA:
                 return 0x91, b"\xB0"
@@ -60,6 +60,8 @@ class StandIn:
 
     def _call(self, value: bytes) -> tuple[int, int, int]:
         iocb, command, aux1, a = value[0], value[1], value[6], value[8]
+        if iocb > 7:
+            return 0x86, 0, a
         address, n = int.from_bytes(value[2:4], "little"), int.from_bytes(value[4:6], "little")
         if command == 0x0C:
             self.blocks.pop(iocb, None)

@@ -26,6 +26,7 @@ class Screen:
         self.cells = [[" "] * columns for _ in range(rows)]
         self.inverse = [[False] * columns for _ in range(rows)]
         self._row = self._column = 0
+        self._top, self._bottom = 0, rows - 1
         self._inverse = False
         self._last = " "
         self._rest = b""
@@ -57,7 +58,7 @@ class Screen:
         elif character == "\t":
             self._column = min(self._column // 8 * 8 + 8, self.columns - 1)
         elif character == "\n":
-            self._row = min(self._row + 1, self.rows - 1)
+            self._down()
         else:
             self._show(character)
 
@@ -75,8 +76,12 @@ class Screen:
     def _control(self, match: re.Match[bytes]) -> None:
         if match[0] == b"\x08":
             self._column = max(0, self._column - 1)
-        elif match[0] in (b"\x1bM", b"\x1bD"):
-            self._row += 1 if match[0] == b"\x1bD" else -1
+        elif match[0] == b"\x1bD":
+            self._down()
+        elif match[0] == b"\x1bM":
+            if self._row == self._top:
+                self._scroll(-1)
+            self._row = max(0, self._row - (self._row != self._top))
         if match[3] is None or match[1]:
             return
         numbers = [int(number or 0) for number in match[2].split(b";")]
@@ -102,12 +107,31 @@ class Screen:
             self._blank(self._column, min(self.columns, self._column + max(first, 1)))
         elif letter in "P@":
             self._shift(max(first, 1) if letter == "@" else -max(first, 1))
+        elif letter == "r":
+            self._top, self._bottom = max(first, 1) - 1, (numbers[1:] or [self.rows])[0] - 1
+            self._row = self._column = 0
+        elif letter in "ST":
+            self._scroll(max(first, 1) if letter == "S" else -max(first, 1))
         elif letter == "b":
             for _ in range(first):
                 self._show(self._last)
         elif letter == "m":
             for number in numbers:
                 self._inverse = number == 7 or self._inverse and number not in (0, 27)
+
+    def _down(self) -> None:
+        if self._row == self._bottom:
+            self._scroll(1)
+        else:
+            self._row = min(self._row + 1, self.rows - 1)
+
+    def _scroll(self, step: int) -> None:
+        """Moves the rows of the region up, or down."""
+        for _ in range(abs(step)):
+            gone, new = (self._top, self._bottom) if step > 0 else (self._bottom, self._top)
+            for lines, blank in ((self.cells, " "), (self.inverse, False)):
+                del lines[gone]
+                lines.insert(new, [blank] * self.columns)  # type: ignore[arg-type]
 
     def _shift(self, step: int) -> None:
         """Moves what is at and after the cursor right or left."""

@@ -9,17 +9,24 @@ import os
 import select
 import shlex
 import subprocess
+import tempfile
 import threading
 import time
 import unittest
 from collections.abc import Callable
 
-from fixlomand import errors
+from fixlomand import errors, wire
 from fixlomand.cio import EOL, FORCED, READ, WRITE, File, Stick
+
+from .terminal import Terminal
 
 BOARD = os.environ.get("FIXLOMAND_BOARD", "")
 PATIENCE = 60.0
 """Seconds until something that does not come counts as missing."""
+TYPING = 0.12
+"""Seconds that the firmware's simulated typist takes for a key."""
+RESTARTED = "fresh start, both links reset"
+BANDAGES = (0x15, 0x3F, 0x23, 0x3A, 0x3F, 0x3D, 0x2A, 0x3E)
 
 
 class Line:
@@ -30,10 +37,14 @@ class Line:
         self.patience = patience
 
     def read(self, size: int) -> bytes:
-        return os.read(self._file, size) if select.select([self._file], [], [], self.patience)[0] else b""
+        return os.read(self._file, size) if self.has_bytes(self.patience) else b""
 
     def write(self, data: bytes) -> int:
         return os.write(self._file, data)
+
+    def has_bytes(self, patience: float) -> bool:
+        """Whether something to read is there, or comes so soon."""
+        return bool(select.select([self._file], [], [], patience)[0])
 
     def close(self) -> None:
         if self._file >= 0:
@@ -41,10 +52,26 @@ class Line:
             self._file = -1
 
 
+def read_keys(keyboard: File, count: int) -> bytes:
+    """So many characters from the keyboard, each as soon as it is there; fewer if they do not come."""
+    got = bytearray()
+    end = time.monotonic() + PATIENCE
+    while len(got) < count and time.monotonic() < end:
+        try:
+            got.append(keyboard.get_character())
+        except errors.EndOfFile:
+            time.sleep(0.005)
+    return bytes(got)
+
+
 @unittest.skipUnless(BOARD, "FIXLOMAND_BOARD names no example firmware to start")
 class Board(unittest.TestCase):
     def setUp(self) -> None:
-        self.process = subprocess.Popen(shlex.split(BOARD), stdin=subprocess.PIPE, stdout=subprocess.PIPE, text=True)
+        self.said = tempfile.TemporaryFile()
+        self.addCleanup(self.said.close)
+        self.process = subprocess.Popen(
+            shlex.split(BOARD), stdin=subprocess.PIPE, stdout=subprocess.PIPE, stderr=self.said, text=True
+        )
         assert self.process.stdin is not None and self.process.stdout is not None
         self.input, self.output = self.process.stdin, self.process.stdout
         self.addCleanup(self.end)
@@ -57,8 +84,12 @@ class Board(unittest.TestCase):
     def line_after(self, begin: str) -> str:
         """The next line of the firmware, which begins so; what follows."""
         line = self.output.readline()
-        self.assertTrue(line.startswith(begin), f"the firmware wrote {line!r}, not {begin!r}")
+        self.assertTrue(line.startswith(begin), f"the firmware wrote {line!r}, not {begin!r}, and said:\n{self.says()}")
         return line[len(begin) :].rstrip("\n")
+
+    def says(self) -> str:
+        """What is on the firmware's standard error so far."""
+        return os.pread(self.said.fileno(), 100_000, 0).decode()
 
     def tell(self, line: str) -> None:
         """A line for the firmware's standard input."""
@@ -88,21 +119,6 @@ class Board(unittest.TestCase):
         end = time.monotonic() + PATIENCE
         while not found():
             self.assertLess(time.monotonic(), end, f"{what} did not come")
-
-    def read_key(self, keyboard: File, code: int) -> int:
-        """Types a key and reads it, as soon as it is there."""
-        got: list[int] = []
-        self.tell(f"{code:02X}")
-
-        def read() -> bool:
-            try:
-                got.append(keyboard.get_character())
-            except errors.EndOfFile:
-                pass
-            return bool(got)
-
-        self.wait_for(read, f"key ${code:02X}")
-        return got[0]
 
     def test_a_long_request_holds_nobody_up(self) -> None:
         """While the laptop reads a whole graphics screen, a request of 61,441 ticks, the phone's LOADs are answered as ever."""
@@ -153,11 +169,32 @@ class Board(unittest.TestCase):
         typed = ((0x3F, 0x41), (0x7F, 0x41), (0xBF, 0x01), (0x33, ord("7")), (0x5F, ord("!")), (0x0C, EOL))
         for code, character in typed:
             with self.subTest(code=code):
-                self.assertEqual(self.read_key(keyboard, code), character)
+                self.tell(f"{code:02X}")
+                self.assertEqual(read_keys(keyboard, 1), bytes([character]))
         # each is pressed once, however its contacts bounce
         for _ in range(20):
             self.assertRaises(errors.EndOfFile, keyboard.get_character)
             time.sleep(0.01)
+
+    def test_keys_wait_for_their_reader(self) -> None:
+        """A word and RETURN, read when all of it has been typed; a request is at the screen at its beginning."""
+        picture = self.laptop.open("S:", READ | WRITE, 8)
+        keyboard = self.phone.open("K:", READ)
+        codes = (0x3C, *BANDAGES, 0x21, 0x35, 0x0C)  # CAPS, which unlocks; the word; blank, 8, RETURN
+        self.tell(" ".join(f"{code:02X}" for code in codes))
+        typed = time.monotonic() + (len(codes) + 1) * TYPING
+        self.assertRaises(errors.CursorPastLastRow, picture.get_record, 1)
+        time.sleep(max(0.0, typed - time.monotonic()))
+        self.assertEqual(read_keys(keyboard, 11), b"bandages 8\x9b")
+        self.assertRaises(errors.EndOfFile, keyboard.get_character)
+
+    def test_what_is_no_key(self) -> None:
+        keyboard = self.phone.open("K:", READ)
+        for line in ("15 3G", "100", "", "15,3F", "shout"):
+            self.tell(line)
+            self.wait_for(lambda: f"not '{line}'\n" in self.says(), f"a word about {line!r}")
+        self.tell("3F")
+        self.assertEqual(read_keys(keyboard, 1), b"A")
 
     def test_two_hosts_at_once(self) -> None:
         """A long print and a long listing on the screen."""
@@ -220,14 +257,53 @@ class Board(unittest.TestCase):
         self.assertEqual(self.laptop.open("P:", WRITE).put_record(b"still here"), 10)
 
     def test_a_brown_out(self) -> None:
-        """The core finds the damage, and the firmware starts again."""
+        """The core finds the damage, and the firmware starts again and says so."""
         printer = self.laptop.open("P:", WRITE)
         printer.put_record(b"before")
+        self.assertNotIn(RESTARTED, self.says())
         self.tell("damage")
-        self.wait_for(lambda: self.shown()[1] == "", "the fresh start")
+        self.wait_for(lambda: RESTARTED in self.says(), "the fresh start")
+        self.assertEqual(self.shown()[1], "")
         self.assertRaises(errors.NotOpen, printer.put_character, 0x41)
         self.assertEqual(self.phone.open("P:", WRITE).put_record(b"after"), 5)
         self.assertEqual(self.shown()[1], "after/")
+        self.assertEqual(self.says().count(RESTARTED), 1)
+
+    def test_a_brown_out_drops_what_waits(self) -> None:
+        """A reply that its host has not read; more replies than the link holds, and messages behind them; half a message."""
+        for message in (wire.load(0, b"x"), wire.fetch(0, 256) * 400):
+            self.lines[0].write(wire.load(0, b"abc")[:4])
+            self.lines[1].write(message)
+            self.assertTrue(self.lines[1].has_bytes(PATIENCE))
+            time.sleep(0.3)  # until the link is full
+            before = self.says().count(RESTARTED)
+            self.tell("damage")
+            self.wait_for(lambda: self.says().count(RESTARTED) > before, "the fresh start")
+            self.assertFalse(self.lines[1].has_bytes(0.1), "a reply from before the fresh start")
+            for stick in (self.laptop, self.phone):
+                self.assertEqual(stick.fetch(0, 2), b"\0\0")
+
+
+@unittest.skipUnless(BOARD, "FIXLOMAND_BOARD names no example firmware to start")
+class BoardInATerminal(unittest.TestCase):
+    def test_keys_and_a_restart(self) -> None:
+        """As somebody who tries it out: codes typed into its terminal, a host at the link whose name it shows."""
+        terminal = Terminal(shlex.split(BOARD))
+        self.addCleanup(terminal.close)
+        terminal.wait_for_text("it ends with its input")
+        names = dict(line.split()[:2] for line in terminal.screen.lines() if line.startswith(("laptop: ", "phone: ")))
+        line = Line(names["phone:"])
+        self.addCleanup(line.close)
+        phone = Stick(line)
+        keyboard = phone.open("K:", READ)
+        terminal.type(b"".join(b"%02x\n" % code for code in (0x3C, *BANDAGES)))
+        time.sleep((len(BANDAGES) + 2) * TYPING)
+        self.assertEqual(read_keys(keyboard, 8), b"bandages")
+        terminal.type(b"damage\n")
+        terminal.wait_for_text(RESTARTED)
+        self.assertRaises(errors.NotOpen, keyboard.get_character)
+        terminal.type(b"\x04")
+        self.assertEqual(terminal.wait_for_end(), 0)
 
 
 if __name__ == "__main__":

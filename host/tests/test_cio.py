@@ -2,10 +2,18 @@
 
 from __future__ import annotations
 
+import io
+import os
+import signal
+import threading
+import time
+import tty
 import unittest
+from types import FrameType
 
-from fixlomand import cio, errors
+from fixlomand import cio, errors, wire
 from fixlomand.cio import EOL, FORCED, READ, WRITE, Stick
+from fixlomand.line import Limit, Line
 
 from .standin import StandIn
 
@@ -111,6 +119,98 @@ class Files(unittest.TestCase):
         self.assertRaises(ValueError, editor.get_record, cio.BUFFER_LENGTH + 1)
 
 
+class Faulty(StandIn):
+    """Once, when it is ``faulty`` and so many replies later, it raises an error in the place of a reply, or gives other bytes."""
+
+    def __init__(self, fault: BaseException | bytes, late: int = 0) -> None:
+        super().__init__()
+        self.faulty = False
+        self._fault, self._late = fault, late
+
+    def read(self, size: int) -> bytes:
+        if self.faulty and size == 3:
+            self._late -= 1
+            if self._late < 0:
+                self.faulty = False
+                if isinstance(self._fault, BaseException):
+                    raise self._fault
+                self._replies[:0] = self._fault
+        return super().read(size)
+
+
+class Lines(unittest.TestCase):
+    """Over a pseudo-terminal, most with nobody at the other end."""
+
+    def setUp(self) -> None:
+        self.master, slave = os.openpty()
+        self.addCleanup(os.close, self.master)
+        tty.setraw(slave)
+        self.line = io.FileIO(slave, "r+")
+        self.addCleanup(self.line.close)
+
+    def test_nobody_answers(self) -> None:
+        begin = time.monotonic()
+        with self.assertRaises(errors.TimedOut) as caught:
+            Stick(self.line, 0.2)
+        self.assertLess(time.monotonic() - begin, 2)
+        self.assertEqual(str(caught.exception), "the reply to a marked CALL did not come in 0.2 s")
+
+    def test_nobody_reads(self) -> None:
+        """A message that finds no room is given up, and does not hold up its host."""
+
+        def hangs(number: int, frame: FrameType | None) -> None:
+            raise AssertionError("the write does not end")
+
+        before = signal.signal(signal.SIGALRM, hangs)
+        self.addCleanup(signal.signal, signal.SIGALRM, before)
+        signal.alarm(5)
+        self.addCleanup(signal.alarm, 0)
+        with self.assertRaises(errors.TimedOut) as caught:
+            Line(self.line).write(bytes(1_000_000), Limit("room", 0.2))
+        self.assertEqual(str(caught.exception), "room did not come in 0.2 s")
+        self.assertFalse(os.get_blocking(self.line.fileno()), "a driver may have less room than for the whole write")
+
+    def test_few_bytes(self) -> None:
+        """A message that does something is ended by few zeros, and the boundary is found at once."""
+        stand_in = StandIn()
+        taken = bytearray()
+
+        def serve() -> None:
+            while data := os.read(self.master, 1000):
+                if data == b"end":
+                    return
+                taken.extend(data)
+                stand_in.write(data)
+                os.write(self.master, stand_in.read(10_000))
+
+        stick = threading.Thread(target=serve, daemon=True)
+        stick.start()
+        message = wire.load(16, b"E:\x9b")
+        for sent in (0, 1, 5, 6):
+            taken.clear()
+            self.line.write(message[:sent])
+            Stick(self.line, 5).load(16, b"right")
+            self.assertEqual(stand_in.area[16:21], b"right")
+            self.assertLess(len(taken), 400)
+        self.line.write(b"end")
+        stick.join(5)
+
+    def test_bytes_that_nobody_asked_for(self) -> None:
+        """An old reply of the right form is not taken for the new one."""
+        stick = Stick(self.line, 0.2, in_step=True)
+        os.write(self.master, bytes.fromhex("92 02 00 01 41"))
+        self.assertRaises(errors.TimedOut, stick.fetch, 0, 1)
+
+    def test_a_line_that_is_gone(self) -> None:
+        stick = Stick(self.line, 5, in_step=True)
+        null = os.open(os.devnull, os.O_RDWR)
+        os.dup2(null, self.master)  # which closes the other end
+        os.close(null)
+        begin = time.monotonic()
+        self.assertRaises((errors.StreamEnded, OSError), stick.fetch, 0, 1)
+        self.assertLess(time.monotonic() - begin, 2)
+
+
 class Streams(unittest.TestCase):
     def test_one_byte_at_a_time(self) -> None:
         editor = Stick(StandIn(pace=1)).open("E:", EDIT)
@@ -134,12 +234,109 @@ class Streams(unittest.TestCase):
 
         Stick(Late()).close_all()
 
-    def test_another_reply(self) -> None:
-        class Wrong(StandIn):
-            def read(self, size: int) -> bytes:
-                return b"\x91\x01\x00\x01"[:size] if size == 3 else b"\x01"
+    def test_none_for_too_long(self) -> None:
+        class Silent(StandIn):
+            def read(self, size: int) -> bytes | None:  # type: ignore[override]
+                return None
 
-        self.assertRaises(errors.BadReply, Stick(Wrong()).close_all)
+        with self.assertRaises(errors.TimedOut) as caught:
+            Stick(Silent(), 0.02).close_all()
+        self.assertEqual(str(caught.exception), "the reply to CLOSE did not come in 0.02 s")
+
+    def test_another_reply(self) -> None:
+        for wrong in ("91 01 00 01", "FF 01 00 92", "92 02 00 01 41", "10 00 00"):
+            stand_in = Faulty(bytes.fromhex(wrong))
+            stick = Stick(stand_in)
+            stick.load(16, b"right")
+            stand_in.faulty = True
+            self.assertRaises(errors.BadReply, stick.fetch, 16, 5)
+            self.assertEqual(stick.fetch(16, 5), b"right")
+
+    def test_a_fault_while_a_reply_is_due(self) -> None:
+        """Its bytes come with the next message's, which has its own all the same."""
+        for fault in (KeyboardInterrupt(), RuntimeError("a bug"), TimeoutError()):
+            stand_in = Faulty(fault)
+            stick = Stick(stand_in)
+            stick.load(16, b"right")
+            stand_in.faulty = True
+            self.assertRaises(type(fault), stick.fetch, 20, 2)
+            self.assertEqual(stick.fetch(16, 5), b"right")
+
+    def test_closed_after_a_fault(self) -> None:
+        for fault, left in ((b"\xff\x01\x00\x92", 0), (KeyboardInterrupt(), 0), (OSError(), 1)):
+            stand_in = Faulty(fault)
+            with self.assertRaises((errors.BadReply, KeyboardInterrupt, OSError)), Stick(stand_in).open("E:", EDIT) as editor:
+                stand_in.faulty = True
+                editor.put_record(b"AB")
+            self.assertEqual(len(stand_in.blocks), left)
+
+    def test_an_error_is_not_hidden_by_that_of_close(self) -> None:
+        class Lost(StandIn):
+            lost = False
+
+            def write(self, data: bytes) -> int:
+                if self.lost:
+                    raise OSError("unplugged")
+                return super().write(data)
+
+        lost = Lost()
+        with self.assertRaises(KeyError), Stick(lost).open("E:", EDIT):
+            lost.lost = True
+            raise KeyError("a bug")
+
+    def test_several_files_at_a_silent_stick(self) -> None:
+        """The place is looked for once, not for each file."""
+
+        class Silenced(StandIn):
+            silent = False
+            ends = 0
+
+            def write(self, data: bytes) -> int:
+                self.ends += data == wire.LONG_END
+                return super().write(data)
+
+            def read(self, size: int) -> bytes | None:  # type: ignore[override]
+                return None if self.silent else super().read(size)
+
+        stand_in = Silenced(pace=100_000)
+        stick = Stick(stand_in, 0.02)
+        with self.assertRaises(errors.TimedOut) as caught, stick.open("E:", EDIT) as editor, stick.open("P:", WRITE):
+            stand_in.silent = True
+            editor.put_record(b"AB")
+        self.assertEqual((caught.exception.awaited, stand_in.ends), ("the reply to LOAD", 1))
+
+    def test_a_block_that_nobody_knows_of(self) -> None:
+        stand_in = Faulty(KeyboardInterrupt(), late=1)
+        stick = Stick(stand_in)
+        stand_in.faulty = True
+        self.assertRaises(KeyboardInterrupt, stick.open, "E:", EDIT)
+        self.assertEqual(stand_in.blocks, {0: ("E", EDIT)})
+        self.assertEqual(stick.open("P:", WRITE).iocb, 0)
+
+    def test_made_in_step_or_not(self) -> None:
+        stand_in = StandIn()
+        stand_in.write(bytes.fromhex("11 FF FF 00"))
+        Stick(stand_in, in_step=False).load(16, b"right")
+        self.assertEqual(stand_in.area[16:21], b"right")
+        stand_in.requests.clear()
+        Stick(stand_in).load(16, b"right")
+        self.assertEqual(len(stand_in.requests), 1)
+
+    def test_marks_differ(self) -> None:
+        """So that an older marked reply, left by a host that dropped out, is not taken for the new one."""
+        stand_in = StandIn()
+        for _ in range(5):
+            Stick(stand_in, in_step=False)
+        self.assertGreater(len({request for request in stand_in.requests if request[:4] == b"\x10\x09\0\xff"}), 2)
+
+    def test_made_with_all_closed(self) -> None:
+        stand_in = StandIn()
+        stand_in.blocks = {0: ("P", WRITE), 7: ("E", EDIT)}
+        Stick(stand_in, close_all=True)
+        self.assertEqual(stand_in.blocks, {})
+
+    def test_half_a_message(self) -> None:
+        self.assertRaises(ValueError, Stick(StandIn()).request, b"\x11\x05\x00")
 
     def test_no_close_over_a_lost_stream(self) -> None:
         stand_in = StandIn()

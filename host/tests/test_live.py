@@ -5,16 +5,22 @@ from __future__ import annotations
 import os
 import re
 import select
+import shutil
 import signal
+import tempfile
 import threading
+import time
 import unittest
+from pathlib import Path
 
-from fixlomand import errors
+from fixlomand import errors, view
 from fixlomand.cio import EOL, FORCED, READ, WRITE, File, Stick
 from fixlomand.picture import drawing
 
-from .running import NO_PLAY, PLAY, STICK
+from .running import NO_PLAY, PLAY, STICK, run
 from .terminal import PATIENCE, Terminal
+
+F7, F8 = b"\x1b[18~", b"\x1b[19~"
 
 
 class Line:
@@ -36,11 +42,15 @@ class Line:
 @unittest.skipUnless(PLAY, NO_PLAY)
 class Live(unittest.TestCase):
     def start(
-        self, *words: str, rows: int = 30, columns: int = 120, kind: str = "xterm"
+        self, *words: str, rows: int = 30, columns: int = 120, kind: str = "xterm", language: str = "C.UTF-8"
     ) -> tuple[Terminal, Stick, Stick]:
-        terminal = Terminal([STICK, "live", *words], rows, columns, kind)
+        folder = tempfile.TemporaryDirectory()
+        self.addCleanup(folder.cleanup)
+        self.folder = Path(folder.name)
+        inside = ["sh", "-c", 'cd "$0" && exec "$@"', folder.name, "env", f"LC_ALL={language}"]
+        terminal = Terminal([*inside, STICK, "live", *words], rows, columns, kind)
         self.addCleanup(terminal.close)
-        terminal.wait_for_text("phone: 0 requests")
+        terminal.wait_for_text("phone: 0")
         found = [re.search(rf"{name}: (\S+)", terminal.written.decode()) for name in ("laptop", "phone")]
         lines = [Line(match[1]) for match in found if match]
         for line in lines:
@@ -67,7 +77,7 @@ class Live(unittest.TestCase):
         terminal.wait_for_text("open: 0 P2:W")
         terminal.wait_for_text("open: 0 E1:RW")
         self.assertEqual(terminal.screen.inverse[1][:40], [False] * 8 + [True] * 7 + [False] * 25)
-        self.assertTrue(terminal.screen.lines()[-1].startswith("Shift, Ctrl as typed  F1 inverse  F2 unlock"))
+        self.assertTrue(terminal.screen.lines()[-1].startswith("F1 inverse F2 unlock F3 shift lock"))
         editor.put_character(0x1C)
         self.assertEqual(len(editor.get_record()), 14)
         after = self.end(terminal)
@@ -111,6 +121,25 @@ class Live(unittest.TestCase):
         self.assertEqual(self.key(terminal, keyboard, b"a", 0x3F), 0xC1)
         self.end(terminal, b"\x1b[21~")
 
+    def test_keys_that_wait(self) -> None:
+        terminal, _, phone = self.start()
+        keyboard = phone.open("K:", READ)
+        terminal.type(b"bandages\r")
+        terminal.wait_for_text("8 more keys wait")
+        typed = b""
+        end = time.monotonic() + PATIENCE
+        while not typed.endswith(bytes([EOL])) and time.monotonic() < end:
+            try:
+                typed += bytes([keyboard.get_character()])
+            except errors.EndOfFile:
+                pass
+        self.assertEqual(typed, b"BANDAGES\x9b")
+        terminal.wait_for_text("key none")
+        # Nothing is left over, and a key is not held back for one that was read long ago.
+        self.assertRaises(errors.EndOfFile, keyboard.get_character)
+        self.assertEqual(self.key(terminal, keyboard, b"7", 0x33), ord("7"))
+        self.end(terminal)
+
     def test_two_hosts_at_once(self) -> None:
         terminal, laptop, phone = self.start("--speed", "1000")
         printer = laptop.open("P:", WRITE)
@@ -137,6 +166,105 @@ class Live(unittest.TestCase):
         waiting.join(PATIENCE)
         self.end(terminal)
 
+    def test_the_foot_at_every_width(self) -> None:
+        for width in range(20, 200):
+            lines = view.foot(width)
+            self.assertLessEqual(max(map(len, lines)), width)
+            for place in range(1, 9):
+                self.assertEqual(sum(line.count(f"F{place} ") for line in lines), 1)
+            self.assertEqual(lines[-1][-6:], " quits")
+        self.assertEqual([len(view.foot(width)) for width in (59, 79, 119)], [2, 1, 1])
+
+    def test_sizes(self) -> None:
+        for rows, columns in ((24, 60), (12, 60), (24, 80), (50, 132)):
+            with self.subTest(rows=rows, columns=columns):
+                terminal, laptop, _ = self.start(rows=rows, columns=columns)
+                laptop.open("E:", WRITE).put_record(b"x" * 38 * 23 + b"the last row")
+                terminal.wait_for_text("  the last row")
+                lines = [line.rstrip() for line in terminal.screen.lines()]
+                foot = view.foot(columns - 1)
+                self.assertEqual(lines[-len(foot) :], foot)
+                self.assertRegex(lines[0], r"^Fixlomand   laptop /dev/\S+   phone /dev/\S+$")
+                self.assertIn("port 0, laptop: ", lines[1])
+                terminal.wait_for_text("open: 0 E1:W")
+                self.end(terminal)
+
+    def test_log(self) -> None:
+        terminal, laptop, phone = self.start("--log", "a log")
+        laptop.open("P:", WRITE).put_record(b"ten boxes # 9 of lint")
+        editor = phone.open("E:", READ | WRITE | FORCED)
+        editor.put_record(b"ready")
+        terminal.type(b"a")
+        terminal.wait_for_text("key $3F")
+        keyboard = phone.open("K:", READ)
+        self.assertEqual(keyboard.get_character(), ord("A"))
+        with self.assertRaises(errors.EndOfFile):
+            keyboard.get_character()
+        self.assertIn(b"the log is a log", self.end(terminal))
+        text = (self.folder / "a log").read_text()
+        times = [float(line.split()[1]) for line in text.splitlines()[1:] if line.startswith("#")]
+        self.assertEqual((times, times[0] >= 0.0), (sorted(times), True))
+        for words in (
+            'port 0: LOAD 21 bytes at 16: "ten boxes # 9 of lint"',
+            "port 0: PUT RECORD replied $01 success, count 21",
+            'key $3F: "a"',
+            "port 1: GET CHARACTERS replied $88 EndOfFile, end of file from K",
+        ):
+            self.assertRegex(text, rf"\n# \d+\.\d\d\d {re.escape(words)}\n")
+        again = run("play", str(self.folder / "a log"))
+        shown = again.stdout.decode()
+        self.assertEqual(again.returncode, 0)
+        self.assertIn("\n  |  ready ", shown)
+        self.assertIn("\n  |ten boxes # 9 of lint\n", shown)
+        self.assertEqual(set(re.findall(r": (?:ticks \d+, last )?([1-9] [a-z ]+)", shown)), set())
+
+    def test_a_log_whose_live_was_killed(self) -> None:
+        terminal, laptop, _ = self.start("--log", "log")
+        laptop.open("P:", WRITE).put_record(b"ten boxes of lint")
+        terminal.process.kill()
+        terminal.process.wait(PATIENCE)
+        text = (self.folder / "log").read_text()
+        self.assertTrue(text.endswith("port 0: PUT RECORD replied $01 success, count 17\ngive 0 x 7\n"))
+        again = run("play", "-", give=text.encode() + b"dump\n")
+        self.assertIn(b"\n  |ten boxes of lint\n", again.stdout)
+
+    def test_logs_that_cannot_be_written(self) -> None:
+        for name, said in (("/nowhere/log", "/nowhere/log: No such file"), ("-", "--log takes a file, not '-'")):
+            terminal = Terminal([STICK, "live", "--log", name])
+            self.addCleanup(terminal.close)
+            self.assertEqual(terminal.wait_for_end(), 2)
+            self.assertIn(f"stick: {said}".encode(), terminal.written)
+        if os.path.exists("/dev/full"):
+            terminal, laptop, _ = self.start("--log", "/dev/full")
+            laptop.open("P:", WRITE).put_record(b"goes on")
+            terminal.wait_for_text("  goes on")
+            terminal.type(b"\x03")
+            self.assertEqual(terminal.wait_for_end(), 1)
+            self.assertIn(b"/dev/full: No space left on device; the log ends before the run did", terminal.written)
+
+    def test_saving(self) -> None:
+        terminal, laptop, phone = self.start(rows=24, columns=60)
+        terminal.type(F7)
+        terminal.wait_for_text("the paper is empty: nothing is saved")
+        laptop.open("P:", WRITE).put_record(b"ten boxes of lint")
+        phone.open("E:", WRITE).put_record(b"\x00 and lint")
+        terminal.type(F7)
+        terminal.wait_for_text("paper-1.txt is saved in ")
+        self.assertEqual((self.folder / "paper-1.txt").read_text(), "ten boxes of lint\n")
+        (self.folder / "picture-1.png").write_text("older")
+        terminal.type(F8)
+        terminal.wait_for_text("picture-2.png is saved in ")
+        self.assertEqual((self.folder / "picture-1.png").read_text(), "older")
+        self.assertEqual((self.folder / "picture-2.png").read_bytes()[:8], b"\x89PNG\r\n\x1a\n")
+        moved = self.folder.rename(self.folder.with_suffix(".moved"))
+        shutil.rmtree(moved)
+        self.folder.mkdir()
+        terminal.type(F7)
+        terminal.wait_for_text("the paper is not saved: No such file")
+        after = self.end(terminal)
+        for name in ("paper-1.txt", "picture-2.png"):
+            self.assertIn(f"stick: saved {self.folder.resolve() / name}\r\n".encode(), after)
+
     def test_graphics_in_a_small_terminal(self) -> None:
         terminal, laptop, _ = self.start(rows=24, columns=80)
         laptop.open("S:", WRITE, 7).put_characters(b"".join(drawing()))
@@ -153,6 +281,14 @@ class Live(unittest.TestCase):
         self.assertGreater(min(map(shown.count, ".+#")), 50)
         terminal.type(b"\x03")
         self.assertEqual((terminal.wait_for_end(), terminal.settings()), (0, terminal.before))
+
+    def test_characters_that_are_not_ascii(self) -> None:
+        for language, shown in (("C.UTF-8", "  a\u2665\u2660z "), ("C", "  a??z ")):
+            terminal, laptop, _ = self.start(language=language)
+            laptop.open("E:", WRITE).put_record(b"a\x00\xfbz")
+            terminal.wait_for_text(shown)
+            self.assertEqual(terminal.screen.inverse[1][2:6], [False, False, True, False])
+            self.end(terminal)
 
     def test_rubbish_and_a_host_that_comes_back(self) -> None:
         terminal, laptop, phone = self.start()

@@ -6,7 +6,7 @@ from pathlib import Path
 from fixlomand import script
 from fixlomand.script import Dump, Fresh, Give, Lend, Press, Raw, Take, Tick, Ticks
 
-# The same text and bytes are tested in the model.
+# The same bytes are tested in the model.
 TEXT = """\
 fresh
 take 0 11 05 00 00 00 45 3A 9B
@@ -19,7 +19,7 @@ tick 1 x 300
 press 3F
 lend area 100
 lend state 602
-lend 7 70000
+raw 4C 07 70 11 01
 dump
 raw 54 00
 """
@@ -58,11 +58,38 @@ class Forms(unittest.TestCase):
 
     def test_comments_and_faults(self) -> None:
         self.assertEqual(script.parse("  # nothing\n\nfresh # all\n"), [Fresh()])
-        bad = "tock 0,take 0,take 0 100,tick 256,tick 0 y 3,tick 0 x 65536,press,lend area 16777216,raw,take 0 +1"
-        for line in bad.split(","):
+        for line, fault in {
+            "tock 0": "not an op: tock 0",
+            "fresh 1": "fresh 1: not of the form fresh",
+            "take 0": "take 0: not of the form take PORT BYTES",
+            "take 256 00": "port 256: at most 255",
+            "take 0 100": "byte 100: at most FF",
+            "take 0 11 +1": "byte +1: not hexadecimal",
+            "tick 256": "port 256: at most 255",
+            "tick two": "port two: not a number",
+            "tick 0 y 3": "tick 0 y 3: not of the form tick PORT [x N]",
+            "tick 0 x 65536": "count 65536: at most 65535",
+            "give 0 x 70000": "count 70000: at most 65535",
+            "press": "press: not of the form press CODE",
+            "press 1FF": "code 1FF: at most FF",
+            "lend area": "lend area: not of the form lend BUFFER LENGTH",
+            "lend area 16777216": "length 16777216: at most 16777215",
+            "lend 4 0": "buffer 4: there is none; the buffers are 0 area, 1 screen, 2 paper, 3 state",
+            "lend disk 0": "buffer disk: there is none; the buffers are 0 area, 1 screen, 2 paper, 3 state",
+            "raw": "raw: not of the form raw BYTES",
+        }.items():
             with self.assertRaises(script.ScriptError) as caught:
-                script.parse(f"fresh\n{line}")
-            self.assertEqual(str(caught.exception), f"line 2: not an op: {line}")
+                script.parse(f"fresh\n{line} # why")
+            self.assertEqual(str(caught.exception), f"line 2: {fault}")
+
+    def test_the_limits_are_reached(self) -> None:
+        text = "take 255 FF\ntick 255 x 65535\npress FF\nlend 3 16777215\n"
+        self.assertEqual(script.parse(text), [Take(255, 255), Ticks(255, 65_535), Press(255), Lend(3, 16_777_215)])
+
+    def test_a_buffer_that_is_not_there(self) -> None:
+        """It can be had as bytes alone, as in a script that is no text."""
+        self.assertEqual(script.to_text([Lend(4, 1)]), "raw 4C 04 01 00 00\n")
+        self.assertEqual(script.parse("raw 4C 04 01 00 00\nfresh"), [Lend(4, 1), Fresh()])
 
 
 class Answers(unittest.TestCase):
@@ -105,12 +132,19 @@ class Answers(unittest.TestCase):
         )
         self.assertRaises(ValueError, script.read_dump, output[1:])
 
+    def test_a_dump_is_shown_under_its_line(self) -> None:
+        lines = script.format_answers([Dump(), Fresh()], dump(p0=7) + b"\0", lambda state: [f"paper {state.used}"])
+        self.assertEqual((lines[0][:12], lines[1:]), ("dump: used 7", ["paper 7", "fresh: 0 done"]))
+        cut = script.format_answers([Dump()], b"\0\0", lambda state: ["never"])
+        self.assertEqual(cut, ["dump: the output ends after 00 00"])
+
 
 class Gate(unittest.TestCase):
     """The script that the gate plays: what stands behind an op of it is what must be written."""
 
     def setUp(self) -> None:
-        self.text = (GATE / "script.txt").read_text(encoding="utf-8")
+        text = (GATE / "script.txt").read_text(encoding="utf-8")
+        self.text = text.replace("\nlend 4 0\n", "\nraw 4C 04 00 00 00\n")
         self.output = (GATE / "stdout").read_bytes()
 
     def test_bytes(self) -> None:

@@ -5,17 +5,15 @@ from __future__ import annotations
 import os
 import platform
 import shlex
-import shutil
 import struct
 import subprocess
-import sys
-import tempfile
 import unittest
 import zlib
 from pathlib import Path
 
 from fixlomand import letters, picture
 
+from .copied import Copied, Folder
 from .running import NO_PLAY, PATIENCE, PLAY, STICK, last_line, run
 from .terminal import Terminal
 
@@ -34,22 +32,6 @@ take 0 10 09 00 00 09 10 00 02 00 00 00 00
 tick 0 x 300
 give 0 x 7
 """
-
-
-class Folder(unittest.TestCase):
-    """Tests with a folder of their own."""
-
-    def setUp(self) -> None:
-        folder = tempfile.TemporaryDirectory()
-        self.addCleanup(folder.cleanup)
-        self.folder = Path(folder.name)
-
-    def file(self, name: str, text: str, mode: int = 0o644) -> str:
-        path = self.folder / name
-        path.parent.mkdir(parents=True, exist_ok=True)
-        path.write_text(text)
-        path.chmod(mode)
-        return str(path)
 
 
 @unittest.skipUnless(PLAY, NO_PLAY)
@@ -170,7 +152,7 @@ class Words(Folder):
     def test_help(self) -> None:
         done = run("--help")
         self.assertEqual((done.returncode, done.stderr), (0, b""))
-        for word in (b"demo", b"live", b"play SCRIPT", b"picture FILE", b"--script", b"FIXLOMAND_PLAY"):
+        for word in (b"demo", b"live", b"play SCRIPT", b"picture FILE", b"--script", b"--unproved", b"FIXLOMAND_PLAY"):
             self.assertIn(word, done.stdout)
 
     def test_bad_words(self) -> None:
@@ -195,36 +177,19 @@ class Words(Folder):
                 self.assertEqual(done.stderr.decode(), f"stick: {line}\n")
 
 
-class Missing(Folder):
+class Missing(Copied):
     """A toolchain that is not there, fails, or works; a stand-in each."""
-
-    def setUp(self) -> None:
-        super().setUp()
-        self.repository = self.folder / "repository"
-        host = Path(STICK).parent / "host"
-        shutil.copytree(host, self.repository / "host", ignore=shutil.ignore_patterns("__pycache__"))
-        shutil.copy(STICK, self.repository / "stick")
-        self.file("kit/bin/needed", "")
-        programs = {name: shutil.which(name) or name for name in ("bash", "dirname", "readlink", "sh", "mkdir", "cp")}
-        for name, path in {**programs, "python3": sys.executable}.items():
-            (self.folder / "kit" / "bin" / name).symlink_to(path)
-
-    def start(self) -> subprocess.CompletedProcess[bytes]:
-        return subprocess.run(
-            [str(self.repository / "stick")],
-            capture_output=True,
-            env={"PATH": str(self.folder / "kit" / "bin")},
-            timeout=PATIENCE,
-            check=False,
-        )
 
     def test_no_toolchain(self) -> None:
         done = self.start()
         self.assertEqual((done.returncode, done.stdout), (2, b""))
-        self.assertEqual(done.stderr.decode(), "stick: the Rattle toolchain's command rt is not on the PATH\n")
+        self.assertEqual(
+            done.stderr.decode(),
+            "stick: the Rattle toolchain's command rt is not on the PATH (README.md tells where it comes from)\n",
+        )
 
     def test_no_proof(self) -> None:
-        self.file("kit/bin/rt", "#!/bin/sh\necho $* fails\nexit 1\n", 0o755)
+        self.rt("echo $* fails", "exit 1")
         done = self.start()
         log = self.repository / "target" / "stick.log"
         self.assertEqual((done.returncode, done.stdout), (2, b""))
@@ -232,7 +197,7 @@ class Missing(Folder):
         self.assertEqual(log.read_text(), "check play fails\n")
 
     def test_no_program(self) -> None:
-        self.file("kit/bin/rt", "#!/bin/sh\n", 0o755)
+        self.rt("exit 0")
         done = self.start()
         program = self.repository / "target" / "bin" / "play"
         self.assertEqual((done.returncode, last_line(done)), (2, f"stick: {program} is missing"))
@@ -242,13 +207,23 @@ class Missing(Folder):
         tools = f"kit/on/{platform.machine()}/toolchain"
         path = shlex.quote(os.environ["PATH"])
         play = self.file("play", f"#!/bin/sh\nPATH={path} exec {shlex.join(shlex.split(PLAY))}\n", 0o755)
-        self.file("kit/bin/rt", f"#!/bin/sh\nmkdir -p target/bin\ncp {play} target/bin/play\n", 0o755)
+        self.rt("mkdir -p target/bin", f"cp {play} target/bin/play")
         self.file(f"{tools}/lib/ld-linux-x86-64.so.2", '#!/bin/sh\nshift 2\nexec "$@"\n', 0o755)
         emulator = self.file(f"{tools}/bin/qemu-x86_64", '#!/bin/sh\nexec "$@"\n', 0o755)
+        self.copy("crates")
         done = self.start()
         self.assertEqual(done.returncode, 0)
         self.assertEqual(last_line(done), f"stick: play runs under the toolchain's emulator, {emulator}")
         self.assertIn(b"GAUZE: 3 LEFT", done.stdout)
+        # Once more, with all the crates as they were: at once, and rt is not asked.
+        self.rt("exit 1")
+        before = os.times()
+        again = self.start()
+        after = os.times()
+        # The processor's time: another program may be at work meanwhile.
+        took = after.children_user + after.children_system - before.children_user - before.children_system
+        self.assertLess(took, 2)
+        self.assertEqual((again.returncode, again.stdout), (0, done.stdout))
 
     def test_a_name_for_nothing(self) -> None:
         done = run(FIXLOMAND_PLAY="/nowhere/play --fast")

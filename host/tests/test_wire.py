@@ -59,6 +59,83 @@ class Replies(unittest.TestCase):
             self.assertRaises(errors.BadReply, wire.ReplyReader().feed, bytes.fromhex(text))
 
 
+    def test_whose_reply(self) -> None:
+        call, load, fetch = wire.call(0, 9), wire.load(0, b"AB"), wire.fetch(0, 2)
+        unknown, wrong = wire.field(0x55, b"AB"), wire.field(wire.Tag.LOAD, b"AB")
+        right = (
+            (call, wire.CallReply(1, 0, 0)),
+            (load, wire.LoadReply(0xB0)),
+            (fetch, wire.FetchReply(1, b"AB")),
+            (fetch, wire.FetchReply(0xB0, b"")),
+            (unknown, wire.Refusal(0x92)),
+            (wrong, wire.Refusal(0x84)),
+        )
+        for message, reply in right:
+            self.assertTrue(wire.answers(message, reply))
+            for other, _ in right:
+                if other != message:
+                    self.assertFalse(wire.answers(other, reply))
+        for count in (0, 1, 3):
+            self.assertFalse(wire.answers(fetch, wire.FetchReply(1, bytes(count))))
+
+    def test_a_whole_message(self) -> None:
+        message = wire.load(0, b"AB")
+        self.assertTrue(wire.whole(message))
+        for cut in range(len(message)):
+            self.assertFalse(wire.whole(message[:cut]))
+        self.assertFalse(wire.whole(message + b"C"))
+
+
+def messages(taken: bytes) -> tuple[list[bytes], bytes]:
+    """The messages that a port makes of bytes, and what is left of them."""
+    found = []
+    while len(taken) >= 3 and len(taken) >= 3 + int.from_bytes(taken[1:3], "little"):
+        length = 3 + int.from_bytes(taken[1:3], "little")
+        found.append(taken[:length])
+        taken = taken[length:]
+    return found, taken
+
+
+class Place(unittest.TestCase):
+    """Whatever was taken before, the port comes to a boundary, and does nothing on the way but what was begun."""
+
+    def test_a_boundary(self) -> None:
+        for zeros in (0, 1, 2):
+            found, rest = messages(bytes(zeros) + wire.BOUNDARY)
+            self.assertEqual(rest, b"")
+            self.assertTrue({message[0] for message in found}.isdisjoint(wire.Tag))
+
+    def test_every_piece_of_zeros(self) -> None:
+        """Also where the host before dropped out while it was finding its own place."""
+        finding = bytes(3) + wire.BOUNDARY + wire.marked(7)
+        for begun in (wire.call(7, 9, 1, 2, 3, 4, 5), wire.load(1, bytes(range(256))), wire.fetch(1, 2), finding):
+            for cut in range(len(begun)):
+                sent = messages(begun[:cut])[1]
+                for size in wire.ZEROS:
+                    sent += bytes(size)
+                    found, rest = messages(sent)
+                    if found:
+                        break
+                self.assertTrue({message[0] for message in found[1:]}.isdisjoint(wire.Tag))
+                self.assertIn(rest, (b"", b"\0", b"\0\0"))
+
+    def test_an_unfinished_long_end(self) -> None:
+        for cut in range(1, len(wire.LONG_END), 997):
+            self.assertEqual(messages(wire.LONG_END[:cut] + wire.LONG_END + wire.BOUNDARY)[1], b"")
+
+    def test_a_field_of_any_length(self) -> None:
+        for length in (*range(0, 65_536, 331), *range(255, 261), 65_024, 65_025, 65_534, 65_535):
+            for begun in (b"\x11" + wire.word(length), b"\x11" + wire.word(length)[:1], b"\x11" + wire.word(length) + b"AB"):
+                found, rest = messages(begun + wire.LONG_END + wire.BOUNDARY)
+                self.assertEqual(rest, b"")
+                self.assertTrue({message[0] for message in found[1:]}.isdisjoint(wire.Tag))
+                self.assertLess(len(found), 600)
+
+    def test_the_mark(self) -> None:
+        self.assertEqual(wire.marked(7), bytes.fromhex("10 09 00 FF 00 00 00 00 00 00 00 07"))
+        self.assertEqual(wire.marked_reply(7), bytes.fromhex("90 04 00 86 00 00 07"))
+
+
 class Errors(unittest.TestCase):
     def test_one_for_each_status(self) -> None:
         statuses = [0x81, 0x82, 0x83, 0x84, 0x85, 0x86, 0x87, 0x88, 0x89, 0x8D, 0x90, 0x91, 0x92, 0xB0]

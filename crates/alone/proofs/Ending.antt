@@ -24,11 +24,11 @@ use Rattle.alone.specs.Moves.{Lines}
 use Rattle.alone.specs.Ending.{IsLast, placesOf, readTo, readSays, GoesOn, ReadsTo, GetEnds, get-refused, get-whole, get-cut, sentOf, writtenTo, writeSays, SentOn, WritesTo, PutEnds, put-refused, put-whole}
 
 -- by what the handler says
-on-got : {R : Type 0} (P : R → Type 0) (says : Got) (f g : ℕ → R) → ((byte : ℕ) → says ≡ got.Character byte → P (f byte)) → ((status : ℕ) → says ≡ got.Refused status → P (g status)) → P (onGot says f g)
+pub on-got : {R : Type 0} (P : R → Type 0) (says : Got) (f g : ℕ → R) → ((byte : ℕ) → says ≡ got.Character byte → P (f byte)) → ((status : ℕ) → says ≡ got.Refused status → P (g status)) → P (onGot says f g)
 on-got P (got.Character byte) f g p q = p byte refl
 on-got P (got.Refused status) f g p q = q status refl
 
-on-done : {R : Type 0} (P : R → Type 0) (says : Done) (f : Unit {0} → R) (g : ℕ → R) → (says ≡ done.Success → P (f tt)) → ((status : ℕ) → says ≡ done.Refused status → P (g status)) → P (onDone says f g)
+pub on-done : {R : Type 0} (P : R → Type 0) (says : Done) (f : Unit {0} → R) (g : ℕ → R) → (says ≡ done.Success → P (f tt)) → ((status : ℕ) → says ≡ done.Refused status → P (g status)) → P (onDone says f g)
 on-done P done.Success f g p q = p refl
 on-done P (done.Refused status) f g p q = q status refl
 
@@ -49,10 +49,10 @@ before-suc P k p q zero h = p
 before-suc P k p q (suc j) h = q j (omega arith)
 
 -- a transfer's end: so many counted before, so many with it
-pub record EndsAs {D : Type 0} (Ended : (status count : ℕ) → Type 0) (before : ℕ) (r : TransferEnd D) : Type 0 where
+pub record EndsAs {D : Type 0} (Ended : (status count : ℕ) → D → Type 0) (before : ℕ) (r : TransferEnd D) : Type 0 where
   pub more : ℕ
   pub count : r .count ≡ before + more
-  pub ends : Ended (r .status) more
+  pub ends : Ended (r .status) more (r .device)
 
 last-down : (way : Way) (n k byte : ℕ) → IsLast way (suc n) (suc k) byte → IsLast way n k byte
 last-down One n k byte l = tt
@@ -87,7 +87,7 @@ characters-record : Characters ≡ Record → ⊥
 characters-record e = subst IsCharacters e tt
 
 -- what a handler says, as numbers
-abbrev characterIn : Got → ℕ
+abbrev pub characterIn : Got → ℕ
 characterIn (got.Character byte) = byte
 characterIn (got.Refused status) = 0
 
@@ -107,7 +107,7 @@ module _ {D : Type 0} (H : Acts D) where
         before-suc (GoesOn H way (suc n) x) k g
         (λ j h. record { byte = q j h .byte; given = q j h .given; more = λ l. q j h .more (last-down way n j (q j h .byte) l) })
 
-    get-behind : {status count : ℕ} → GoesOn H way (suc n) x 0 → GetEnds H way n (H .reads x .leaves) status count → GetEnds H way (suc n) x status (suc count)
+    get-behind : {status count : ℕ} {y : D} → GoesOn H way (suc n) x 0 → GetEnds H way n (H .reads x .leaves) status count y → GetEnds H way (suc n) x status (suc count) y
     get-behind g (get-refused k status q e) = get-refused (suc k) status (reads-behind g k q) e
     get-behind g (get-whole k byte q e l h) = get-whole (suc k) byte (reads-behind g k q) e (last-up way n k byte l) (λ r. let b = h r in omega arith)
     get-behind g (get-cut k q e r h) = get-cut (suc k) (reads-behind g k q) e r (omega arith)
@@ -116,7 +116,7 @@ module _ {D : Type 0} (H : Acts D) where
   drops-behind : (x : D) → GoesOn H Record 0 x 0 → (k : ℕ) → ReadsTo H Record 0 (H .reads x .leaves) k → ReadsTo H Record 0 x (suc k)
   drops-behind x g k q = before-suc (GoesOn H Record 0 x) k g (λ j h. record { byte = q j h .byte; given = q j h .given; more = q j h .more })
 
-  drop-behind : {status count : ℕ} (x : D) → GoesOn H Record 0 x 0 → GetEnds H Record 0 (H .reads x .leaves) status count → GetEnds H Record 0 x status count
+  drop-behind : {status count : ℕ} {y : D} (x : D) → GoesOn H Record 0 x 0 → GetEnds H Record 0 (H .reads x .leaves) status count y → GetEnds H Record 0 x status count y
   drop-behind x g (get-refused k status q e) = get-refused (suc k) status (drops-behind x g k q) e
   drop-behind x g (get-whole k byte q e l h) = absurd (let b = h refl in omega arith)
   drop-behind x g (get-cut k q e r h) = get-cut (suc k) (drops-behind x g k q) e r (omega arith)
@@ -126,11 +126,11 @@ module _ {D : Type 0} (H : Acts D) where
     GotAs way n x before r = EndsAs (GetEnds H way n x) before r
 
     -- it is refused at once
-    got-refused : (way : Way) (n : ℕ) (x : D) (before : ℕ) (r : TransferEnd D) → H .reads x .says ≡ got.Refused (r .status) → r .count ≡ before → GotAs way n x before r
-    got-refused way n x before r e c = record {
+    got-refused : (way : Way) (n : ℕ) (x : D) (area : List ℕ) (before status : ℕ) → H .reads x .says ≡ got.Refused status → GotAs way n x before (last area (H .reads x .leaves) status before a)
+    got-refused way n x area before status e = record {
       more = placesOf n 0;
       count = omega (arith, places-none n);
-      ends = get-refused 0 (r .status) (none-before (GoesOn H way n x)) e;
+      ends = get-refused 0 status (none-before (GoesOn H way n x)) e;
     }
 
     get-one : (n count : ℕ) (area : List ℕ) (x : D) → n ≡ 0 → GotAs One n x count (getOne H left a count area x)
@@ -142,7 +142,7 @@ module _ {D : Type 0} (H : Acts D) where
           count = rw z (omega arith);
           ends = get-whole 0 byte (none-before (GoesOn H One n x)) e tt (λ r. absurd (one-record r));
         })
-        (λ status e. got-refused One n x count _ e refl)
+        (λ status e. got-refused One n x area count status e)
 
     get-characters : (n place count : ℕ) (area : List ℕ) (x : D) → 0 < n → GotAs Characters n x count (getCharacters H left a n place count area x)
     unfolding getCharacters
@@ -154,7 +154,7 @@ module _ {D : Type 0} (H : Acts D) where
           count = refl;
           ends = get-whole 0 byte (none-before (GoesOn H Characters 1 x)) e refl (λ r. absurd (characters-record r));
         })
-        (λ status e. got-refused Characters 1 x count _ e refl)
+        (λ status e. got-refused Characters 1 x area count status e)
     get-characters (suc (suc n)) place count area x h =
         on-got (GotAs Characters (suc (suc n)) x count) (H .reads x .says) _ _
         (λ byte e.
@@ -164,7 +164,7 @@ module _ {D : Type 0} (H : Acts D) where
           count = omega (arith, t .count);
           ends = get-behind Characters (suc n) x (record { byte = byte; given = e; more = λ l. omega arith }) (t .ends);
         })
-        (λ status e. got-refused Characters (suc (suc n)) x count _ e refl)
+        (λ status e. got-refused Characters (suc (suc n)) x area count status e)
 
     -- the EOL of a record that is cut
     cut-here : (count : ℕ) (area : List ℕ) (x : D) (byte : ℕ) → H .reads x .says ≡ got.Character byte → byte ≡ eol → GotAs Record 0 x count (last area (H .reads x .leaves) 0x89 count a)
@@ -182,7 +182,7 @@ module _ {D : Type 0} (H : Acts D) where
           (λ byte e. by-eq byte eol
           (λ l. cut-here count area x byte e l)
           (λ n. absurd (omega (arith, Z .falls x byte f e n))))
-          (λ status e. got-refused Record 0 x count _ e refl)
+          (λ status e. got-refused Record 0 x area count status e)
       drop-line (suc m) count area x f z =
           on-got (GotAs Record 0 x count) (H .reads x .says) _ _
           (λ byte e. choose-eq (GotAs Record 0 x count) byte eol _ _
@@ -194,7 +194,7 @@ module _ {D : Type 0} (H : Acts D) where
             count = t .count;
             ends = drop-behind x (record { byte = byte; given = e; more = n }) (t .ends);
           }))
-          (λ status e. got-refused Record 0 x count _ e refl)
+          (λ status e. got-refused Record 0 x area count status e)
 
       get-record : (n place count : ℕ) (area : List ℕ) (x : D) → Fit x → GotAs Record n x count (getRecord H left a n place count area x)
       unfolding getRecord
@@ -214,7 +214,7 @@ module _ {D : Type 0} (H : Acts D) where
             count = omega (arith, t .count);
             ends = get-behind Record n x (record { byte = byte; given = e; more = m }) (t .ends);
           }))
-          (λ status e. got-refused Record (suc n) x count _ e refl)
+          (λ status e. got-refused Record (suc n) x area count status e)
 
   -- A PUT's
   module _ (way : Way) (n byte : ℕ) (sent : List ℕ) (x : D) where
@@ -223,46 +223,47 @@ module _ {D : Type 0} (H : Acts D) where
         before-suc (SentOn H way (suc n) (byte ∷ sent) x) k g
         (λ j h. record { taken = q j h .taken; more = λ l. q j h .more (last-down way n j (getD sent j 0) l) })
 
-    put-behind : {status count : ℕ} → SentOn H way (suc n) (byte ∷ sent) x 0 → PutEnds H way n sent (H .writes byte x .leaves) status count → PutEnds H way (suc n) (byte ∷ sent) x status (suc count)
+    put-behind : {status count : ℕ} {y : D} → SentOn H way (suc n) (byte ∷ sent) x 0 → PutEnds H way n sent (H .writes byte x .leaves) status count y → PutEnds H way (suc n) (byte ∷ sent) x status (suc count) y
     put-behind g (put-refused k status q e) = put-refused (suc k) status (writes-behind g k q) e
     put-behind g (put-whole k q e l) = put-whole (suc k) (writes-behind g k q) e (last-up way n k (getD sent k 0) l)
 
-  at-next : {status count : ℕ} (way : Way) (n place : ℕ) (sent : ℕ → List ℕ) (x : D) → PutEnds H way n (sent (place + 1)) x status count → PutEnds H way n (sent (suc place)) x status count
-  at-next {status} {count} way n place sent x e = subst (λ (next : ℕ). PutEnds H way n (sent next) x status count) (one-more place) e
+  at-next : {status count : ℕ} {y : D} (way : Way) (n place : ℕ) (sent : ℕ → List ℕ) (x : D) → PutEnds H way n (sent (place + 1)) x status count y → PutEnds H way n (sent (suc place)) x status count y
+  at-next {status} {count} {y} way n place sent x e = subst (λ (next : ℕ). PutEnds H way n (sent next) x status count y) (one-more place) e
 
   module _ (left : D → ℕ) (a : ℕ) where
     abbrev PutAs : Way → (n : ℕ) → (sent : List ℕ) → D → (before : ℕ) → TransferEnd D → Type 0
     PutAs way n sent x before r = EndsAs (PutEnds H way n sent x) before r
 
-    put-refused-here : (way : Way) (n byte : ℕ) (sent : List ℕ) (x : D) (before : ℕ) (r : TransferEnd D) → H .writes byte x .says ≡ done.Refused (r .status) → r .count ≡ before → PutAs way n (byte ∷ sent) x before r
-    put-refused-here way n byte sent x before r e c = record {
+    put-refused-here : (way : Way) (n byte : ℕ) (sent : List ℕ) (x : D) (area : List ℕ) (before status : ℕ) → H .writes byte x .says ≡ done.Refused status
+        → PutAs way n (byte ∷ sent) x before (last area (H .writes byte x .leaves) status before a)
+    put-refused-here way n byte sent x area before status e = record {
       more = placesOf n 0;
       count = omega (arith, places-none n);
-      ends = put-refused 0 (r .status) (none-before (SentOn H way n (byte ∷ sent) x)) e;
+      ends = put-refused 0 status (none-before (SentOn H way n (byte ∷ sent) x)) e;
     }
 
-    put-last : (way : Way) (n byte : ℕ) (sent : List ℕ) (x : D) (before : ℕ) (r : TransferEnd D) → H .writes byte x .says ≡ done.Success → IsLast way n 0 byte → r .status ≡ 0x01 → r .count ≡ before + placesOf n 1
-        → PutAs way n (byte ∷ sent) x before r
-    put-last way n byte sent x before r e l s c = record {
+    put-last : (way : Way) (n byte : ℕ) (sent : List ℕ) (x : D) (area : List ℕ) (before count : ℕ) → H .writes byte x .says ≡ done.Success → IsLast way n 0 byte → count ≡ before + placesOf n 1
+        → PutAs way n (byte ∷ sent) x before (last area (H .writes byte x .leaves) 0x01 count a)
+    put-last way n byte sent x area before count e l c = record {
       more = placesOf n 1;
       count = c;
-      ends = subst (λ (status : ℕ). PutEnds H way n (byte ∷ sent) x status (placesOf n 1)) (sym s) (put-whole 0 (none-before (SentOn H way n (byte ∷ sent) x)) e l);
+      ends = put-whole 0 (none-before (SentOn H way n (byte ∷ sent) x)) e l;
     }
 
     put-one : (n count : ℕ) (area : List ℕ) (x : D) → n ≡ 0 → PutAs One n (a ∷ []) x count (putOne H left a count area x)
     unfolding putOne
     put-one n count area x z =
         on-done (PutAs One n (a ∷ []) x count) (H .writes a x .says) _ _
-        (λ e. put-last One n a [] x count _ e tt refl (rw z (omega arith)))
-        (λ status e. put-refused-here One n a [] x count _ e refl)
+        (λ e. put-last One n a [] x area count count e tt (rw z (omega arith)))
+        (λ status e. put-refused-here One n a [] x area count status e)
 
     put-characters : (n place count : ℕ) (area : List ℕ) (x : D) → 0 < n → PutAs Characters n (bytesAt area place n) x count (putCharacters H left a n place count area x)
     unfolding putCharacters bytesAt
     put-characters zero place count area x h = absurd (omega arith)
     put-characters (suc zero) place count area x h =
         on-done (PutAs Characters 1 (bytesAt area place 1) x count) (H .writes (getD area place 0) x .says) _ _
-        (λ e. put-last Characters 1 (getD area place 0) [] x count _ e refl refl refl)
-        (λ status e. put-refused-here Characters 1 (getD area place 0) [] x count _ e refl)
+        (λ e. record { more = 1; count = refl; ends = put-whole 0 (none-before (SentOn H Characters 1 (getD area place 0 ∷ []) x)) e refl })
+        (λ status e. put-refused-here Characters 1 (getD area place 0) [] x area count status e)
     put-characters (suc (suc n)) place count area x h =
         let byte = getD area place 0 in
         let sent = bytesAt area (suc place) (suc n) in
@@ -276,20 +277,20 @@ module _ {D : Type 0} (H : Acts D) where
               put-behind Characters (suc n) byte sent x (record { taken = e; more = λ l. omega arith })
               (at-next Characters (suc n) place (λ next. bytesAt area next (suc n)) (H .writes byte x .leaves) (t .ends));
         })
-        (λ status e. put-refused-here Characters (suc (suc n)) byte sent x count _ e refl)
+        (λ status e. put-refused-here Characters (suc (suc n)) byte sent x area count status e)
 
     put-record : (n place count : ℕ) (area : List ℕ) (x : D) → PutAs Record n (bytesAt area place n ++ (eol ∷ [])) x count (putRecord H left a n place count area x)
     unfolding putRecord bytesAt
     put-record zero place count area x =
         on-done (PutAs Record 0 (eol ∷ []) x count) (H .writes eol x .says) _ _
-        (λ e. put-last Record 0 eol [] x count _ e refl refl (omega arith))
-        (λ status e. put-refused-here Record 0 eol [] x count _ e refl)
+        (λ e. put-last Record 0 eol [] x area count count e refl (omega arith))
+        (λ status e. put-refused-here Record 0 eol [] x area count status e)
     put-record (suc n) place count area x =
         let byte = getD area place 0 in
         let sent = bytesAt area (suc place) n ++ (eol ∷ []) in
         on-done (PutAs Record (suc n) (byte ∷ sent) x count) (H .writes byte x .says) _ _
         (λ e. choose-eq (PutAs Record (suc n) (byte ∷ sent) x count) byte eol _ _
-        (λ l. put-last Record (suc n) byte sent x count _ e l refl (omega (arith, places-none n)))
+        (λ l. put-last Record (suc n) byte sent x area count (count + 1) e l (omega (arith, places-none n)))
         (λ m.
         let t = put-record n (place + 1) (count + 1) area (H .writes byte x .leaves) in
         record {
@@ -299,7 +300,7 @@ module _ {D : Type 0} (H : Acts D) where
               put-behind Record n byte sent x (record { taken = e; more = m })
               (at-next Record n place (λ next. bytesAt area next n ++ (eol ∷ [])) (H .writes byte x .leaves) (t .ends));
         }))
-        (λ status e. put-refused-here Record (suc n) byte sent x count _ e refl)
+        (λ status e. put-refused-here Record (suc n) byte sent x area count status e)
 
   module _ (left : D → ℕ) (a : ℕ) where
     getting-ends : (Fit : D → Type 0) (Z : Lines H left Fit) (way : Way) (n place : ℕ) (area : List ℕ) (x : D) → Fit x → LengthFits way n → GotAs left a way n x 0 (getting H left a way n place 0 area x)
@@ -317,17 +318,17 @@ module _ {D : Type 0} (H : Acts D) where
     -- with the status and the count of its reply
     pub get-ends : (Fit : D → Type 0) (Z : Lines H left Fit) (way : Way) (n place : ℕ) (area : List ℕ) (x : D) → Fit x → LengthFits way n
         → let r = getting H left a way n place 0 area x in
-        GetEnds H way n x (r .status) (r .count)
+        GetEnds H way n x (r .status) (r .count) (r .device)
     get-ends Fit Z way n place area x f h =
         let t = getting-ends Fit Z way n place area x f h in
-        subst (GetEnds H way n x _) (omega (arith, t .count)) (t .ends)
+        subst (λ (count : ℕ). GetEnds H way n x (getting H left a way n place 0 area x .status) count (getting H left a way n place 0 area x .device)) (omega (arith, t .count)) (t .ends)
 
     pub put-ends : (way : Way) (n place : ℕ) (area : List ℕ) (x : D) → LengthFits way n
         → let r = putting H left a way n place 0 area x in
-        PutEnds H way n (sentOf way a n area place) x (r .status) (r .count)
+        PutEnds H way n (sentOf way a n area place) x (r .status) (r .count) (r .device)
     put-ends way n place area x h =
         let t = putting-ends way n place area x h in
-        subst (PutEnds H way n (sentOf way a n area place) x _) (omega (arith, t .count)) (t .ends)
+        subst (λ (count : ℕ). PutEnds H way n (sentOf way a n area place) x (putting H left a way n place 0 area x .status) count (putting H left a way n place 0 area x .device)) (omega (arith, t .count)) (t .ends)
 
   -- A transfer ends in one way
   module _ (way : Way) (n : ℕ) (x : D) where
@@ -347,25 +348,27 @@ module _ {D : Type 0} (H : Acts D) where
     abbrev countAt : ℕ → ℕ
     countAt k = onGot (readSays H k x) (λ byte. placesOf n (suc k)) (λ status. placesOf n k)
 
-    pub record EndsAt (status count : ℕ) : Type 0 where
+    pub record EndsAt (status count : ℕ) (left : D) : Type 0 where
       pub k : ℕ
       pub reads : ReadsTo H way n x k
       pub stops : GoesOn H way n x k → ⊥
       pub says-status : status ≡ statusAt k
       pub says-count : count ≡ countAt k
+      pub says-left : left ≡ readTo H (suc k) x
 
     not-cut : (w : Way) (k : ℕ) → (w ≡ Record → k < n) → cutAt w k ≡ 0x01
     not-cut One k h = refl
     not-cut Characters k h = refl
     not-cut Record k h = rw (lt-leb n k (h refl))
 
-    ends-at : {status count : ℕ} → GetEnds H way n x status count → EndsAt status count
+    ends-at : {status count : ℕ} {y : D} → GetEnds H way n x status count y → EndsAt status count y
     ends-at (get-refused k status q e) = record {
       k = k;
       reads = q;
       stops = λ g. omega (arith, ap refusalIn (sym e ∙ g .given));
       says-status = rw e;
       says-count = rw e;
+      says-left = refl;
     }
     ends-at (get-whole k byte q e l h) = record {
       k = k;
@@ -373,6 +376,7 @@ module _ {D : Type 0} (H : Acts D) where
       stops = λ g. g .more (subst (IsLast way n k) (ap characterIn (sym e ∙ g .given)) l);
       says-status = rw (e, not-cut way k h);
       says-count = rw e;
+      says-left = refl;
     }
     ends-at (get-cut k q e r h) = record {
       k = k;
@@ -380,14 +384,17 @@ module _ {D : Type 0} (H : Acts D) where
       stops = λ g. g .more (subst (λ (w : Way). IsLast w n k (g .byte)) (sym r) (sym (ap characterIn (sym e ∙ g .given))));
       says-status = rw (e, r, le-leb n k h);
       says-count = rw e;
+      says-left = refl;
     }
 
-    pub get-once : {status count s c : ℕ} → GetEnds H way n x status count → GetEnds H way n x s c → (status ≡ s) × (count ≡ c)
+    pub get-once : {status count s c : ℕ} {y z : D} → GetEnds H way n x status count y → GetEnds H way n x s c z → (status ≡ s) × ((count ≡ c) × (y ≡ z))
     get-once p q =
         let a = ends-at p in
         let b = ends-at q in
-        let e = same-end (a .k) (b .k) (a .reads) (a .stops) (b .reads) (b .stops) in
-        (a .says-status ∙ ap statusAt e ∙ sym (b .says-status), a .says-count ∙ ap countAt e ∙ sym (b .says-count))
+        let e = same-end (a .k) (b .k) (a .reads) (a .stops) (b .reads) (b .stops) in (
+          a .says-status ∙ ap statusAt e ∙ sym (b .says-status),
+          (a .says-count ∙ ap countAt e ∙ sym (b .says-count), a .says-left ∙ ap (λ (k : ℕ). readTo H (suc k) x) e ∙ sym (b .says-left)),
+        )
 
   module _ (way : Way) (n : ℕ) (sent : List ℕ) (x : D) where
     same-sent : (k j : ℕ) → WritesTo H way n sent x k → (SentOn H way n sent x k → ⊥) → WritesTo H way n sent x j → (SentOn H way n sent x j → ⊥) → k ≡ j
@@ -399,29 +406,33 @@ module _ {D : Type 0} (H : Acts D) where
     abbrev putCount : ℕ → ℕ
     putCount k = onDone (writeSays H sent k x) (λ u. placesOf n (suc k)) (λ status. placesOf n k)
 
-    pub record SentAt (status count : ℕ) : Type 0 where
+    pub record SentAt (status count : ℕ) (left : D) : Type 0 where
       pub k : ℕ
       pub writes : WritesTo H way n sent x k
       pub stops : SentOn H way n sent x k → ⊥
       pub says-status : status ≡ putStatus k
       pub says-count : count ≡ putCount k
+      pub says-left : left ≡ writtenTo H sent (suc k) x
 
-    sent-at : {status count : ℕ} → PutEnds H way n sent x status count → SentAt status count
+    sent-at : {status count : ℕ} {y : D} → PutEnds H way n sent x status count y → SentAt status count y
     sent-at (put-refused k status q e) = record {
       k = k;
       writes = q;
       stops = λ g. omega (arith, ap refusalTo (sym e ∙ g .taken));
       says-status = rw e;
       says-count = rw e;
+      says-left = refl;
     }
-    sent-at (put-whole k q e l) = record { k = k; writes = q; stops = λ g. g .more l; says-status = rw e; says-count = rw e }
+    sent-at (put-whole k q e l) = record { k = k; writes = q; stops = λ g. g .more l; says-status = rw e; says-count = rw e; says-left = refl }
 
-    pub put-once : {status count s c : ℕ} → PutEnds H way n sent x status count → PutEnds H way n sent x s c → (status ≡ s) × (count ≡ c)
+    pub put-once : {status count s c : ℕ} {y z : D} → PutEnds H way n sent x status count y → PutEnds H way n sent x s c z → (status ≡ s) × ((count ≡ c) × (y ≡ z))
     put-once p q =
         let a = sent-at p in
         let b = sent-at q in
-        let e = same-sent (a .k) (b .k) (a .writes) (a .stops) (b .writes) (b .stops) in
-        (a .says-status ∙ ap putStatus e ∙ sym (b .says-status), a .says-count ∙ ap putCount e ∙ sym (b .says-count))
+        let e = same-sent (a .k) (b .k) (a .writes) (a .stops) (b .writes) (b .stops) in (
+          a .says-status ∙ ap putStatus e ∙ sym (b .says-status),
+          (a .says-count ∙ ap putCount e ∙ sym (b .says-count), a .says-left ∙ ap (λ (k : ℕ). writtenTo H sent (suc k) x) e ∙ sym (b .says-left)),
+        )
 
   -- "The reply's A is the request's except after a successful read of length 0."
   module _ (left : D → ℕ) (a : ℕ) where

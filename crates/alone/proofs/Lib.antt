@@ -12,3 +12,4 @@ pub mod Case12
 pub mod Cases
 pub mod Ending
 pub mod Loading
+pub mod Storing

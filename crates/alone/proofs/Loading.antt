@@ -19,7 +19,7 @@ use Rattle.devices.specs.Groups.{Groups}
 use Rattle.plan.specs.Plan.{planIn, planOf}
 use Rattle.alone.specs.Alone.{Local, local, loaded, aloneErrand, alonePlan, aloneOf}
 use Rattle.alone.specs.Fit.{FitLocal}
-use Rattle.alone.specs.Loading.{afterLoad, fetchedAfter, fetchedBefore, LoadRule}
+use Rattle.alone.specs.Loading.{LoadLeaves, afterLoad, fetchedAfter, fetchedBefore, LoadRule}
 
 -- a place before or behind what is stored
 stored-apart : (bytes area : List ℕ) (address place : ℕ) → (place < address) ⊎ (address + length bytes ≤ place) → getD (sets area address bytes) place 0 ≡ getD area place 0
@@ -107,6 +107,21 @@ module _ (l : Local) (s : Groups) (address : ℕ) (bytes : List ℕ) where
         let e : from + k ≡ address + (from - address + k) = omega arith in
         ap (λ (place : ℕ). getD stored place 0) e
         ∙ stored-at bytes (l .area) address (from - address + k) (omega (arith, fl .area)) (omega arith))
+
+    load-apart : (i : ℕ) → (i < address) ⊎ (address + length bytes ≤ i) → getD area i 0 ≡ getD (l .area) i 0
+    load-apart i h =
+        by-lt 16384 (address + length bytes)
+        (λ g. ap (λ (half : List ℕ). getD half i 0) (load-past g))
+        (λ g. ap (λ (half : List ℕ). getD half i 0) (load-fits g) ∙ stored-apart bytes (l .area) address i h)
+
+    pub load-leaves : LoadLeaves l address bytes (afterLoad l s address bytes .local)
+    unfolding aloneOf planOf planIn alonePlan aloneErrand
+    load-leaves = record {
+      stored = λ h k g. ap (λ (half : List ℕ). getD half (address + k) 0) (load-fits h) ∙ stored-at bytes (l .area) address k (omega (arith, fl .area, h)) g;
+      apart = load-apart;
+      past = λ h. ap (λ (half : List ℕ). local (l .number) (l .table) half) (load-past h);
+      blocks = refl;
+    }
 
     pub load-rule : LoadRule l s address bytes
     unfolding aloneOf planOf planIn alonePlan aloneErrand

@@ -1,9 +1,11 @@
 -- Document 01, Transfers, said a second time, and of the end alone: which character is a transfer's last, with which status it ends,
--- and how many characters are counted; by what the handler says to one character after the other.
+-- how many characters are counted, what is stored, and the device that is left; by what the handler says to one character after the
+-- other.
 -- Assumes nothing.
 use mathlib.Core.Path.{_≡_}
+use mathlib.Core.Logic.{_⊎_}
 use mathlib.Core.List.{List, [], _∷_, _++_}
-use Prim.Native.Nat.{ℕ, zero, suc, _≤_, _<_}
+use Prim.Native.Nat.{ℕ, zero, suc, _+_, _≤_, _<_}
 use lib.ListN.{getD}
 use Rattle.handler.specs.declared.Done.{Done}
 use Rattle.handler.specs.declared.Done.the-variants as done
@@ -48,12 +50,20 @@ module _ {D : Type 0} (H : Acts D) where
     abbrev pub ReadsTo : ℕ → Type 0
     ReadsTo k = (j : ℕ) → j < k → GoesOn j
 
-    pub data GetEnds : (status count : ℕ) → Type 0 where
+    -- the device is left as the handler leaves it after its last character
+    pub data GetEnds : (status count : ℕ) → (left : D) → Type 0 where
       -- "A handler status from $80 ends the request; its character is neither stored nor counted."
-      get-refused : (k status : ℕ) → ReadsTo k → readSays k x ≡ got.Refused status → GetEnds status (placesOf n k)
-      get-whole : (k byte : ℕ) → ReadsTo k → readSays k x ≡ got.Character byte → IsLast way n k byte → (way ≡ Record → k < n) → GetEnds 0x01 (placesOf n (suc k))
+      get-refused : (k status : ℕ) → ReadsTo k → readSays k x ≡ got.Refused status → GetEnds status (placesOf n k) (readTo (suc k) x)
+      -- "$01 success", with the last character; of a record with a place for its EOL
+      get-whole : (k byte : ℕ) → ReadsTo k → readSays k x ≡ got.Character byte → IsLast way n k byte → (way ≡ Record → k < n)
+          → GetEnds 0x01 (placesOf n (suc k)) (readTo (suc k) x)
       -- "With n stored and no EOL, characters are dropped through the EOL, then $89, count n."
-      get-cut : (k : ℕ) → ReadsTo k → readSays k x ≡ got.Character eol → way ≡ Record → n ≤ k → GetEnds 0x89 (placesOf n (suc k))
+      get-cut : (k : ℕ) → ReadsTo k → readSays k x ≡ got.Character eol → way ≡ Record → n ≤ k → GetEnds 0x89 (placesOf n (suc k)) (readTo (suc k) x)
+
+  -- "bytes stored into .. the area": from this place on as many as are counted, and nothing else
+  pub record Stores (x : D) (place count : ℕ) (area after : List ℕ) : Type 0 where
+    pub stored : (k byte : ℕ) → k < count → readSays k x ≡ got.Character byte → getD after (place + k) 0 ≡ byte
+    pub apart : (i : ℕ) → (i < place) ⊎ (place + count ≤ i) → getD after i 0 ≡ getD area i 0
 
 -- what a PUT sends at most: A; the buffer's bytes; of a record "after n without one, one EOL more"
 abbrev pub sentOf : Way → (a n : ℕ) → (area : List ℕ) → (address : ℕ) → List ℕ
@@ -81,6 +91,7 @@ module _ {D : Type 0} (H : Acts D) where
     WritesTo k = (j : ℕ) → j < k → SentOn j
 
     -- the EOL more is "not counted": it has no place in the buffer
-    pub data PutEnds : (status count : ℕ) → Type 0 where
-      put-refused : (k status : ℕ) → WritesTo k → writeSays sent k x ≡ done.Refused status → PutEnds status (placesOf n k)
-      put-whole : (k : ℕ) → WritesTo k → writeSays sent k x ≡ done.Success → IsLast way n k (getD sent k 0) → PutEnds 0x01 (placesOf n (suc k))
+    pub data PutEnds : (status count : ℕ) → (left : D) → Type 0 where
+      put-refused : (k status : ℕ) → WritesTo k → writeSays sent k x ≡ done.Refused status → PutEnds status (placesOf n k) (writtenTo sent (suc k) x)
+      put-whole : (k : ℕ) → WritesTo k → writeSays sent k x ≡ done.Success → IsLast way n k (getD sent k 0)
+          → PutEnds 0x01 (placesOf n (suc k)) (writtenTo sent (suc k) x)

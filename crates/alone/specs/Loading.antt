@@ -1,13 +1,22 @@
--- Document 01, LOAD and FETCH, said a second time: what was loaded is fetched, to the area's last byte, and nothing else has changed.
+-- Document 01, LOAD, said a second time: its data stand in the area, to the area's last byte, and nothing else has changed; and what was
+-- loaded is fetched.
 -- Assumes nothing.
 use mathlib.Core.Path.{_≡_}
 use mathlib.Core.Logic.{_⊎_}
 use mathlib.Core.List.{List, _∷_}
 use Prim.Native.Nat.{ℕ, _+_, _-_, _<_, _≤_}
-use lib.ListN.{length}
+use lib.ListN.{length, getD}
 use Rattle.replies.specs.Replies.{fieldOf, bytesAt}
 use Rattle.devices.specs.Groups.{Groups}
 use Rattle.alone.specs.Alone.{load, fetch, Local, Alone, aloneOf}
+
+-- what a LOAD leaves of its port's own data: "a 16,384-byte area"
+pub record LoadLeaves (l : Local) (address : ℕ) (bytes : List ℕ) (after : Local) : Type 0 where
+  pub stored : address + length bytes ≤ 16384 → (k : ℕ) → k < length bytes → getD (after .area) (address + k) 0 ≡ getD bytes k 0
+  pub apart : (i : ℕ) → (i < address) ⊎ (address + length bytes ≤ i) → getD (after .area) i 0 ≡ getD (l .area) i 0
+  -- "LOAD or FETCH past the area: $B0, area unchanged"
+  pub past : 16384 < address + length bytes → after ≡ l
+  pub blocks : after .table ≡ l .table
 
 module _ (l : Local) (s : Groups) (address : ℕ) (bytes : List ℕ) where
   abbrev pub afterLoad : Alone

@@ -19,7 +19,7 @@ use Rattle.blocks.specs.declared.Letter.the-variants.{Unknown, Known}
 use Rattle.blocks.specs.declared.Specification.{Specification}
 use Rattle.blocks.specs.declared.Specification.the-variants.{Refused, Names}
 use Rattle.blocks.specs.Opening.{areaLength, letterOf, deviceOf, needed, colonOf, numberOf, namedOf, specificationOf, offersOf}
-use Rattle.blocks.specs.Specified.{KnownLetter, IsDigit, behind, Specified, unnumbered, numbered, Malformed, unknown-letter, neither-digit-nor-colon, no-colon, NeededPast, letter-past, next-past, colon-past, Specifies, NotOffered}
+use Rattle.blocks.specs.Specified.{KnownLetter, NumberDigit, behind, Specified, unnumbered, numbered, Malformed, unknown-letter, neither-number-nor-colon, no-colon, NeededPast, letter-past, next-past, colon-past, Specifies, NotOffered}
 use Rattle.blocks.proofs.Keeps.{device-letter}
 
 -- "a 16,384-byte area"
@@ -44,7 +44,7 @@ by-letter byte p q =
     none : (byte ≡ 0x45 → ⊥) → (byte ≡ 0x53 → ⊥) → (byte ≡ 0x4B → ⊥) → (byte ≡ 0x50 → ⊥) → KnownLetter byte → ⊥
     none e s k o l = other (l .device) e s k o (l .letter)
 
-by-digit : {P : Type 0} (byte : ℕ) → (IsDigit byte → P) → ((IsDigit byte → ⊥) → P) → P
+by-digit : {P : Type 0} (byte : ℕ) → (NumberDigit byte → P) → ((NumberDigit byte → ⊥) → P) → P
 by-digit byte p q =
     by-lt byte 0x31
     (λ h. q (λ d. omega (arith, d .digit, d .low)))
@@ -61,13 +61,13 @@ unknown-device byte n =
 known-device : (byte : ℕ) (device : Device) → byte ≡ letterOf device → deviceOf byte ≡ Known device
 known-device byte device e = ap deviceOf e ∙ device-letter device
 
-digit-within : (byte : ℕ) → IsDigit byte → within 0x31 0x38 byte ≡ true
+digit-within : (byte : ℕ) → NumberDigit byte → within 0x31 0x38 byte ≡ true
 digit-within byte d =
     let l : 0x31 ≤ byte = omega (arith, d .digit, d .low) in
     let h : byte ≤ 0x38 = omega (arith, d .digit, d .high) in
     rw (le-leb 0x31 byte l, le-leb byte 0x38 h)
 
-no-digit : (byte : ℕ) → (IsDigit byte → ⊥) → within 0x31 0x38 byte ≡ false
+no-digit : (byte : ℕ) → (NumberDigit byte → ⊥) → within 0x31 0x38 byte ≡ false
 no-digit byte n =
     by-lt byte 0x31
     (λ h. rw (lt-leb 0x31 byte h))
@@ -75,7 +75,7 @@ no-digit byte n =
     (λ k. rw (lt-leb byte 0x38 k, and-false (leb 0x31 byte)))
     (λ k. absurd (n (record { number = byte - 0x30; low = omega arith; high = omega arith; digit = omega arith }))))
 
-colon-digit : (byte : ℕ) → byte ≡ 0x3A → IsDigit byte → ⊥
+colon-digit : (byte : ℕ) → byte ≡ 0x3A → NumberDigit byte → ⊥
 colon-digit byte e d = omega (arith, d .digit, d .high)
 
 -- one more than the status of a refusal
@@ -103,7 +103,7 @@ module _ (half : List ℕ) (address : ℕ) where
   nexted : (device : Device) → address + 1 < areaLength → behind half address 0 ≡ letterOf device → says ≡ numberOf half device (address + 1 + 1) (behind half address 1)
   nexted device h e = lettered device (omega arith) e ∙ rw (lt-ltb (address + 1) areaLength h)
 
-  digited : (device : Device) (d : IsDigit (behind half address 1)) → address + 1 < areaLength → behind half address 0 ≡ letterOf device
+  digited : (device : Device) (d : NumberDigit (behind half address 1)) → address + 1 < areaLength → behind half address 0 ≡ letterOf device
       → says ≡ needed half (address + 2) (colonOf device (behind half address 1 - 0x30))
   unfolding numberOf
   digited device d h e = nexted device h e ∙ rw (digit-within (behind half address 1) d, two)
@@ -120,7 +120,7 @@ module _ (half : List ℕ) (address : ℕ) where
   malformed : Malformed half address → says ≡ Refused 0x82
   unfolding specificationOf namedOf numberOf
   malformed (unknown-letter h n) = rw (lt-ltb address areaLength h, unknown-device (getD half address 0) (λ k. n (subst KnownLetter first k)))
-  malformed (neither-digit-nor-colon h k d c) =
+  malformed (neither-number-nor-colon h k d c) =
       nexted (k .device) h (k .letter) ∙ rw (no-digit (behind half address 1) d, ne-eqb (behind half address 1) 0x3A c)
   malformed (no-colon h k d c) =
       digited (k .device) d (omega arith) (k .letter) ∙ rw (lt-ltb (address + 2) areaLength h, ne-eqb (behind half address 2) 0x3A c)
@@ -150,7 +150,7 @@ module _ (half : List ℕ) (address : ℕ) where
       (λ f. is-past (colon-past g f k d)))
       (λ d. by-eq (behind half address 1) 0x3A
       (λ c. is-specified (k .device) 1 (unnumbered (k .device) g (k .letter) c))
-      (λ c. is-malformed (neither-digit-nor-colon g k d c))))
+      (λ c. is-malformed (neither-number-nor-colon g k d c))))
       (λ g. is-past (next-past h g k)))
       (λ k. is-malformed (unknown-letter h k)))
       (λ h. is-past (letter-past h))

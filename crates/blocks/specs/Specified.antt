@@ -20,7 +20,7 @@ pub record KnownLetter (byte : ℕ) : Type 0 where
   pub letter : byte ≡ letterOf device
 
 -- "a digit 1 to 8"
-pub record IsDigit (byte : ℕ) : Type 0 where
+pub record NumberDigit (byte : ℕ) : Type 0 where
   pub number : ℕ
   pub low : 1 ≤ number
   pub high : number ≤ 8
@@ -40,14 +40,14 @@ module _ (half : List ℕ) (address : ℕ) where
   pub data Malformed : Type 0 where
     -- "An unknown letter is $82 before more is read"
     unknown-letter : address < areaLength → (KnownLetter (behind 0) → ⊥) → Malformed
-    neither-digit-nor-colon : address + 1 < areaLength → KnownLetter (behind 0) → (IsDigit (behind 1) → ⊥) → (behind 1 ≡ 0x3A → ⊥) → Malformed
-    no-colon : address + 2 < areaLength → KnownLetter (behind 0) → IsDigit (behind 1) → (behind 2 ≡ 0x3A → ⊥) → Malformed
+    neither-number-nor-colon : address + 1 < areaLength → KnownLetter (behind 0) → (NumberDigit (behind 1) → ⊥) → (behind 1 ≡ 0x3A → ⊥) → Malformed
+    no-colon : address + 2 < areaLength → KnownLetter (behind 0) → NumberDigit (behind 1) → (behind 2 ≡ 0x3A → ⊥) → Malformed
 
   -- "a needed byte past the area"
   pub data NeededPast : Type 0 where
     letter-past : areaLength ≤ address → NeededPast
     next-past : address < areaLength → areaLength ≤ address + 1 → KnownLetter (behind 0) → NeededPast
-    colon-past : address + 1 < areaLength → areaLength ≤ address + 2 → KnownLetter (behind 0) → IsDigit (behind 1) → NeededPast
+    colon-past : address + 1 < areaLength → areaLength ≤ address + 2 → KnownLetter (behind 0) → NumberDigit (behind 1) → NeededPast
 
   pub record Specifies (s : Specification) : Type 0 where
     pub names : (device : Device) (number : ℕ) → (s ≡ Names device number) ↔ Specified device number
@@ -58,7 +58,7 @@ module _ (half : List ℕ) (address : ℕ) where
     pub numbers : (status : ℕ) → s ≡ Refused status → (status ≡ 0x82 → ⊥) → status ≡ 0xB0
 
 -- "AUX1: R is 4, W is 8. K offers R, P offers W, E and S both; an AUX1 with neither bit is accepted. E with R needs bit 0, forced
--- read. Other bits do not refuse"
+-- read (house). Other bits do not refuse, save S's bit 4.": that one is the mode's
 abbrev pub NotOffered : Device → (aux1 : ℕ) → Type 0
 NotOffered E aux1 = (bit 4 aux1 ≡ true) × (bit 1 aux1 ≡ false)
 NotOffered S aux1 = ⊥

@@ -35,6 +35,7 @@ use Rattle.console.specs.Group.{ConsoleGroup, group, freshGroup, withKey
 use Rattle.console.specs.Handlers.{textOf, withText, pictureOf, withPicture, openS, openOf, readE, readS, readK, readOf, writeE, writeS, writeOf, consoleActs}
 use Rattle.console.specs.Fit.{FitGroup}
 use Rattle.console.proofs.Keeps.{text-fits, fits-of}
+use Rattle.console.specs.Back.{LineRule, PictureRule, KeyRule}
 
 -- E's part of the group, and S's
 text-part : PartOf Text ConsoleGroup textOf withText
@@ -153,3 +154,13 @@ module _ (asked : Asked) (code : ℕ) (g : ConsoleGroup) where
   pub press-only-K : consoleActs K asked .reads pressed .leaves ≡ group (withKeyboard (consoleActs K asked .reads pressed .leaves .console .keyboard) (g .console)) (g .screen)
   unfolding readOf readK
   press-only-K = refl
+
+-- the whole sentences
+pub line-rule : LineRule
+line-rule = line-back-E
+
+pub picture-rule : PictureRule
+picture-rule first asked bytes g w m same b c k l d = (opened-S first asked bytes g w m same b c k l d, got-back-S first asked bytes g w m same b c k l d)
+
+pub key-rule : KeyRule
+key-rule asked code g f = (press-got-K asked code g f, press-alone-K asked code g)

@@ -1,3 +1,4 @@
 pub mod Group
 pub mod Handlers
 pub mod Fit
+pub mod Back

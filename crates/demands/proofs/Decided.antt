@@ -279,13 +279,20 @@ use Rattle.devices.proofs.Decided as devices
 use Rattle.judge.proofs.undamaged.Kinds as judge-undamaged-kinds
 use Rattle.judge.proofs.undamaged.Reads as judge-undamaged-reads
 use Rattle.judge.proofs.Decided as judge
-use Rattle.plan.proofs.iocb_of.Kinds as plan-iocb-of-kinds
-use Rattle.plan.proofs.iocb_of.Reads as plan-iocb-of-reads
-use Rattle.plan.proofs.plan_in.Kinds as plan-plan-in-kinds
-use Rattle.plan.proofs.plan_in.Reads as plan-plan-in-reads
+use Rattle.plan.proofs.planned.Kinds as plan-planned-kinds
+use Rattle.plan.proofs.planned.Reads as plan-planned-reads
+use Rattle.plan.proofs.open_plan.Kinds as plan-open-plan-kinds
+use Rattle.plan.proofs.open_plan.Reads as plan-open-plan-reads
+use Rattle.plan.proofs.transfer_plan.Kinds as plan-transfer-plan-kinds
+use Rattle.plan.proofs.transfer_plan.Reads as plan-transfer-plan-reads
 use Rattle.plan.proofs.group_needed.Kinds as plan-group-needed-kinds
 use Rattle.plan.proofs.group_needed.Reads as plan-group-needed-reads
 use Rattle.plan.proofs.Decided as plan
+use Rattle.checks.proofs.iocb_of.Kinds as checks-iocb-of-kinds
+use Rattle.checks.proofs.iocb_of.Reads as checks-iocb-of-reads
+use Rattle.checks.proofs.plan_in.Kinds as checks-plan-in-kinds
+use Rattle.checks.proofs.plan_in.Reads as checks-plan-in-reads
+use Rattle.checks.proofs.Decided as checks
 use Rattle.moves.proofs.advance.Kinds as moves-advance-kinds
 use Rattle.moves.proofs.advance.Reads as moves-advance-reads
 use Rattle.moves.proofs.Decided as moves
@@ -519,13 +526,19 @@ judge-decided =
 
 pub plan-decided : Promises
 plan-decided =
-    promise 0 plan-iocb-of-kinds.ps plan-iocb-of-kinds.r plan-iocb-of-reads.Pre plan-iocb-of-reads.Learnt plan.iocb-of-decides plan.iocb-of-allows (
-    promise 1 plan-plan-in-kinds.ps plan-plan-in-kinds.r plan-plan-in-reads.Pre plan-plan-in-reads.Learnt plan.plan-in-decides plan.plan-in-allows (
-    promise 0 plan-group-needed-kinds.ps plan-group-needed-kinds.r plan-group-needed-reads.Pre plan-group-needed-reads.Learnt plan.group-needed-decides plan.group-needed-allows judge-decided))
+    promise 0 plan-planned-kinds.ps plan-planned-kinds.r plan-planned-reads.Pre plan-planned-reads.Learnt plan.planned-decides plan.planned-allows (
+    promise 1 plan-open-plan-kinds.ps plan-open-plan-kinds.r plan-open-plan-reads.Pre plan-open-plan-reads.Learnt plan.open-plan-decides plan.open-plan-allows (
+    promise 0 plan-transfer-plan-kinds.ps plan-transfer-plan-kinds.r plan-transfer-plan-reads.Pre plan-transfer-plan-reads.Learnt plan.transfer-plan-decides plan.transfer-plan-allows (
+    promise 0 plan-group-needed-kinds.ps plan-group-needed-kinds.r plan-group-needed-reads.Pre plan-group-needed-reads.Learnt plan.group-needed-decides plan.group-needed-allows judge-decided)))
+
+pub checks-decided : Promises
+checks-decided =
+    promise 0 checks-iocb-of-kinds.ps checks-iocb-of-kinds.r checks-iocb-of-reads.Pre checks-iocb-of-reads.Learnt checks.iocb-of-decides checks.iocb-of-allows (
+    promise 1 checks-plan-in-kinds.ps checks-plan-in-kinds.r checks-plan-in-reads.Pre checks-plan-in-reads.Learnt checks.plan-in-decides checks.plan-in-allows plan-decided)
 
 pub moves-decided : Promises
 moves-decided =
-    promise 4 moves-advance-kinds.ps moves-advance-kinds.r moves-advance-reads.Pre moves-advance-reads.Learnt moves.advance-decides moves.advance-allows plan-decided
+    promise 4 moves-advance-kinds.ps moves-advance-kinds.r moves-advance-reads.Pre moves-advance-reads.Learnt moves.advance-decides moves.advance-allows checks-decided
 
 pub cio-decided : Promises
 cio-decided =

@@ -1,5 +1,6 @@
--- The page's calls are those of the compiled routines: whoever calls the routine of a function that C calls need show nothing, and is
--- told the very claim that the page's calls are made of (`Told.antt`). The routine is what the compiler is handed.
+-- A call of the compiled routine of a function that C calls is one of the page's calls (`Told.antt`): whoever makes it need show nothing,
+-- and is told the very claim that the page's calls are made of. (That some outcome is allowed, and one, is `Decided`. That the compiler is
+-- handed this routine, and keeps it, is the toolchain's.)
 -- Assumes nothing.
 use mathlib.Core.Path.{_≡_}
 use mathlib.Core.List.{List}

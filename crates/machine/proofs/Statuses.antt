@@ -15,13 +15,12 @@ use Rattle.devices.specs.Fit.{FitGroups}
 use Rattle.plan.specs.Plan.{planIn, planOf}
 use Rattle.alone.specs.Alone.{Said, call, load, fetch, bad, saidOf, Local, aloneErrand, alonePlan, aloneOf}
 use Rattle.alone.specs.Fit.{FitLocal}
-use Rattle.alone.proofs.Loading.{load-rule}
 use Rattle.serial.specs.Machine.{Port, port-0, port-1, Two, at, set}
 use Rattle.serial.specs.Core.{replying, PortView, View, localAt, Core}
 use Rattle.serial.specs.Undamaged.{NeverDamaged}
 use Rattle.serial.specs.Demand2.{AloneRule}
 use Rattle.serial.specs.Demand3.{bytesOf}
-use Rattle.rules.proofs.Statuses.{call-statuses, call-replies, call-blocks, call-shape, call-needs, load-statuses, fetch-statuses}
+use Rattle.rules.proofs.Statuses.{call-statuses, call-replies, call-blocks, call-shape, call-needs, load-replies, fetch-replies}
 use Rattle.machine.specs.Spells.{saidBy, Spells}
 use Rattle.machine.specs.Real.{replyBy, real}
 use Rattle.machine.specs.Statuses.{Replies, RepliesWith, StatusRule, FieldRule, FieldsRule, NeedsRule}
@@ -38,25 +37,25 @@ whole-reply (load address bytes) l s fl fg = refl
 whole-reply (fetch address count) l s fl fg = refl
 whole-reply (bad status) l s fl fg = refl
 
-replies : (m : Said) (l : Local) (s : Groups) → FitLocal l → FitGroups s → Replies m l s (aloneOf m l s .local) (aloneOf m l s .reply)
+replies : (m : Said) (l : Local) (s : Groups) → FitLocal l → FitGroups s → Replies m l s (aloneOf m l s .local) (aloneOf m l s .groups) (aloneOf m l s .reply)
 unfolding aloneOf planOf planIn alonePlan aloneErrand
 replies (call c) l s fl fg = (call-statuses c l s fl fg, (call-replies c l s fl fg, call-blocks c l s fl fg))
-replies (load address bytes) l s fl fg = (load-statuses address bytes l s, load-rule l s address bytes fl)
-replies (fetch address count) l s fl fg = fetch-statuses address count l s
-replies (bad status) l s fl fg = refl
+replies (load address bytes) l s fl fg = (load-replies address bytes l s fl, refl)
+replies (fetch address count) l s fl fg = (fetch-replies address count l s, (refl, refl))
+replies (bad status) l s fl fg = (refl, (refl, refl))
 
 -- a port that has been set
 set-at : (p : Port) (x : PortView real) (t : Two (PortView real)) → at p (set p x t) ≡ x
 set-at port-0 x t = refl
 set-at port-1 x t = refl
 
--- the port after a request that is done as it is done alone
+-- the port and the devices after a request that is done as it is done alone
 done-alone : (m : Said) (l : Local) (s : Groups) → FitLocal l → FitGroups s
-    → RepliesWith m l s (record { local = aloneOf m l s .local; phase = replying (replyBy (aloneOf m l s .reply)) })
+    → RepliesWith m l s (record { local = aloneOf m l s .local; phase = replying (replyBy (aloneOf m l s .reply)) }) (aloneOf m l s .groups)
 done-alone m l s fl fg = record {
   reply = replyBy (aloneOf m l s .reply);
   made = refl;
-  says = subst (Replies m l s (aloneOf m l s .local)) (sym (whole-reply m l s fl fg)) (replies m l s fl fg);
+  says = subst (Replies m l s (aloneOf m l s .local) (aloneOf m l s .groups)) (sym (whole-reply m l s fl fg)) (replies m l s fl fg);
 }
 
 pub statuses : (C : Core real) → AloneRule real C → NeverDamaged real C → StatusRule C
@@ -65,9 +64,10 @@ statuses C alone u w r p m e n =
     let l = localAt real p v in
     let f = u w r .fit in
     let own : PortView real = record { local = aloneOf m l (v .devs) .local; phase = replying (replyBy (aloneOf m l (v .devs) .reply)) } in
-    subst (RepliesWith m l (v .devs))
-    (sym (ap (λ (view : View real). at p (view .ports)) (alone w r p m e n) ∙ set-at p own (v .ports)))
-    (done-alone m l (v .devs) (fit-mine p v f) (f .groups))
+    let stands = alone w r p m e n in
+    subst (λ (view : View real). RepliesWith m l (v .devs) (at p (view .ports)) (view .devs)) (sym stands)
+    (subst (λ (port : PortView real). RepliesWith m l (v .devs) port (aloneOf m l (v .devs) .groups)) (sym (set-at p own (v .ports)))
+    (done-alone m l (v .devs) (fit-mine p v f) (f .groups)))
 
 pub needs : NeedsRule
 unfolding planOf planIn

@@ -2,24 +2,32 @@
 -- Assumes nothing.
 use mathlib.Core.Path.{refl, sym, _∙_}
 use Rattle.base.specs.Decides.{Decides, Allows}
-use Rattle.plan.proofs.iocb_of.Kinds as iocb-of-kinds
-use Rattle.plan.proofs.iocb_of.Reads as iocb-of-reads
-use Rattle.plan.proofs.plan_in.Kinds as plan-in-kinds
-use Rattle.plan.proofs.plan_in.Reads as plan-in-reads
+use Rattle.plan.proofs.planned.Kinds as planned-kinds
+use Rattle.plan.proofs.planned.Reads as planned-reads
+use Rattle.plan.proofs.open_plan.Kinds as open-plan-kinds
+use Rattle.plan.proofs.open_plan.Reads as open-plan-reads
+use Rattle.plan.proofs.transfer_plan.Kinds as transfer-plan-kinds
+use Rattle.plan.proofs.transfer_plan.Reads as transfer-plan-reads
 use Rattle.plan.proofs.group_needed.Kinds as group-needed-kinds
 use Rattle.plan.proofs.group_needed.Reads as group-needed-reads
 
-pub iocb-of-decides : Decides 0 iocb-of-kinds.ps iocb-of-kinds.r iocb-of-reads.Pre iocb-of-reads.Learnt
-iocb-of-decides κs a z z′ ws ws′ p e e′ = (e ∙ sym e′, refl)
+pub planned-decides : Decides 0 planned-kinds.ps planned-kinds.r planned-reads.Pre planned-reads.Learnt
+planned-decides κs a z z′ ws ws′ p e e′ = (e ∙ sym e′, refl)
 
-pub iocb-of-allows : Allows 0 iocb-of-kinds.ps iocb-of-kinds.r iocb-of-reads.Pre iocb-of-reads.Learnt
-iocb-of-allows κs a p = (_, (_, refl))
+pub planned-allows : Allows 0 planned-kinds.ps planned-kinds.r planned-reads.Pre planned-reads.Learnt
+planned-allows κs a p = (_, (_, refl))
 
-pub plan-in-decides : Decides 1 plan-in-kinds.ps plan-in-kinds.r plan-in-reads.Pre plan-in-reads.Learnt
-plan-in-decides κs a z z′ ws ws′ p e e′ = (e ∙ sym e′, refl)
+pub open-plan-decides : Decides 1 open-plan-kinds.ps open-plan-kinds.r open-plan-reads.Pre open-plan-reads.Learnt
+open-plan-decides κs a z z′ ws ws′ p e e′ = (e ∙ sym e′, refl)
 
-pub plan-in-allows : Allows 1 plan-in-kinds.ps plan-in-kinds.r plan-in-reads.Pre plan-in-reads.Learnt
-plan-in-allows κs a p = (_, (_, refl))
+pub open-plan-allows : Allows 1 open-plan-kinds.ps open-plan-kinds.r open-plan-reads.Pre open-plan-reads.Learnt
+open-plan-allows κs a p = (_, (_, refl))
+
+pub transfer-plan-decides : Decides 0 transfer-plan-kinds.ps transfer-plan-kinds.r transfer-plan-reads.Pre transfer-plan-reads.Learnt
+transfer-plan-decides κs a z z′ ws ws′ p e e′ = (e ∙ sym e′, refl)
+
+pub transfer-plan-allows : Allows 0 transfer-plan-kinds.ps transfer-plan-kinds.r transfer-plan-reads.Pre transfer-plan-reads.Learnt
+transfer-plan-allows κs a p = (_, (_, refl))
 
 pub group-needed-decides : Decides 0 group-needed-kinds.ps group-needed-kinds.r group-needed-reads.Pre group-needed-reads.Learnt
 group-needed-decides κs a z z′ ws ws′ p e e′ = (e ∙ sym e′, refl)

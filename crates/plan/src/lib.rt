@@ -1,16 +1,12 @@
-// The checks that come before the group, in their order: what a message comes to.
-use blocks::BlockState;
-use blocks::ControlBlock;
+// What the checks before the group come to: a status at once, or work on a device; the checks of a specification and of a buffer.
 use blocks::Device;
 use blocks::Kind;
 use blocks::Specification;
-use commands::Command;
 use devices::Group;
 use wire::Call;
-use wire::Message;
 ghost use mathlib.Core.Path.{_≡_};
 ghost use Rattle.blocks.specs.Opening.{specificationOf};
-ghost use Rattle.plan.specs.Plan.{plannedOf, nameOf, openPlan, areaPlan, transferPlan, blockPlan, callPlan, iocbOf, planIn, groupNeeded};
+ghost use Rattle.plan.specs.Plan.{plannedOf, nameOf, openPlan, areaPlan, transferPlan, groupNeeded};
 
 // What follows an opening: the block stays open, or GET STATUS or SPECIAL answers and it is closed again.
 pub enum After {
@@ -49,7 +45,7 @@ pub enum Plan {
 }
 
 // Work on a device.
-fn planned(device: Device, work: Work, call: Call) -> Plan
+pub fn planned(device: Device, work: Work, call: Call) -> Plan
     ensures { λ r. ⌜ r ≡ plannedOf device work call ⌝ }
 {
     let job = Job {
@@ -71,7 +67,7 @@ fn name_at(half: &[u8], address: u16) -> u32
 }
 
 // An opening by its device specification.
-fn open_plan(after: After, half: &[u8], call: Call) -> Plan
+pub fn open_plan(after: After, half: &[u8], call: Call) -> Plan
     ensures { λ r. ⌜ r ≡ openPlan after (specificationOf (now (half .entry)) (call .address)) (now (half .entry)) call ⌝ }
 {
     let specification = blocks::specification_at(half, call.address);
@@ -102,7 +98,7 @@ fn area_plan(reads: bool, records: bool, device: Device, call: Call) -> Plan
 }
 
 // The direction is one that the block was opened for.
-fn transfer_plan(reads: bool, records: bool, device: Device, aux1: u8, call: Call) -> Plan
+pub fn transfer_plan(reads: bool, records: bool, device: Device, aux1: u8, call: Call) -> Plan
     ensures { λ r. ⌜ r ≡ transferPlan reads records device aux1 call ⌝ }
 {
     if reads {
@@ -115,90 +111,6 @@ fn transfer_plan(reads: bool, records: bool, device: Device, aux1: u8, call: Cal
         return area_plan(reads, records, device, call);
     }
     Plan::Free(Errand::Status(0x87, call.a))
-}
-
-fn block_plan(command: Command, block: ControlBlock, call: Call, half: &[u8]) -> Plan
-    ensures { λ r. ⌜ r ≡ blockPlan command (block .state) call (now (half .entry)) ⌝ }
-{
-    let state = block.state;
-    match command {
-        Command::Bad => Plan::Free(Errand::Status(0x84, call.a)),
-        Command::Open => match state {
-            BlockState::Closed => open_plan(After::Stay, half, call),
-            BlockState::Open {
-                device,
-                number,
-                aux1,
-            } => Plan::Free(Errand::Status(0x81, call.a)),
-        },
-        Command::Close => match state {
-            BlockState::Closed => Plan::Free(Errand::Status(0x01, call.a)),
-            BlockState::Open {
-                device,
-                number,
-                aux1,
-            } => planned(device, Work::Close, call),
-        },
-        Command::Status => match state {
-            BlockState::Closed => open_plan(After::Status, half, call),
-            BlockState::Open {
-                device,
-                number,
-                aux1,
-            } => planned(device, Work::Status, call),
-        },
-        Command::Special => match state {
-            BlockState::Closed => open_plan(After::Special, half, call),
-            BlockState::Open {
-                device,
-                number,
-                aux1,
-            } => planned(device, Work::Special, call),
-        },
-        Command::Transfer { reads, records } => match state {
-            BlockState::Closed => Plan::Free(Errand::Status(0x85, call.a)),
-            BlockState::Open {
-                device,
-                number,
-                aux1,
-            } => transfer_plan(reads, records, device, aux1, call),
-        },
-    }
-}
-
-// A CALL, with the block of its IOCB.
-fn call_plan(call: Call, block: ControlBlock, half: &[u8]) -> Plan
-    ensures { λ r. ⌜ r ≡ callPlan call block (now (half .entry)) ⌝ }
-{
-    if 7 < call.iocb {
-        return Plan::Free(Errand::Status(0x86, call.a));
-    }
-    let command = commands::command_of(call.command);
-    block_plan(command, block, call, half)
-}
-
-// The IOCB that a message names; past the table where it names none.
-pub fn iocb_of(message: Message) -> u8
-    ensures { λ r. ⌜ r ≡ iocbOf message ⌝ }
-{
-    match message {
-        Message::Call(call) => call.iocb,
-        Message::Load { address, size } => 8,
-        Message::Fetch { address, count } => 8,
-        Message::Bad(status) => 8,
-    }
-}
-
-// A message, with the block of the IOCB that it names.
-pub fn plan_in(message: Message, block: ControlBlock, half: &[u8]) -> Plan
-    ensures { λ r. ⌜ r ≡ planIn message block (now (half .entry)) ⌝ }
-{
-    match message {
-        Message::Call(call) => call_plan(call, block, half),
-        Message::Load { address, size } => Plan::Free(Errand::Load { address, size }),
-        Message::Fetch { address, count } => Plan::Free(Errand::Fetch { address, count }),
-        Message::Bad(status) => Plan::Free(Errand::Bad(status)),
-    }
 }
 
 // The group that a plan needs.

@@ -15,7 +15,7 @@ use Rattle.handler.specs.InOrder.{andThen, putsOf}
 use Rattle.handler.proofs.InOrder.{puts-none, puts-one}
 use Rattle.printer.specs.Printer.{PrinterGroup, printerGroup, freshPrinter, printedOf, putOf, printerActs}
 use Rattle.printer.specs.Fit.{FitPrinter}
-use Rattle.printer.specs.Puts.{appendedTo}
+use Rattle.printer.specs.Puts.{appendedTo, PaperRule}
 use Rattle.printer.proofs.Keeps.{fresh-fit}
 use Rattle.printer.proofs.Laws.{put-room, put-full}
 
@@ -42,6 +42,9 @@ module _ (bytes : List ℕ) (g : PrinterGroup) (f : FitPrinter g) where
   pub puts-full : (byte : ℕ) → g .used + length bytes ≡ 4096 → putOf byte (putsOf putOf bytes g .leaves) ≡ answer (Refused 0x90) (appendedTo g bytes)
   puts-full byte e =
       rw (puts-append (omega arith)) (sym (put-full byte (appendedTo g bytes .used) (appendedTo g bytes .paper) (omega arith)))
+
+  pub paper-rule : PaperRule bytes g
+  paper-rule = record { appends = puts-append; full = puts-full }
 
   -- so what is printed is what was, and then what was put
   pub puts-printed : g .used + length bytes ≤ 4096 → printedOf (putsOf putOf bytes g .leaves) ≡ printedOf g ++ bytes

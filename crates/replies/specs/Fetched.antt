@@ -5,7 +5,7 @@ use mathlib.Core.Logic.{_↔_, _⊎_}
 use Prim.Native.Nat.{ℕ, _+_, _<_, _≤_}
 use Rattle.blocks.specs.Opening.{areaLength}
 
--- "$12 FETCH: address (2), count (2)"
+-- "$12 FETCH .. address (2), count (2)"
 pub record FetchStatuses (address count status : ℕ) : Type 0 where
   -- "FETCH count 0 or above 256: $84, first."
   pub count-first : (status ≡ 0x84) ↔ ((count ≡ 0) ⊎ (256 < count))

@@ -59,11 +59,10 @@ use Rattle.commands.specs.Commands.{commandOf, wayOf, kindOf}
 use Rattle.commands.specs.Numbers.{BadCommand, HasNumber, HasWay}
 use Rattle.commands.proofs.Numbers.{command-number, way-has}
 use Rattle.wire.specs.declared.Call.{Call}
-use Rattle.replies.specs.Replies.{callReply, fetchReply}
-use Rattle.replies.specs.Fetched.{FetchStatuses}
+use Rattle.replies.specs.Replies.{fieldOf, callReply, statusReply, bytesAt, fetchStatus, fetchReply}
 use Rattle.replies.proofs.Fetched.{fetched}
 use Rattle.devices.specs.declared.Group.the-variants as group
-use Rattle.devices.specs.Groups.{Groups, Part, getGroup, groupOf, ownerOf, deviceActs}
+use Rattle.devices.specs.Groups.{Groups, Part, getGroup, putGroup, groupOf, ownerOf, deviceActs}
 use Rattle.devices.specs.Fit.{FitGroups, FitPart}
 use Rattle.plan.specs.declared.After.{After}
 use Rattle.plan.specs.declared.After.the-variants as after
@@ -75,12 +74,14 @@ use Rattle.alone.specs.Transfer.{TransferEnd, getting, putting, transferred}
 use Rattle.alone.specs.Left.{deviceLeft}
 use Rattle.alone.specs.Fit.{FitLocal, FitOwn}
 use Rattle.alone.specs.Alone.{call, load, fetch, askedOf, Local, aloneOpening, aloneTransfer, aloneWork, aloneErrand, alonePlan, aloneOf}
-use Rattle.alone.specs.Ending.{GoesOn, ReadsTo, GetEnds, get-refused, get-whole, get-cut, SentOn, WritesTo, PutEnds, put-refused, put-whole, readTo, readSays, writtenTo, writeSays}
+use Rattle.alone.specs.Ending.{GoesOn, ReadsTo, GetEnds, Stores, get-refused, get-whole, get-cut, SentOn, WritesTo, PutEnds, put-refused, put-whole, readTo, readSays, writtenTo, writeSays}
 use Rattle.alone.proofs.Ending.{LengthFits, get-ends, put-ends, get-once, put-once, get-kept, get-read, put-kept}
+use Rattle.alone.proofs.Loading.{load-leaves}
+use Rattle.alone.proofs.Storing.{get-stores, put-area}
 use Rattle.alone.proofs.Fit.{fit-part}
 use Rattle.alone.proofs.Lines.{device-lines, device-starts}
 use Rattle.rules.specs.Answers.{oneOf}
-use Rattle.rules.specs.Statuses.{replyStatus, directionBit, BadMode, OnBlock, OpenOnOpen, TransferOnClosed, Transfer, Undirected, Directed, Opening, PastArea, buffer-past, specification-past, NoDevice, OpensDevice, Illegal, bad-command, not-offered, special-on-open, special-on-closed, Passed, NoMode, open-mode, transfer-mode, Started, actsOn, sentBy, ReadsAt, WritesAt, EndOfFile, RecordCut, PastRows, CursorPast, PaperFull, CallStatuses, CallBlocks, CallNeeds, GetReply, PutReply, Uncounted, CallReplies, LoadStatuses}
+use Rattle.rules.specs.Statuses.{replyStatus, directionBit, BadMode, OnBlock, OpenOnOpen, TransferOnClosed, Transfer, Undirected, Directed, Opening, PastArea, buffer-past, specification-past, NoDevice, NamesDevice, Illegal, bad-command, not-offered, special-on-open, special-on-closed, Passed, NoMode, open-mode, transfer-mode, Started, actsOn, sentBy, ReadsAt, WritesAt, EndOfFile, RecordCut, PastRows, CursorPast, PaperFull, CallStatuses, CallBlocks, CallNeeds, GetReply, PutReply, Uncounted, CallReplies, LoadStatuses, LoadReplies, FetchReplies}
 
 -- What a handler says, as a number: a character or a success is 0, a refusal one more than its status
 abbrev gotNumber : Got → ℕ
@@ -231,6 +232,13 @@ paper-writes : (asked : Asked) (byte : ℕ) (g : PrinterGroup) → paperLength �
 unfolding printer.putOf
 paper-writes asked byte g h = rw (le-ltb (g .used) paperLength h)
 
+-- a device put into its group is there
+get-put : (device : Device) (s : Groups) (x : Part (groupOf device)) → getGroup (groupOf device) (putGroup (groupOf device) s x) ≡ x
+get-put E s x = refl
+get-put S s x = refl
+get-put K s x = refl
+get-put P s x = refl
+
 -- a way fits its length
 way-fits : (way : Way) (records : Bool) (n : ℕ) → HasWay way records n → LengthFits way n
 way-fits One records n h = h
@@ -301,6 +309,9 @@ module _ (c : Call) (l : Local) (s : Groups) where
   abbrev statusOf : Plan → ℕ
   statusOf p = replyStatus (replied p)
 
+  abbrev areaOf : Plan → List ℕ
+  areaOf p = alonePlan p [] l s .local .area
+
   abbrev tableOf : Plan → Table
   tableOf p = alonePlan p [] l s .local .table
 
@@ -309,20 +320,20 @@ module _ (c : Call) (l : Local) (s : Groups) where
   uncounted status = callReply status 0 (c .a)
 
   -- by whether it moves characters
-  pub data Counted (reply : List ℕ) : Type 0 where
-    uncounted-reply : (status : ℕ) → reply ≡ uncounted status → Counted reply
-    counted-reply : (reading : Bool) (device : Device) → Started c l s reading device → Counted reply
+  pub data Counted (reply area : List ℕ) : Type 0 where
+    uncounted-reply : (status : ℕ) → reply ≡ uncounted status → area ≡ l .area → Counted reply area
+    counted-reply : (reading : Bool) (device : Device) → Started c l s reading device → Counted reply area
 
   -- a row of the table, and whether the reply counts
   pub record Holds (p : Plan) : Type 0 where
     pub line : Row (statusOf p)
-    pub counts : Counted (replied p)
+    pub counts : Counted (replied p) (areaOf p)
     pub blocks : CallBlocks c l s (statusOf p) (tableOf p)
 
-  leaf : (p : Plan) (status : ℕ) → replied p ≡ uncounted status → Row status → CallBlocks c l s status (tableOf p) → Holds p
-  leaf p status e r b = record {
+  leaf : (p : Plan) (status : ℕ) → replied p ≡ uncounted status → areaOf p ≡ l .area → Row status → CallBlocks c l s status (tableOf p) → Holds p
+  leaf p status e a r b = record {
     line = subst Row (sym (ap replyStatus e)) r;
-    counts = uncounted-reply status e;
+    counts = uncounted-reply status e a;
     blocks = subst (λ (n : ℕ). CallBlocks c l s n (tableOf p)) (sym (ap replyStatus e)) b;
   }
 
@@ -337,6 +348,10 @@ module _ (c : Call) (l : Local) (s : Groups) where
   -- a block written back
   same-block : withBlock (l .table) (c .iocb) (blockAt (l .table) (c .iocb)) ≡ l .table
   same-block = block-back (l .table) (c .iocb)
+
+  at-once-area : (status : ℕ) → areaOf (atOnce status c) ≡ l .area
+  unfolding alonePlan aloneErrand
+  at-once-area status = refl
 
   at-once-table : (status : ℕ) → tableOf (atOnce status c) ≡ l .table
   unfolding alonePlan aloneErrand
@@ -376,6 +391,10 @@ module _ (c : Call) (l : Local) (s : Groups) where
     open-refused : (status : ℕ) → offersOf device (c .aux1) ≡ true → deviceActs device (asks name) .opens (own device) .says ≡ done.Refused status → replied opens ≡ uncounted status
     unfolding openedOf
     open-refused status o e = open-said o ∙ rw e
+
+    open-area : areaOf opens ≡ l .area
+    unfolding alonePlan aloneWork aloneOpening offersOf openedOf
+    open-area = by-test (offersOf device (c .aux1)) (λ t. rw t) (λ t. rw t)
 
     open-not-table : offersOf device (c .aux1) ≡ false → tableOf opens ≡ l .table
     unfolding alonePlan aloneWork aloneOpening offersOf
@@ -438,10 +457,10 @@ module _ (c : Call) (l : Local) (s : Groups) where
   not-not device t n = absurd (subst T (sym t ∙ offers-not device (c .aux1) .1 n) tt)
 
   -- "a failed open's status stands"; else "$01 or $84"
-  accepted-row : (device : Device) (then : After) (number name : ℕ) (d : OpensDevice c l s device) → d .number ≡ number → ThenNumber then (c .command) → offersOf device (c .aux1) ≡ true
+  accepted-row : (device : Device) (then : After) (number name : ℕ) (d : NamesDevice c l s device) → d .number ≡ number → ThenNumber then (c .command) → offersOf device (c .aux1) ≡ true
       → (BadMode device (c .aux1) (c .aux2) → ⊥) → deviceActs device (asks name) .opens (own device) .says ≡ done.Success → Holds (opens device then number name)
   accepted-row device after.Stay number name d m h t b e =
-      leaf _ 0x01 (opened-stays device number name t e) tt (record {
+      leaf _ 0x01 (opened-stays device number name t e) (open-area device after.Stay number name) tt (record {
         opens = λ q r other n f.
             opened-stays-table device number name t e
             ∙ ap (withBlock (l .table) (c .iocb)) (opened-one device number (subst (Specified half (c .address) device) m (d .specified)) other n f);
@@ -449,29 +468,29 @@ module _ (c : Call) (l : Local) (s : Groups) where
         others = λ x y. absurd (y h refl);
       })
   accepted-row device after.Status number name d m h t b e =
-      leaf _ 0x01 (opened-status device number name t e) tt
+      leaf _ 0x01 (opened-status device number name t e) (open-area device after.Status number name) tt
       (stays 0x01 _ (opened-status-table device number name t e) (λ i q. omega (arith, h, q)) (λ q r. omega (arith, h, q)))
   accepted-row device after.Special number name d m h t b e =
-      leaf _ 0x84 (opened-special device number name t e) (special-on-closed device d h (not-not device t) b)
+      leaf _ 0x84 (opened-special device number name t e) (open-area device after.Special number name) (special-on-closed device d h (not-not device t) b)
       (stays 0x84 _ (opened-special-table device number name t e) (λ i q. omega (arith, h, q)) (λ q r. omega (arith, r)))
 
-  offered-row : (device : Device) (then : After) (number name : ℕ) (d : OpensDevice c l s device) → d .number ≡ number → ThenNumber then (c .command) → offersOf device (c .aux1) ≡ true
+  offered-row : (device : Device) (then : After) (number name : ℕ) (d : NamesDevice c l s device) → d .number ≡ number → ThenNumber then (c .command) → offersOf device (c .aux1) ≡ true
       → Holds (opens device then number name)
   offered-row device then number name d m h t =
       ⊎-elim
       (λ p.
-      leaf _ 0x91 (open-refused device then number name 0x91 t (p .1)) (open-mode device d (not-not device t) (p .0))
+      leaf _ 0x91 (open-refused device then number name 0x91 t (p .1)) (open-area device then number name) (open-mode device d (not-not device t) (p .0))
       (stays 0x91 _ (open-refused-table device then number name 0x91 t (p .1)) (opening-close (d .opening)) (λ q r. omega (arith, r))))
       (λ p. accepted-row device then number name d m h t (p .0) (p .1))
       (opens-says device (asks name) (own device))
 
-  device-row : (device : Device) (then : After) (number : ℕ) (d : OpensDevice c l s device) → d .number ≡ number → ThenNumber then (c .command)
+  device-row : (device : Device) (then : After) (number : ℕ) (d : NamesDevice c l s device) → d .number ≡ number → ThenNumber then (c .command)
       → Holds (opens device then number (nameOf half (c .address)))
   device-row device then number d m h =
       by-test (offersOf device (c .aux1))
       (offered-row device then number (nameOf half (c .address)) d m h)
       (λ t.
-      leaf _ 0x84 (open-not device then number (nameOf half (c .address)) t) (not-offered device d (offers-not device (c .aux1) .0 t))
+      leaf _ 0x84 (open-not device then number (nameOf half (c .address)) t) (open-area device then number (nameOf half (c .address))) (not-offered device d (offers-not device (c .aux1) .0 t))
       (stays 0x84 _ (open-not-table device then number (nameOf half (c .address)) t) (opening-close (d .opening)) (λ q r. omega (arith, r))))
 
   specification-row : (then : After) (sp : Specification) → specificationOf half (c .address) ≡ sp → Opening c l s → ThenNumber then (c .command) → Holds (openPlan then sp half c)
@@ -480,10 +499,10 @@ module _ (c : Call) (l : Local) (s : Groups) where
   specification-row then (Refused status) e o h =
       by-eq status 0x82
       (λ q.
-      leaf _ status (at-once status) (subst Row (sym q) (record { opening = o; malformed = specifies half (c .address) .malformed .0 (e ∙ ap Refused q) }))
+      leaf _ status (at-once status) (at-once-area status) (subst Row (sym q) (record { opening = o; malformed = specifies half (c .address) .malformed .0 (e ∙ ap Refused q) }))
       (refuses status (opening-close o) (λ r. omega (arith, q, r))))
       (λ n. let q = specifies half (c .address) .numbers status e n in
-      leaf _ status (at-once status) (subst Row (sym q) (specification-past o (specifies half (c .address) .past .0 (e ∙ ap Refused q))))
+      leaf _ status (at-once status) (at-once-area status) (subst Row (sym q) (specification-past o (specifies half (c .address) .past .0 (e ∙ ap Refused q))))
       (refuses status (opening-close o) (λ r. omega (arith, q, r))))
 
   opening-row : (then : After) → Opening c l s → ThenNumber then (c .command) → Holds (openPlan then (specificationOf half (c .address)) half c)
@@ -496,6 +515,10 @@ module _ (c : Call) (l : Local) (s : Groups) where
     transfer-refused : (k : Kind) (status : ℕ) → actsOn c l s device .prepares (own device) .says ≡ done.Refused status → replied (plannedOf device (work.Transfer k) c) ≡ uncounted status
     unfolding alonePlan aloneWork aloneTransfer
     transfer-refused k status e = rw e
+
+    transfer-refused-area : (k : Kind) (status : ℕ) → actsOn c l s device .prepares (own device) .says ≡ done.Refused status → areaOf (plannedOf device (work.Transfer k) c) ≡ l .area
+    unfolding alonePlan aloneWork aloneTransfer
+    transfer-refused-area k status e = rw e
 
     transfer-refused-table : (k : Kind) (status : ℕ) → actsOn c l s device .prepares (own device) .says ≡ done.Refused status → tableOf (plannedOf device (work.Transfer k) c) ≡ l .table
     unfolding alonePlan aloneWork aloneTransfer
@@ -519,6 +542,26 @@ module _ (c : Call) (l : Local) (s : Groups) where
     unfolding alonePlan aloneWork aloneTransfer transferred
     put-status way x e = rw e
 
+    -- the area and the device that it leaves
+    abbrev leftOf : Plan → Part (groupOf device)
+    leftOf p = getGroup (groupOf device) (alonePlan p [] l s .groups)
+
+    get-area : (way : Way) (x : Part (groupOf device)) → actsOn c l s device .prepares (own device) ≡ answer done.Success x → areaOf (plannedOf device (work.Transfer (Get way)) c) ≡ gets way x .area
+    unfolding alonePlan aloneWork aloneTransfer transferred
+    get-area way x e = rw e
+
+    put-area-left : (way : Way) (x : Part (groupOf device)) → actsOn c l s device .prepares (own device) ≡ answer done.Success x → areaOf (plannedOf device (work.Transfer (Put way)) c) ≡ puts way x .area
+    unfolding alonePlan aloneWork aloneTransfer transferred
+    put-area-left way x e = rw e
+
+    get-left : (way : Way) (x : Part (groupOf device)) → actsOn c l s device .prepares (own device) ≡ answer done.Success x → leftOf (plannedOf device (work.Transfer (Get way)) c) ≡ gets way x .device
+    unfolding alonePlan aloneWork aloneTransfer transferred
+    get-left way x e = get-put device s _ ∙ rw e
+
+    put-left : (way : Way) (x : Part (groupOf device)) → actsOn c l s device .prepares (own device) ≡ answer done.Success x → leftOf (plannedOf device (work.Transfer (Put way)) c) ≡ puts way x .device
+    unfolding alonePlan aloneWork aloneTransfer transferred
+    put-left way x e = get-put device s _ ∙ rw e
+
     module _ (fg : FitGroups s) where
       -- a device that a transfer starts on is undamaged and in use
       stands-fit : (x : Part (groupOf device)) → actsOn c l s device .prepares (own device) ≡ answer done.Success x → FitOwn (ownerOf device) x
@@ -526,18 +569,30 @@ module _ (c : Call) (l : Local) (s : Groups) where
           subst (FitOwn (ownerOf device)) (ap (λ (y : Answer Done (Part (groupOf device))). y .leaves) e)
           (device-starts device .prepare-use (asksOn (l .number) (c .iocb)) (own device) (fit-part (groupOf device) s fg) (ap (λ (y : Answer Done (Part (groupOf device))). y .says) e))
 
-      got-ends : (t : Started c l s true device) → GetEnds (actsOn c l s device) (t .way) (c .length) (t .stands) (gets (t .way) (t .stands) .status) (gets (t .way) (t .stands) .count)
+      got-ends : (t : Started c l s true device) → GetEnds (actsOn c l s device) (t .way) (c .length) (t .stands) (gets (t .way) (t .stands) .status) (gets (t .way) (t .stands) .count) (gets (t .way) (t .stands) .device)
       got-ends t =
           get-ends (actsOn c l s device) (deviceLeft device) (c .a) (FitOwn (ownerOf device)) (device-lines device (asksOn (l .number) (c .iocb))) (t .way) (c .length) (c .address) half (t .stands)
           (stands-fit (t .stands) (t .begins))
           (way-fits (t .way) (t .passed .directed .transfer .records) (c .length) (t .has-way))
 
-    put-ended : (t : Started c l s false device) → PutEnds (actsOn c l s device) (t .way) (c .length) (sentBy c l s (t .way)) (t .stands) (puts (t .way) (t .stands) .status) (puts (t .way) (t .stands) .count)
+    put-ended : (t : Started c l s false device) → PutEnds (actsOn c l s device) (t .way) (c .length) (sentBy c l s (t .way)) (t .stands) (puts (t .way) (t .stands) .status) (puts (t .way) (t .stands) .count) (puts (t .way) (t .stands) .device)
     put-ended t =
         put-ends (actsOn c l s device) (deviceLeft device) (c .a) (t .way) (c .length) (c .address) half (t .stands)
         (way-fits (t .way) (t .passed .directed .transfer .records) (c .length) (t .has-way))
 
   -- CLOSE, GET STATUS and SPECIAL on an open block
+  close-area : (device : Device) → areaOf (plannedOf device work.Close c) ≡ l .area
+  unfolding alonePlan aloneWork
+  close-area device = refl
+
+  status-area : (device : Device) → areaOf (plannedOf device work.Status c) ≡ l .area
+  unfolding alonePlan aloneWork
+  status-area device = refl
+
+  special-area : (device : Device) → areaOf (plannedOf device work.Special c) ≡ l .area
+  unfolding alonePlan aloneWork
+  special-area device = refl
+
   close-table : (device : Device) → tableOf (plannedOf device work.Close c) ≡ withBlock (l .table) (c .iocb) closedBlock
   unfolding alonePlan aloneWork
   close-table device = refl
@@ -596,7 +651,7 @@ module _ (c : Call) (l : Local) (s : Groups) where
         subst Row (sym (r .0)) (record { started = t; k = k; comes = q; at = r .1 })
     read-refused P t k status q e = absurd (unread (t .passed .directed))
 
-    get-row : (device : Device) (t : Started c l s true device) {status count : ℕ} → GetEnds (actsOn c l s device) (t .way) (c .length) (t .stands) status count → Row status
+    get-row : (device : Device) (t : Started c l s true device) {status count : ℕ} {y : Part (groupOf device)} → GetEnds (actsOn c l s device) (t .way) (c .length) (t .stands) status count y → Row status
     get-row device t (get-refused k status q e) = read-refused device t k status q e
     get-row device t (get-whole k byte q e last h) = tt
     get-row device t (get-cut k q e r h) = record { device = device; reads = record { started = t; k = k; comes = q; at = e }; way = r; stored = h }
@@ -613,7 +668,7 @@ module _ (c : Call) (l : Local) (s : Groups) where
         let r = writes-P (asksOn (l .number) (c .iocb)) (getD (sentBy c l s (t .way)) k 0) (writtenTo (actsOn c l s P) (sentBy c l s (t .way)) k (t .stands)) status e in
         subst Row (sym (r .0)) (record { started = t; k = k; comes = q; at = r .1 })
 
-    put-row : (device : Device) (t : Started c l s false device) {status count : ℕ} → PutEnds (actsOn c l s device) (t .way) (c .length) (sentBy c l s (t .way)) (t .stands) status count → Row status
+    put-row : (device : Device) (t : Started c l s false device) {status count : ℕ} {y : Part (groupOf device)} → PutEnds (actsOn c l s device) (t .way) (c .length) (sentBy c l s (t .way)) (t .stands) status count y → Row status
     put-row device t (put-refused k status q e) = write-refused device t k status q e
     put-row device t (put-whole k q e last) = tt
 
@@ -655,7 +710,7 @@ module _ (c : Call) (l : Local) (s : Groups) where
       passed-row reading device p =
           ⊎-elim
           (λ q.
-          leaf _ 0x91 (transfer-refused device _ 0x91 (q .1)) (no-mode reading device p (q .0))
+          leaf _ 0x91 (transfer-refused device _ 0x91 (q .1)) (transfer-refused-area device _ 0x91 (q .1)) (no-mode reading device p (q .0))
           (stays 0x91 _ (transfer-refused-table device _ 0x91 (q .1)) (no-close reading device (p .directed .transfer)) (λ u r. omega (arith, r))))
           (λ q. start-row reading device p (q .0) (q .1))
           (prepares-says device (asksOn (l .number) (c .iocb)) (own device))
@@ -669,7 +724,7 @@ module _ (c : Call) (l : Local) (s : Groups) where
           pick-le Holds (c .address + c .length) areaLength _ (atOnce 0xB0 c)
           (λ h. passed-row reading device (record { directed = d; buffer = inr h }))
           (λ h.
-          leaf _ 0xB0 (at-once 0xB0) (buffer-past reading device d (omega arith) h)
+          leaf _ 0xB0 (at-once 0xB0) (at-once-area 0xB0) (buffer-past reading device d (omega arith) h)
           (refuses 0xB0 (no-close reading device (d .transfer)) (λ r. omega (arith, r))))))
 
       transfer-row : (reading : Bool) (device : Device) (t : Transfer c l s reading device) → Holds (transferPlan reading (t .records) device (t .aux1) c)
@@ -678,43 +733,43 @@ module _ (c : Call) (l : Local) (s : Groups) where
           pick-go Holds (reads (t .aux1)) _ (atOnce 0x83 c)
           (λ e. area-row true device (record { transfer = t; with = e }))
           (λ e.
-          leaf _ 0x83 (at-once 0x83) (record { device = device; transfer = t; without = e })
+          leaf _ 0x83 (at-once 0x83) (at-once-area 0x83) (record { device = device; transfer = t; without = e })
           (refuses 0x83 (no-close true device t) (λ r. omega (arith, r))))
       transfer-row false device t =
           pick-go Holds (writes (t .aux1)) _ (atOnce 0x87 c)
           (λ e. area-row false device (record { transfer = t; with = e }))
           (λ e.
-          leaf _ 0x87 (at-once 0x87) (record { device = device; transfer = t; without = e })
+          leaf _ 0x87 (at-once 0x87) (at-once-area 0x87) (record { device = device; transfer = t; without = e })
           (refuses 0x87 (no-close false device t) (λ r. omega (arith, r))))
 
       block-row : (k : Command) (b : BlockState) → OnBlock c l s b → HasNumber k (c .command) → Holds (blockPlan k b c half)
       unfolding blockPlan
-      block-row command.Bad b on h = leaf _ 0x84 (at-once 0x84) (bad-command (on .iocb) h) (refuses 0x84 (λ i q. bad-number (c .command) h q) (λ r. omega (arith, r)))
+      block-row command.Bad b on h = leaf _ 0x84 (at-once 0x84) (at-once-area 0x84) (bad-command (on .iocb) h) (refuses 0x84 (λ i q. bad-number (c .command) h q) (λ r. omega (arith, r)))
       block-row command.Open block.Closed on h = opening-row after.Stay (record { on = on; command = inl h }) h
       block-row command.Open (block.Open device number aux1) on h =
-          leaf _ 0x81 (at-once 0x81) (record { device = device; number = number; aux1 = aux1; on = on; command = h })
+          leaf _ 0x81 (at-once 0x81) (at-once-area 0x81) (record { device = device; number = number; aux1 = aux1; on = on; command = h })
           (refuses 0x81 (λ i q. omega (arith, h, q)) (λ r. omega (arith, r)))
       block-row command.Close block.Closed on h =
-          leaf _ 0x01 (at-once 0x01) tt (record {
+          leaf _ 0x01 (at-once 0x01) (at-once-area 0x01) tt (record {
             opens = λ q r device number d. absurd (omega (arith, h, q));
             closes = λ i q. at-once-table 0x01 ∙ closed-again on;
             others = λ x y. absurd (x (on .iocb) h);
           })
       block-row command.Close (block.Open device number aux1) on h =
-          leaf _ 0x01 (close-said device) tt (record {
+          leaf _ 0x01 (close-said device) (close-area device) tt (record {
             opens = λ q r other n d. absurd (omega (arith, h, q));
             closes = λ i q. close-table device;
             others = λ x y. absurd (x (on .iocb) h);
           })
       block-row command.Status block.Closed on h = opening-row after.Status (record { on = on; command = inr (omega arith) }) h
       block-row command.Status (block.Open device number aux1) on h =
-          leaf _ 0x01 (status-said device) tt (stays 0x01 _ (status-table device) (λ i q. omega (arith, h, q)) (λ q r. omega (arith, h, q)))
+          leaf _ 0x01 (status-said device) (status-area device) tt (stays 0x01 _ (status-table device) (λ i q. omega (arith, h, q)) (λ q r. omega (arith, h, q)))
       block-row command.Special block.Closed on h = opening-row after.Special (record { on = on; command = inr (omega arith) }) h
       block-row command.Special (block.Open device number aux1) on h =
-          leaf _ 0x84 (special-said device) (special-on-open device number aux1 on h)
+          leaf _ 0x84 (special-said device) (special-area device) (special-on-open device number aux1 on h)
           (stays 0x84 _ (special-table device) (λ i q. omega (arith, h, q)) (λ q r. omega (arith, r)))
       block-row (command.Transfer reading records) block.Closed on h =
-          leaf _ 0x85 (at-once 0x85) (record { reading = reading; records = records; on = on; command = h })
+          leaf _ 0x85 (at-once 0x85) (at-once-area 0x85) (record { reading = reading; records = records; on = on; command = h })
           (refuses 0x85 (λ i q. transfer-number reading records (c .command) h .1 q) (λ r. omega (arith, r)))
       block-row (command.Transfer reading records) (block.Open device number aux1) on h =
           transfer-row reading device (record { records = records; number = number; aux1 = aux1; on = on; command = h })
@@ -723,7 +778,7 @@ module _ (c : Call) (l : Local) (s : Groups) where
       unfolding callPlan
       row-holds =
           pick-lt Holds 7 (c .iocb) (atOnce 0x86 c) _
-          (λ h. leaf _ 0x86 (at-once 0x86) h (refuses 0x86 (λ i q. omega (arith, h, i)) (λ r. omega (arith, r))))
+          (λ h. leaf _ 0x86 (at-once 0x86) (at-once-area 0x86) h (refuses 0x86 (λ i q. omega (arith, h, i)) (λ r. omega (arith, r))))
           (λ h. block-row (commandOf (c .command)) (blockAt (l .table) (c .iocb) .state) (record { iocb = h; has = refl }) (command-number (commandOf (c .command)) (c .command) .0 refl))
 
   -- The way back: from a line to its status
@@ -817,7 +872,7 @@ module _ (c : Call) (l : Local) (s : Groups) where
   plan-b0 (specification-past o p) = specification-plan o 0xB0 (specifies half (c .address) .past .1 p)
 
   -- an opening's plan, past the $82 check
-  device-plan : (device : Device) (d : OpensDevice c l s device) → planned ≡ opens device (opening-plan (d .opening) .then) (d .number) (nameOf half (c .address))
+  device-plan : (device : Device) (d : NamesDevice c l s device) → planned ≡ opens device (opening-plan (d .opening) .then) (d .number) (nameOf half (c .address))
   device-plan device d =
       let p = opening-plan (d .opening) in
       p .plan ∙ ap (λ (sp : Specification). openPlan (p .then) sp half c) (specifies half (c .address) .names device (d .number) .1 (d .specified))
@@ -876,7 +931,7 @@ module _ (c : Call) (l : Local) (s : Groups) where
     past-area = λ p. free 0xB0 (plan-b0 p);
     no-device = λ n. free 0x82 (plan-82 n);
     closes-closed = λ on h. free 0x01 (reached command.Close block.Closed on h);
-    opens-device = λ device d. ap groupNeeded (device-plan device d);
+    names-device = λ device d. ap groupNeeded (device-plan device d);
     transfers = λ reading device p. ap groupNeeded (passes reading device p);
     on-open = needs-open;
   }
@@ -887,13 +942,13 @@ module _ (c : Call) (l : Local) (s : Groups) where
       passes reading device (t .passed)
       ∙ ap (λ (way : Way). plannedOf device (work.Transfer (kindOf reading way)) c) (way-has (t .way) (t .passed .directed .transfer .records) (c .length) .1 (t .has-way))
 
-  put-line : (device : Device) (t : Started c l s false device) {status count : ℕ} → PutEnds (actsOn c l s device) (t .way) (c .length) (sentBy c l s (t .way)) (t .stands) status count → ends status
+  put-line : (device : Device) (t : Started c l s false device) {status count : ℕ} {y : Part (groupOf device)} → PutEnds (actsOn c l s device) (t .way) (c .length) (sentBy c l s (t .way)) (t .stands) status count y → ends status
   put-line device t e =
       ap statusOf (starts false device t) ∙ ap replyStatus (put-status device (t .way) (t .stands) (t .begins))
       ∙ put-once (actsOn c l s device) (t .way) (c .length) (sentBy c l s (t .way)) (t .stands) (put-ended device t) e .0
 
   module _ (fg : FitGroups s) where
-    get-line : (device : Device) (t : Started c l s true device) {status count : ℕ} → GetEnds (actsOn c l s device) (t .way) (c .length) (t .stands) status count → ends status
+    get-line : (device : Device) (t : Started c l s true device) {status count : ℕ} {y : Part (groupOf device)} → GetEnds (actsOn c l s device) (t .way) (c .length) (t .stands) status count y → ends status
     get-line device t e =
         ap statusOf (starts true device t) ∙ ap replyStatus (get-status device (t .way) (t .stands) (t .begins))
         ∙ get-once (actsOn c l s device) (t .way) (c .length) (t .stands) (got-ends device fg t) e .0
@@ -963,32 +1018,50 @@ module _ (c : Call) (l : Local) (s : Groups) where
     }
 
     -- "Count is bytes stored into or taken from the area."
-    get-reply : (device : Device) (t : Started c l s true device) → GetReply c l s device t (replied planned)
+    get-reply : (device : Device) (t : Started c l s true device) → GetReply c l s device t (replied planned) (areaOf planned) (leftOf device planned)
     get-reply device t =
         let n = c .length in
+        let x = t .stands in
+        let r = gets device (t .way) x in
         let fits = way-fits (t .way) (t .passed .directed .transfer .records) n (t .has-way) in
+        let p = starts true device t in
+        let buffer : (n ≡ 0) ⊎ (c .address + n ≤ length half) = ⊎-elim inl (λ h. inr (omega (arith, h, fl .area))) (t .passed .buffer) in
         record {
-          status = gets device (t .way) (t .stands) .status;
-          count = gets device (t .way) (t .stands) .count;
-          a = gets device (t .way) (t .stands) .a;
-          says = ap replied (starts true device t) ∙ get-status device (t .way) (t .stands) (t .begins);
-          ends = got-ends device fg t;
-          a-read = λ z byte e. get-read (actsOn c l s device) (deviceLeft device) (c .a) (t .way) n (c .address) half (t .stands) byte fits z e;
-          a-kept = λ none. get-kept (actsOn c l s device) (deviceLeft device) (c .a) (t .way) n (c .address) half (t .stands) fits none;
+          status = r .status;
+          count = r .count;
+          a = r .a;
+          says = ap replied p ∙ get-status device (t .way) x (t .begins);
+          ends =
+              subst (GetEnds (actsOn c l s device) (t .way) n x (r .status) (r .count)) (sym (ap (leftOf device) p ∙ get-left device (t .way) x (t .begins)))
+              (got-ends device fg t);
+          stores =
+              subst (Stores (actsOn c l s device) x (c .address) (r .count) half) (sym (ap areaOf p ∙ get-area device (t .way) x (t .begins)))
+              (get-stores (actsOn c l s device) (deviceLeft device) (c .a) (t .way) n (c .address) half x fits buffer);
+          a-read = λ z byte e. get-read (actsOn c l s device) (deviceLeft device) (c .a) (t .way) n (c .address) half x byte fits z e;
+          a-kept = λ none. get-kept (actsOn c l s device) (deviceLeft device) (c .a) (t .way) n (c .address) half x fits none;
         }
 
-    put-reply : (device : Device) (t : Started c l s false device) → PutReply c l s device t (replied planned)
-    put-reply device t = record {
-      status = puts device (t .way) (t .stands) .status;
-      count = puts device (t .way) (t .stands) .count;
-      says =
-          ap replied (starts false device t) ∙ put-status device (t .way) (t .stands) (t .begins)
-          ∙ ap (callReply _ _) (put-kept (actsOn c l s device) (deviceLeft device) (c .a) (t .way) (c .length) (c .address) half (t .stands));
-      ends = put-ended device t;
-    }
+    put-reply : (device : Device) (t : Started c l s false device) → PutReply c l s device t (replied planned) (areaOf planned) (leftOf device planned)
+    put-reply device t =
+        let x = t .stands in
+        let r = puts device (t .way) x in
+        let p = starts false device t in
+        record {
+          status = r .status;
+          count = r .count;
+          says =
+              ap replied p ∙ put-status device (t .way) x (t .begins)
+              ∙ ap (callReply (r .status) (r .count)) (put-kept (actsOn c l s device) (deviceLeft device) (c .a) (t .way) (c .length) (c .address) half x);
+          ends =
+              subst (PutEnds (actsOn c l s device) (t .way) (c .length) (sentBy c l s (t .way)) x (r .status) (r .count)) (sym (ap (leftOf device) p ∙ put-left device (t .way) x (t .begins)))
+              (put-ended device t);
+          leaves =
+              ap areaOf p ∙ put-area-left device (t .way) x (t .begins)
+              ∙ put-area (actsOn c l s device) (deviceLeft device) (c .a) (t .way) (c .length) (c .address) half x;
+        }
 
-    other-reply : Counted (replied planned) → ((reading : Bool) (device : Device) → Started c l s reading device → ⊥) → Uncounted c l s (replied planned)
-    other-reply (uncounted-reply status e) none = record { status = status; says = e }
+    other-reply : Counted (replied planned) (areaOf planned) → ((reading : Bool) (device : Device) → Started c l s reading device → ⊥) → Uncounted c l s (replied planned) (areaOf planned)
+    other-reply (uncounted-reply status e a) none = record { status = status; says = e; leaves = a }
     other-reply (counted-reply reading device t) none = absurd (none reading device t)
 
     -- "Reply $90, length 4: status, count (2), A."
@@ -998,8 +1071,8 @@ module _ (c : Call) (l : Local) (s : Groups) where
       pub a : ℕ
       pub says : reply ≡ callReply status count a
 
-    shape : Counted (replied planned) → Shape (replied planned)
-    shape (uncounted-reply status e) = record { status = status; count = 0; a = c .a; says = e }
+    shape : Counted (replied planned) (areaOf planned) → Shape (replied planned)
+    shape (uncounted-reply status e a) = record { status = status; count = 0; a = c .a; says = e }
     shape (counted-reply true device t) = let r = get-reply device t in record { status = r .status; count = r .count; a = r .a; says = r .says }
     shape (counted-reply false device t) = let r = put-reply device t in record { status = r .status; count = r .count; a = c .a; says = r .says }
 
@@ -1011,7 +1084,7 @@ module _ (c : Call) (l : Local) (s : Groups) where
     unfolding aloneOf planOf planIn
     call-blocks = row-holds fl fg .blocks
 
-    pub call-replies : CallReplies c l s (aloneOf (call c) l s .reply)
+    pub call-replies : CallReplies c l s (aloneOf (call c) l s .reply) (aloneOf (call c) l s .local .area) (aloneOf (call c) l s .groups)
     unfolding aloneOf planOf planIn
     call-replies = record { gets = get-reply; puts = put-reply; others = other-reply (row-holds fl fg .counts) }
 
@@ -1024,6 +1097,27 @@ load-statuses address bytes l s =
     (λ h. record { past = (λ e. absurd (omega (arith, e)), λ g. absurd (omega arith)); success = (λ e. h, λ g. refl) })
     (λ h. record { past = (λ e. h, λ g. refl); success = (λ e. absurd (omega (arith, e)), λ g. absurd (omega arith)) })
 
-pub fetch-statuses : (address count : ℕ) (l : Local) (s : Groups) → FetchStatuses address count (replyStatus (aloneOf (fetch address count) l s .reply))
+pub load-replies : (address : ℕ) (bytes : List ℕ) (l : Local) (s : Groups) → FitLocal l → LoadReplies l address bytes (aloneOf (load address bytes) l s .local) (aloneOf (load address bytes) l s .reply)
+unfolding aloneOf planOf planIn alonePlan aloneErrand
+load-replies address bytes l s fl = record {
+  statuses = load-statuses address bytes l s;
+  says = refl;
+  leaves = load-leaves l s address bytes fl;
+}
+
+-- a FETCH's reply, by its status
+fetch-bytes : (half : List ℕ) (address count : ℕ) → fetchStatus address count ≡ 0x01 → fetchReply half address count ≡ fieldOf 0x92 (0x01 ∷ bytesAt half address count)
+unfolding fetchReply
+fetch-bytes half address count e = rw e
+
+fetch-refused : (half : List ℕ) (address count : ℕ) → (fetchStatus address count ≡ 0x01 → ⊥) → fetchReply half address count ≡ statusReply 0x92 (fetchStatus address count)
+unfolding fetchReply
+fetch-refused half address count n = rw (ne-eqb (fetchStatus address count) 0x01 n)
+
+pub fetch-replies : (address count : ℕ) (l : Local) (s : Groups) → FetchReplies l address count (aloneOf (fetch address count) l s .reply)
 unfolding aloneOf planOf planIn alonePlan aloneErrand fetchReply
-fetch-statuses address count l s = fetched address count
+fetch-replies address count l s = record {
+  statuses = fetched address count;
+  bytes = λ e. fetch-bytes (l .area) address count e;
+  refused = λ n. fetch-refused (l .area) address count n;
+}

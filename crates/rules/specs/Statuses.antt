@@ -6,7 +6,7 @@ use mathlib.Core.Logic.{_↔_, _⊎_}
 use mathlib.Core.Bool.{Bool, true, false}
 use mathlib.Core.List.{List, [], _∷_}
 use Prim.Native.Nat.{ℕ, _+_, _<_, _≤_}
-use lib.ListN.{getD, length}
+use lib.ListN.{length, getD}
 use Rattle.base.specs.Choice.{bit}
 use Rattle.handler.specs.declared.Done.the-variants as done
 use Rattle.handler.specs.declared.Got.the-variants as got
@@ -29,24 +29,38 @@ use Rattle.blocks.specs.Specified.{Specified, Malformed, NeededPast, NotOffered
 use Rattle.commands.specs.declared.Command.the-variants as command
 use Rattle.commands.specs.Numbers.{BadCommand, HasNumber, HasWay}
 use Rattle.wire.specs.declared.Call.{Call}
-use Rattle.replies.specs.Replies.{callReply}
+use Rattle.replies.specs.Replies.{fieldOf, callReply, statusReply, bytesAt}
+use Rattle.replies.specs.Fetched.{FetchStatuses}
 use Rattle.transfer.specs.Transfer.{eol}
 use Rattle.devices.specs.declared.Group.{Group}
 use Rattle.devices.specs.declared.Group.the-variants as group
 use Rattle.devices.specs.Groups.{Groups, Part, getGroup, groupOf, deviceActs}
 use Rattle.alone.specs.Alone.{Local}
-use Rattle.alone.specs.Ending.{readTo, ReadsTo, GetEnds, sentOf, writtenTo, WritesTo, PutEnds}
+use Rattle.alone.specs.Loading.{LoadLeaves}
+use Rattle.alone.specs.Ending.{readTo, ReadsTo, GetEnds, Stores, sentOf, writtenTo, WritesTo, PutEnds}
 use Rattle.rules.specs.Answers.{oneOf}
 
 -- "status", the first byte of a reply's value
 abbrev pub replyStatus : List ℕ → ℕ
 replyStatus reply = getD reply 3 0
 
--- "$11 LOAD: address (2), data"
+-- "$11 LOAD .. address (2), data"
 pub record LoadStatuses (address size status : ℕ) : Type 0 where
   -- "LOAD or FETCH past the area: $B0"
   pub past : (status ≡ 0xB0) ↔ (areaLength < address + size)
   pub success : (status ≡ 0x01) ↔ (address + size ≤ areaLength)
+
+-- "Reply $91, length 1: status."
+pub record LoadReplies (l : Local) (address : ℕ) (bytes : List ℕ) (after : Local) (reply : List ℕ) : Type 0 where
+  pub statuses : LoadStatuses address (length bytes) (replyStatus reply)
+  pub says : reply ≡ statusReply 0x91 (replyStatus reply)
+  pub leaves : LoadLeaves l address bytes after
+
+-- "Reply $92: status, then the bytes if it is $01."
+pub record FetchReplies (l : Local) (address count : ℕ) (reply : List ℕ) : Type 0 where
+  pub statuses : FetchStatuses address count (replyStatus reply)
+  pub bytes : replyStatus reply ≡ 0x01 → reply ≡ fieldOf 0x92 (0x01 ∷ bytesAt (l .area) address count)
+  pub refused : (replyStatus reply ≡ 0x01 → ⊥) → reply ≡ statusReply 0x92 (replyStatus reply)
 
 -- "AUX1: R is 4, W is 8."
 abbrev pub directionBit : (reading : Bool) → ℕ
@@ -118,7 +132,7 @@ module _ (c : Call) (l : Local) (s : Groups) where
     pub malformed : Malformed (l .area) (c .address)
 
   -- an opening past the $82 check
-  pub record OpensDevice (device : Device) : Type 0 where
+  pub record NamesDevice (device : Device) : Type 0 where
     pub opening : Opening
     pub number : ℕ
     pub specified : Specified (l .area) (c .address) device number
@@ -126,10 +140,10 @@ module _ (c : Call) (l : Local) (s : Groups) where
   -- "$84 command 0 to 2, 4, 6, 8, $0A; SPECIAL; AUX1 not offered"
   pub data Illegal : Type 0 where
     bad-command : c .iocb ≤ 7 → BadCommand (c .command) → Illegal
-    not-offered : (device : Device) → OpensDevice device → NotOffered device (c .aux1) → Illegal
+    not-offered : (device : Device) → NamesDevice device → NotOffered device (c .aux1) → Illegal
     special-on-open : (device : Device) (number aux1 : ℕ) → OnBlock (block.Open device number aux1) → 0x0D < c .command → Illegal
     -- "a failed open's status stands"
-    special-on-closed : (device : Device) → OpensDevice device → 0x0D < c .command → (NotOffered device (c .aux1) → ⊥) → (BadMode device (c .aux1) (c .aux2) → ⊥) → Illegal
+    special-on-closed : (device : Device) → NamesDevice device → 0x0D < c .command → (NotOffered device (c .aux1) → ⊥) → (BadMode device (c .aux1) (c .aux2) → ⊥) → Illegal
 
   -- a transfer past the $B0 check
   pub record Passed (reading : Bool) (device : Device) : Type 0 where
@@ -138,7 +152,7 @@ module _ (c : Call) (l : Local) (s : Groups) where
 
   -- "$91 screen mode": "AUX1, mode, handler"; S's: "A transfer in mode 0 is $91 at the start."
   pub data NoMode : Type 0 where
-    open-mode : (device : Device) → OpensDevice device → (NotOffered device (c .aux1) → ⊥) → BadMode device (c .aux1) (c .aux2) → NoMode
+    open-mode : (device : Device) → NamesDevice device → (NotOffered device (c .aux1) → ⊥) → BadMode device (c .aux1) (c .aux2) → NoMode
     transfer-mode : (reading : Bool) → Passed reading S → s .console .console .mode ≡ 0 → NoMode
 
   -- the handler of an open block's device
@@ -211,35 +225,39 @@ module _ (c : Call) (l : Local) (s : Groups) where
     -- "$01 success", where none of these; no other status
     pub numbers : oneOf (0x01 ∷ 0x86 ∷ 0x84 ∷ 0x81 ∷ 0x85 ∷ 0x83 ∷ 0x87 ∷ 0xB0 ∷ 0x82 ∷ 0x91 ∷ 0x88 ∷ 0x89 ∷ 0x8D ∷ 0x90 ∷ []) status ≡ true
 
-  -- "Reply $90, length 4: status, count (2), A.": of a GET
-  pub record GetReply (device : Device) (t : Started true device) (reply : List ℕ) : Type 0 where
+  -- "Reply $90, length 4: status, count (2), A.": of a GET, with the area and the device that it leaves
+  pub record GetReply (device : Device) (t : Started true device) (reply area : List ℕ) (left : Part (groupOf device)) : Type 0 where
     pub status : ℕ
     pub count : ℕ
     pub a : ℕ
     pub says : reply ≡ callReply status count a
     -- "Count is bytes stored into or taken from the area."
-    pub ends : GetEnds (actsOn device) (t .way) (c .length) (t .stands) status count
+    pub ends : GetEnds (actsOn device) (t .way) (c .length) (t .stands) status count left
+    pub stores : Stores (actsOn device) (t .stands) (c .address) count (l .area) area
     -- "The reply's A is the request's except after a successful read of length 0."
     pub a-read : c .length ≡ 0 → (byte : ℕ) → actsOn device .reads (t .stands) .says ≡ got.Character byte → a ≡ byte
     pub a-kept : (c .length ≡ 0 → (byte : ℕ) → actsOn device .reads (t .stands) .says ≡ got.Character byte → ⊥) → a ≡ c .a
 
   -- of a PUT
-  pub record PutReply (device : Device) (t : Started false device) (reply : List ℕ) : Type 0 where
+  pub record PutReply (device : Device) (t : Started false device) (reply area : List ℕ) (left : Part (groupOf device)) : Type 0 where
     pub status : ℕ
     pub count : ℕ
     pub says : reply ≡ callReply status count (c .a)
-    pub ends : PutEnds (actsOn device) (t .way) (c .length) (sentBy (t .way)) (t .stands) status count
+    pub ends : PutEnds (actsOn device) (t .way) (c .length) (sentBy (t .way)) (t .stands) status count left
+    pub leaves : area ≡ l .area
 
-  -- of what moves no character
-  pub record Uncounted (reply : List ℕ) : Type 0 where
+  -- of what starts no transfer
+  pub record Uncounted (reply area : List ℕ) : Type 0 where
     pub status : ℕ
     pub says : reply ≡ callReply status 0 (c .a)
+    pub leaves : area ≡ l .area
 
-  pub record CallReplies (reply : List ℕ) : Type 0 where
-    pub gets : (device : Device) (t : Started true device) → GetReply device t reply
-    pub puts : (device : Device) (t : Started false device) → PutReply device t reply
-    -- "Count is 0 for anything but transfers."; "A refusal at the start changes .. count 0"
-    pub others : ((reading : Bool) (device : Device) → Started reading device → ⊥) → Uncounted reply
+  -- the reply, and the area and the devices after it
+  pub record CallReplies (reply area : List ℕ) (after : Groups) : Type 0 where
+    pub gets : (device : Device) (t : Started true device) → GetReply device t reply area (getGroup (groupOf device) after)
+    pub puts : (device : Device) (t : Started false device) → PutReply device t reply area (getGroup (groupOf device) after)
+    -- "Count is 0 for anything but transfers."; "A refusal at the start changes no .. area .., count 0"
+    pub others : ((reading : Bool) (device : Device) → Started reading device → ⊥) → Uncounted reply area
 
   -- what a CALL leaves of its port's blocks
   pub record CallBlocks (status : ℕ) (after : Table) : Type 0 where
@@ -261,7 +279,7 @@ module _ (c : Call) (l : Local) (s : Groups) where
     pub past-area : PastArea → need ≡ group.Nobody
     pub no-device : NoDevice → need ≡ group.Nobody
     pub closes-closed : OnBlock block.Closed → c .command ≡ 0x0C → need ≡ group.Nobody
-    pub opens-device : (device : Device) → OpensDevice device → need ≡ groupOf device
+    pub names-device : (device : Device) → NamesDevice device → need ≡ groupOf device
     pub transfers : (reading : Bool) (device : Device) → Passed reading device → need ≡ groupOf device
     -- CLOSE, GET STATUS and SPECIAL
     pub on-open : (device : Device) (number aux1 : ℕ) → OnBlock (block.Open device number aux1) → 0x0C ≤ c .command → need ≡ groupOf device

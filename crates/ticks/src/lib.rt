@@ -24,8 +24,8 @@ fn plan_at(port: u8, header: Header, state: &[u8], area: &[u8]) -> Plan
     let room = ROOMS + ROOM * (port as usize);
     let past = room + ROOM;
     let message = wire::message_of(header, &state[room..past]);
-    let block = ports::block_of(port, plan::iocb_of(message), state);
-    plan::plan_in(message, block, &area[from..end])
+    let block = ports::block_of(port, checks::iocb_of(message), state);
+    checks::plan_in(message, block, &area[from..end])
 }
 
 // The other port holds the group that the message needs.

@@ -1,9 +1,9 @@
 -- `call_plan` meets its contract, by `call-high` and `call-low`.
 -- Assumes nothing.
-use Rattle.plan.proofs.Plans.{call-high, call-low}
+use Rattle.checks.proofs.Checks.{call-high, call-low}
 use borrow.Author.Needs.{needs}
-use Rattle.plan.proofs.call_plan.Statement.{statement}
-use Rattle.plan.proofs.call_plan.Tie as tie
+use Rattle.checks.proofs.call_plan.Statement.{statement}
+use Rattle.checks.proofs.call_plan.Tie as tie
 
 pub call-plan-spec : {M : Type 1} → statement M
 call-plan-spec =

@@ -1,9 +1,9 @@
 -- `block_plan` meets its contract, by `block-bad`, `closed-open`, `closed-close`, `closed-status`, `closed-special`, `closed-transfer`, `open-open`, `open-close`, `open-status`, `open-special` and `open-transfer`.
 -- Assumes nothing.
-use Rattle.plan.proofs.Plans.{block-bad, closed-open, closed-close, closed-status, closed-special, closed-transfer, open-open, open-close, open-status, open-special, open-transfer}
+use Rattle.checks.proofs.Checks.{block-bad, closed-open, closed-close, closed-status, closed-special, closed-transfer, open-open, open-close, open-status, open-special, open-transfer}
 use borrow.Author.Needs.{needs}
-use Rattle.plan.proofs.block_plan.Statement.{statement}
-use Rattle.plan.proofs.block_plan.Tie as tie
+use Rattle.checks.proofs.block_plan.Statement.{statement}
+use Rattle.checks.proofs.block_plan.Tie as tie
 
 pub block-plan-spec : {M : Type 1} → statement M
 block-plan-spec =

@@ -1,9 +1,9 @@
 -- `plan_in` meets its contract, by `plan-call`, `plan-load`, `plan-fetch` and `plan-bad`.
 -- Assumes nothing.
-use Rattle.plan.proofs.Plans.{plan-call, plan-load, plan-fetch, plan-bad}
+use Rattle.checks.proofs.Checks.{plan-call, plan-load, plan-fetch, plan-bad}
 use borrow.Author.Needs.{needs}
-use Rattle.plan.proofs.plan_in.Statement.{statement}
-use Rattle.plan.proofs.plan_in.Tie as tie
+use Rattle.checks.proofs.plan_in.Statement.{statement}
+use Rattle.checks.proofs.plan_in.Tie as tie
 
 pub plan-in-spec : {M : Type 1} → statement M
 plan-in-spec =

@@ -1,0 +1,251 @@
+/* names: each name that fixlomand.h has for what hosts send and get, for keys and for modes, by what the core does with
+ * its number. */
+#include "fixlomand.h"
+#include "guard.h"
+
+#include <stdio.h>
+#include <string.h>
+
+enum { R = FIXLOMAND_AUX1_READ, W = FIXLOMAND_AUX1_WRITE, FORCED = FIXLOMAND_AUX1_FORCED };
+enum { SPECIFICATION = 0, BUFFER = 16, STATUS = FIXLOMAND_HEADER_LEN, COUNT, A = COUNT + 2 };
+
+static uint8_t state[FIXLOMAND_STATE_LEN], area[FIXLOMAND_AREA_LEN];
+static uint8_t screen[FIXLOMAND_SCREEN_LEN], paper[FIXLOMAND_PAPER_LEN];
+static uint8_t reply[FIXLOMAND_ROOM_LEN];
+static unsigned checks;
+
+#define LENT state, sizeof state, area, sizeof area, screen, sizeof screen, paper, sizeof paper
+
+static void want(unsigned got, unsigned right, const char *what)
+{
+    checks++;
+    if (got != right)
+        fail("names: %s gives $%02X, not $%02X", what, got, right);
+}
+
+/* Sends a message at port 0 and reads its reply; how many bytes. */
+static unsigned request(const uint8_t *message, size_t length)
+{
+    unsigned got = 0;
+    uint16_t given;
+    for (size_t i = 0; i < length; i++)
+        if (fixlomand_take(LENT, 0, message[i]) != FIXLOMAND_DONE)
+            fail("names: byte %zu of message $%02X is not taken", i, message[0]);
+    while (fixlomand_tick(LENT, 0) == FIXLOMAND_DONE)
+        continue;
+    while (given = fixlomand_give(LENT, 0), FIXLOMAND_ANSWER(given) == FIXLOMAND_DONE)
+        reply[got++] = FIXLOMAND_BYTE(given);
+    return got;
+}
+
+/* A CALL; its status. */
+static unsigned call(unsigned block, unsigned command, unsigned address, unsigned length, unsigned aux1, unsigned aux2)
+{
+    const uint8_t message[FIXLOMAND_HEADER_LEN + FIXLOMAND_CALL_LEN] = {
+        FIXLOMAND_TAG_CALL,      FIXLOMAND_CALL_LEN, 0,
+        (uint8_t)block,          (uint8_t)command,   (uint8_t)address,
+        (uint8_t)(address >> 8), (uint8_t)length,    (uint8_t)(length >> 8),
+        (uint8_t)aux1,           (uint8_t)aux2,      0};
+    if (request(message, sizeof message) != FIXLOMAND_HEADER_LEN + FIXLOMAND_CALL_REPLY_LEN ||
+        reply[0] != FIXLOMAND_TAG_CALL_REPLY)
+        fail("names: a CALL of command $%02X is answered by tag $%02X", command, reply[0]);
+    return reply[STATUS];
+}
+
+/* Closes block 0 and opens a device on it; the status. */
+static unsigned opened(const char *specification, unsigned aux1, unsigned mode)
+{
+    call(0, FIXLOMAND_COMMAND_CLOSE, 0, 0, 0, 0);
+    memcpy(area + SPECIFICATION, specification, strlen(specification));
+    return call(0, FIXLOMAND_COMMAND_OPEN, SPECIFICATION, 0, aux1, mode);
+}
+
+static unsigned put(unsigned length)
+{
+    return call(0, FIXLOMAND_COMMAND_PUT_CHARACTERS, BUFFER, length, 0, 0);
+}
+
+static unsigned column(void)
+{
+    return state[FIXLOMAND_COLUMN] + 256u * state[FIXLOMAND_COLUMN + 1];
+}
+
+static void check_version(void)
+{
+    char text[16];
+    snprintf(text, sizeof text, "%d.%d.%d", FIXLOMAND_VERSION_NUMBER / 10000, FIXLOMAND_VERSION_NUMBER / 100 % 100,
+             FIXLOMAND_VERSION_NUMBER % 100);
+    if (strcmp(text, FIXLOMAND_VERSION) != 0)
+        fail("names: version %s has the number of %s", FIXLOMAND_VERSION, text);
+}
+
+static void check_messages(void)
+{
+    static uint8_t load[FIXLOMAND_HEADER_LEN + 2 + FIXLOMAND_PIECE_LEN + 1] = {FIXLOMAND_TAG_LOAD};
+    uint8_t fetch[] = {FIXLOMAND_TAG_FETCH, FIXLOMAND_FETCH_LEN, 0, 0, 0, 0, 0};
+    const uint8_t unknown[] = {FIXLOMAND_TAG_FETCH + 1, 0, 0};
+    memset(load + FIXLOMAND_HEADER_LEN + 2, 'x', FIXLOMAND_PIECE_LEN);
+    load[1] = (2 + FIXLOMAND_PIECE_LEN) % 256;
+    load[2] = (2 + FIXLOMAND_PIECE_LEN) / 256;
+    want(request(load, sizeof load - 1), FIXLOMAND_HEADER_LEN + 1, "the length of a LOAD's reply");
+    want(reply[0], FIXLOMAND_TAG_LOAD_REPLY, "LOAD");
+    want(reply[STATUS], FIXLOMAND_STATUS_SUCCESS, "LOAD of the most bytes");
+    want(area[FIXLOMAND_PIECE_LEN - 1], 'x', "the last byte of a LOAD");
+    load[1]++;
+    request(load, sizeof load);
+    want(reply[0], FIXLOMAND_TAG_REFUSED, "LOAD of one more");
+    want(reply[STATUS], FIXLOMAND_STATUS_BAD_COMMAND, "LOAD of one more");
+    fetch[5] = FIXLOMAND_PIECE_LEN % 256;
+    fetch[6] = FIXLOMAND_PIECE_LEN / 256;
+    want(request(fetch, sizeof fetch), FIXLOMAND_HEADER_LEN + 1 + FIXLOMAND_PIECE_LEN, "the length of a FETCH's reply");
+    want(reply[0], FIXLOMAND_TAG_FETCH_REPLY, "FETCH");
+    want(reply[STATUS], FIXLOMAND_STATUS_SUCCESS, "FETCH of the most bytes");
+    fetch[5]++;
+    request(fetch, sizeof fetch);
+    want(reply[STATUS], FIXLOMAND_STATUS_BAD_COMMAND, "FETCH of one more");
+    fetch[3] = FIXLOMAND_PORT_AREA_LEN % 256;
+    fetch[4] = FIXLOMAND_PORT_AREA_LEN / 256;
+    fetch[5] = 1;
+    fetch[6] = 0;
+    request(fetch, sizeof fetch);
+    want(reply[STATUS], FIXLOMAND_STATUS_PAST_AREA, "FETCH behind the area");
+    fetch[3] = (FIXLOMAND_PORT_AREA_LEN - 1) % 256;
+    fetch[4] = (FIXLOMAND_PORT_AREA_LEN - 1) / 256;
+    request(fetch, sizeof fetch);
+    want(reply[STATUS], FIXLOMAND_STATUS_SUCCESS, "FETCH of the area's last byte");
+    request(unknown, sizeof unknown);
+    want(reply[0], FIXLOMAND_TAG_REFUSED, "an unknown tag");
+    want(reply[STATUS], FIXLOMAND_STATUS_UNKNOWN_TAG, "an unknown tag");
+    want(fixlomand_tick(LENT, FIXLOMAND_PORTS - 1), FIXLOMAND_IDLE, "the last port");
+    want(fixlomand_tick(LENT, FIXLOMAND_PORTS), FIXLOMAND_BAD_PORT, "the port behind it");
+}
+
+static void check_blocks(void)
+{
+    want(FIXLOMAND_COMMAND_SPECIAL, FIXLOMAND_COMMAND_GET_STATUS + 1, "the first SPECIAL");
+    want(FORCED + R + W + FIXLOMAND_AUX1_SPLIT + FIXLOMAND_AUX1_KEEP, 0x3D, "the sum of the bits of AUX1");
+    want(call(FIXLOMAND_BLOCK_COUNT - 1, FIXLOMAND_COMMAND_CLOSE, 0, 0, 0, 0), FIXLOMAND_STATUS_SUCCESS,
+         "CLOSE of the last block");
+    want(call(FIXLOMAND_BLOCK_COUNT, FIXLOMAND_COMMAND_CLOSE, 0, 0, 0, 0), FIXLOMAND_STATUS_BAD_IOCB,
+         "CLOSE of the block behind it");
+    want(opened("X:", W, 0), FIXLOMAND_STATUS_UNKNOWN_DEVICE, "OPEN of X:");
+    want(put(1), FIXLOMAND_STATUS_NOT_OPEN, "PUT at a closed block");
+    memcpy(area + SPECIFICATION, "P:", 2);
+    want(call(0, FIXLOMAND_COMMAND_GET_STATUS, SPECIFICATION, 0, W, 0), FIXLOMAND_STATUS_SUCCESS, "GET STATUS of P:");
+    want(call(0, FIXLOMAND_COMMAND_SPECIAL, SPECIFICATION, 0, W, 0), FIXLOMAND_STATUS_BAD_COMMAND, "SPECIAL of P:");
+    want(state[FIXLOMAND_BLOCKS], FIXLOMAND_CLOSED, "the block after it");
+    want(opened("P:", W, 0), FIXLOMAND_STATUS_SUCCESS, "OPEN of P:");
+    want(state[FIXLOMAND_BLOCKS], FIXLOMAND_P, "the block after it");
+    want(call(0, FIXLOMAND_COMMAND_OPEN, SPECIFICATION, 0, W, 0), FIXLOMAND_STATUS_ALREADY_OPEN, "OPEN once more");
+    want(call(0, FIXLOMAND_COMMAND_GET_RECORD, BUFFER, 1, 0, 0), FIXLOMAND_STATUS_NOT_READABLE, "GET from P:");
+    want(put(FIXLOMAND_PORT_AREA_LEN), FIXLOMAND_STATUS_PAST_AREA, "PUT past the area");
+    want(opened("P:", R, 0), FIXLOMAND_STATUS_BAD_COMMAND, "OPEN of P: with R");
+    want(opened("K:", R, 0), FIXLOMAND_STATUS_SUCCESS, "OPEN of K:");
+    want(put(1), FIXLOMAND_STATUS_NOT_WRITABLE, "PUT to K:");
+}
+
+static void check_printer(void)
+{
+    opened("P:", W, 0);
+    memcpy(area + BUFFER, "ab", 2);
+    want(call(0, FIXLOMAND_COMMAND_PUT_RECORD, BUFFER, 2, 0, 0), FIXLOMAND_STATUS_SUCCESS, "PUT RECORD");
+    want(reply[COUNT], 2, "PUT RECORD's count");
+    want(paper[2], FIXLOMAND_EOL, "PUT RECORD's last byte");
+    want(put(FIXLOMAND_PAPER_LEN), FIXLOMAND_STATUS_PAPER_FULL, "PUT of more than the paper");
+}
+
+static void check_editor(void)
+{
+    want(opened("E:", R | W, 0), FIXLOMAND_STATUS_BAD_COMMAND, "OPEN of E: without forced read");
+    want(opened("E:", R | W | FORCED, 0), FIXLOMAND_STATUS_SUCCESS, "OPEN of E:");
+    memset(area + BUFFER, ' ', 64);
+    want(call(0, FIXLOMAND_COMMAND_GET_CHARACTERS, BUFFER, 1, 0, 0), FIXLOMAND_STATUS_SUCCESS, "GET from an empty row");
+    want(area[BUFFER], FIXLOMAND_EOL, "GET CHARACTERS from an empty row");
+    memcpy(area + BUFFER, "abc\x1D\x1C", 5); /* down and up: the row stays */
+    want(put(5), FIXLOMAND_STATUS_SUCCESS, "PUT to E:");
+    want(call(0, FIXLOMAND_COMMAND_GET_RECORD, BUFFER, 2, 0, 0), FIXLOMAND_STATUS_RECORD_CUT, "GET RECORD of more");
+    want(reply[COUNT], 2, "GET RECORD's count");
+}
+
+static void check_keys(void)
+{
+    static const uint8_t caps = 60;
+    want(state[FIXLOMAND_LOCK], FIXLOMAND_LOCK_SHIFT, "the lock of a fresh start");
+    want(opened("K:", R, 0), FIXLOMAND_STATUS_SUCCESS, "OPEN of K:");
+    want(call(0, FIXLOMAND_COMMAND_GET_CHARACTERS, BUFFER, 1, 0, 0), FIXLOMAND_STATUS_END_OF_FILE, "GET without a key");
+    fixlomand_press(LENT, caps);
+    call(0, FIXLOMAND_COMMAND_GET_CHARACTERS, BUFFER, 0, 0, 0);
+    want(state[FIXLOMAND_LOCK], FIXLOMAND_LOCK_NONE, "CAPS");
+    fixlomand_press(LENT, caps + FIXLOMAND_WITH_CONTROL);
+    call(0, FIXLOMAND_COMMAND_GET_CHARACTERS, BUFFER, 0, 0, 0);
+    want(state[FIXLOMAND_LOCK], FIXLOMAND_LOCK_CONTROL, "CAPS with control");
+    fixlomand_press(LENT, caps + FIXLOMAND_WITH_SHIFT);
+    want(state[FIXLOMAND_KEY], 124, "CAPS with shift");
+    call(0, FIXLOMAND_COMMAND_GET_CHARACTERS, BUFFER, 0, 0, 0);
+    want(state[FIXLOMAND_KEY], FIXLOMAND_NO_KEY, "a GET");
+    want(state[FIXLOMAND_LOCK], FIXLOMAND_LOCK_SHIFT, "CAPS with shift");
+}
+
+/* The colours by a cell, the columns and rows by where the cursor goes. */
+static void check_mode(unsigned mode)
+{
+    char what[40];
+    snprintf(what, sizeof what, "mode %u", mode);
+    want(opened("S:", R | W, mode), FIXLOMAND_STATUS_SUCCESS, what);
+    want(state[FIXLOMAND_MODE], mode, what);
+    memset(area + BUFFER, 255, FIXLOMAND_PORT_AREA_LEN - BUFFER);
+    want(put(FIXLOMAND_COLUMNS(mode) - 1), FIXLOMAND_STATUS_SUCCESS, what);
+    want(screen[0], FIXLOMAND_COLOURS(mode) - 1, what);
+    want(column(), FIXLOMAND_COLUMNS(mode) - 1, what);
+    want(put(1), FIXLOMAND_STATUS_SUCCESS, what);
+    want(column(), 0, what);
+    want(state[FIXLOMAND_ROW], 1, what);
+    memset(area + BUFFER, FIXLOMAND_EOL, 256);
+    want(put(FIXLOMAND_ROWS(mode) - 1), FIXLOMAND_STATUS_SUCCESS, what);
+    want(put(1), FIXLOMAND_STATUS_CURSOR_PAST_LAST_ROW, what);
+    want(opened("S:", R | FIXLOMAND_AUX1_KEEP, mode), FIXLOMAND_STATUS_SUCCESS, what);
+    want(screen[0], FIXLOMAND_COLOURS(mode) - 1, "OPEN of S: that keeps the cells");
+    want(opened("S:", R, mode), FIXLOMAND_STATUS_SUCCESS, what);
+    want(screen[0], 0, "OPEN of S:");
+    want(opened("S:", R | FIXLOMAND_AUX1_SPLIT, mode), FIXLOMAND_STATUS_SCREEN_MODE, "OPEN of S: with a split screen");
+}
+
+static void check_modes(void)
+{
+    for (unsigned mode = 0; mode < 256; mode++)
+        if (mode >= 3 && mode <= 8)
+            check_mode(mode);
+        else
+            want(opened("S:", R | W, mode), FIXLOMAND_STATUS_SCREEN_MODE, "no mode of S:");
+    for (unsigned mode = 1; mode < 256; mode == 2 ? mode = 9 : mode++)
+        want(FIXLOMAND_COLUMNS(mode) + FIXLOMAND_ROWS(mode) + FIXLOMAND_COLOURS(mode), 0, "a number that is no mode");
+    /* the text: a fresh start's blanks, the right margin, and the last row, from which the rows move up */
+    fixlomand_fresh(LENT);
+    want(screen[FIXLOMAND_COLUMNS(0) * FIXLOMAND_ROWS(0) - 1], ' ', "the text's last cell");
+    want(screen[FIXLOMAND_COLUMNS(0) * FIXLOMAND_ROWS(0)], 0, "the cell behind it");
+    want(FIXLOMAND_COLOURS(0), 256, "the text's characters");
+    opened("E:", W, 0);
+    memset(area + BUFFER, 'a', 64);
+    put(FIXLOMAND_COLUMNS(0) - 2);
+    want(state[FIXLOMAND_ROW], 1, "a row of text");
+    memset(area + BUFFER, FIXLOMAND_EOL, 64);
+    put(FIXLOMAND_ROWS(0) - 2);
+    want(screen[2], 'a', "the text's first row");
+    want(state[FIXLOMAND_ROW], FIXLOMAND_ROWS(0) - 1, "the text's last row");
+    put(1);
+    want(screen[2], ' ', "a new row from the last");
+}
+
+int main(void)
+{
+    check_version();
+    fixlomand_fresh(LENT);
+    check_messages();
+    check_blocks();
+    check_printer();
+    check_editor();
+    check_keys();
+    check_modes();
+    printf("names: %u times the core did what the header's name says\n", checks);
+    return 0;
+}
