@@ -21,7 +21,7 @@ use Rattle.replies.specs.Replies.{bytesAt}
 use Rattle.transfer.specs.Transfer.{eol}
 use Rattle.alone.specs.Transfer.{TransferEnd, last, onGot, onDone, getOne, putOne, getCharacters, dropLine, getRecord, putCharacters, putRecord, getting, putting}
 use Rattle.alone.specs.Moves.{Lines}
-use Rattle.alone.specs.Ending.{IsLast, placesOf, readTo, readSays, GoesOn, ReadsTo, GetEnds, get-refused, get-whole, get-cut, sentOf, writtenTo, writeSays, SentOn, WritesTo, PutEnds, put-refused, put-whole}
+use Rattle.alone.specs.Ending.{IsLast, placesOf, readTo, readSays, GoesOn, ReadsTo, GetEnds, get-refused, get-whole, get-cut, mostSent, writtenTo, writeSays, SentOn, WritesTo, PutEnds, put-refused, put-whole}
 
 -- by what the handler says
 pub on-got : {R : Type 0} (P : R → Type 0) (says : Got) (f g : ℕ → R) → ((byte : ℕ) → says ≡ got.Character byte → P (f byte)) → ((status : ℕ) → says ≡ got.Refused status → P (g status)) → P (onGot says f g)
@@ -309,7 +309,7 @@ module _ {D : Type 0} (H : Acts D) where
     getting-ends Fit Z Characters n place area x f h = get-characters left a n place 0 area x h
     getting-ends Fit Z Record n place area x f h = get-record left a Fit Z n place 0 area x f
 
-    putting-ends : (way : Way) (n place : ℕ) (area : List ℕ) (x : D) → LengthFits way n → PutAs left a way n (sentOf way a n area place) x 0 (putting H left a way n place 0 area x)
+    putting-ends : (way : Way) (n place : ℕ) (area : List ℕ) (x : D) → LengthFits way n → PutAs left a way n (mostSent way a n area place) x 0 (putting H left a way n place 0 area x)
     unfolding putting
     putting-ends One n place area x h = put-one left a n 0 area x h
     putting-ends Characters n place area x h = put-characters left a n place 0 area x h
@@ -325,10 +325,10 @@ module _ {D : Type 0} (H : Acts D) where
 
     pub put-ends : (way : Way) (n place : ℕ) (area : List ℕ) (x : D) → LengthFits way n
         → let r = putting H left a way n place 0 area x in
-        PutEnds H way n (sentOf way a n area place) x (r .status) (r .count) (r .device)
+        PutEnds H way n (mostSent way a n area place) x (r .status) (r .count) (r .device)
     put-ends way n place area x h =
         let t = putting-ends way n place area x h in
-        subst (λ (count : ℕ). PutEnds H way n (sentOf way a n area place) x (putting H left a way n place 0 area x .status) count (putting H left a way n place 0 area x .device)) (omega (arith, t .count)) (t .ends)
+        subst (λ (count : ℕ). PutEnds H way n (mostSent way a n area place) x (putting H left a way n place 0 area x .status) count (putting H left a way n place 0 area x .device)) (omega (arith, t .count)) (t .ends)
 
   -- A transfer ends in one way
   module _ (way : Way) (n : ℕ) (x : D) where

@@ -66,10 +66,10 @@ module _ {D : Type 0} (H : Acts D) where
     pub apart : (i : ℕ) → (i < place) ⊎ (place + count ≤ i) → getD after i 0 ≡ getD area i 0
 
 -- what a PUT sends at most: A; the buffer's bytes; of a record "after n without one, one EOL more"
-abbrev pub sentOf : Way → (a n : ℕ) → (area : List ℕ) → (address : ℕ) → List ℕ
-sentOf One a n area address = a ∷ []
-sentOf Characters a n area address = bytesAt area address n
-sentOf Record a n area address = bytesAt area address n ++ (eol ∷ [])
+abbrev pub mostSent : Way → (a n : ℕ) → (area : List ℕ) → (address : ℕ) → List ℕ
+mostSent One a n area address = a ∷ []
+mostSent Characters a n area address = bytesAt area address n
+mostSent Record a n area address = bytesAt area address n ++ (eol ∷ [])
 
 module _ {D : Type 0} (H : Acts D) where
   -- the device after so many of these are written, and what it says to the next

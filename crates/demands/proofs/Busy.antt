@@ -25,7 +25,7 @@ use Rattle.serial.proofs.Follows.{run-is, answers-is}
 use Rattle.serial.proofs.Tested.{answers}
 use Rattle.machine.specs.Spells.{nothingYet}
 use Rattle.machine.specs.Real.{real}
-use Rattle.machine.specs.Sticks.{seen}
+use Rattle.machine.specs.Sticks.{viewOf}
 use Rattle.machine.proofs.Plugged.{zeros, first, ok-by}
 use Rattle.machine.proofs.Busy.{busyCalls, busyNumbers, machineEnd, busyGiven, machine-answers, machine-used, machine-0, machine-1, machine-given}
 use Rattle.demands.specs.Bytes.{standsFor, bytes, SoundBuffers}
@@ -90,10 +90,10 @@ module _ (o : FreshCall) (e : lends o ≡ zeroBytes) where
   start-begins : Begun real bytes start
   start-begins = run-begins o start-gives-0
 
-  start-seen : seen (standsFor start) ≡ first
+  start-seen : viewOf (standsFor start) ≡ first
   start-seen =
-      sym (ap seen (started-stands start (after-fresh o start-gives-0)))
-      ∙ ap (λ (b : Buffers). seen (record { stick = freshStick; buffers = freshLent (lentBy b) })) e
+      sym (ap viewOf (started-stands start (after-fresh o start-gives-0)))
+      ∙ ap (λ (b : Buffers). viewOf (record { stick = freshStick; buffers = freshLent (lentBy b) })) e
 
   -- "each is given exactly then"
   pub busy-answers : answers real bytes busyCalls start ≡ busyNumbers
@@ -104,7 +104,7 @@ module _ (o : FreshCall) (e : lends o ≡ zeroBytes) where
   abbrev pub busyEnd : State real bytes
   busyEnd = after real bytes busyCalls (begin real bytes start)
 
-  end-is : record { world = seen (standsFor (busyEnd .world)); seen = busyEnd .seen } ≡ machineEnd
+  end-is : record { world = viewOf (standsFor (busyEnd .world)); seen = busyEnd .seen } ≡ machineEnd
   end-is =
       run-is real bytes bytes-follow start start-begins busyCalls busy-ok
       ∙ ap (λ (v : View real). after real (coreOf real) busyCalls (begin real (coreOf real) v)) start-seen

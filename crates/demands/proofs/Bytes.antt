@@ -29,7 +29,7 @@ use Rattle.calls.specs.Parts.{Lengths}
 use Rattle.calls.proofs.Passing.{lengths-of, lengths-all}
 use Rattle.rules.proofs.FreshStart.{fresh-undamaged, fresh-lengths, fresh-done}
 use Rattle.serial.specs.Machine.{port-0, port-1}
-use Rattle.serial.specs.Core.{Call, take, tick, give, press, number}
+use Rattle.serial.specs.Core.{CoreCall, take, tick, give, press, number}
 use Rattle.serial.specs.Run.{OkCall, Reached}
 use Rattle.serial.specs.Undamaged.{OkPhase}
 use Rattle.serial.specs.Demand1.{Refused}
@@ -37,7 +37,7 @@ use Rattle.alone.specs.Alone.{Local}
 use Rattle.serial.specs.Follows.{Follows, Images}
 use Rattle.serial.proofs.Runs.{reached-next}
 use Rattle.serial.proofs.Image.{images-follow, reached-imaged}
-use Rattle.machine.specs.Spells.{Gather, gathers, Gathered, none-taken, tag-taken, low-taken, value-taken}
+use Rattle.machine.specs.Spells.{SoFar, gathers, GatheredSoFar, none-taken, tag-taken, low-taken, value-taken}
 use Rattle.machine.specs.Real.{real}
 use Rattle.machine.specs.Sticks as sticks
 use Rattle.machine.specs.Sticks.{World, answerBy, outcomeOf, Sound}
@@ -86,14 +86,14 @@ pub record HeadAndRooms (b : Buffers) : Type 0 where
   pub whole : headOf (stickBy b) ++ drop roomsPlace (b .state) ≡ b .state
 
 -- a length has two bytes
-gather-typed : (n : blocks.Gather) (value bs : List ℕ) → Gathered bs (gathers n value) → n .length < 65536
-gather-typed n value bs (none-taken e q) = let z : n .length ≡ 0 = ap (λ (g : Gather). g .numbers .length) q in omega (arith, z)
+gather-typed : (n : blocks.Gather) (value bs : List ℕ) → GatheredSoFar bs (gathers n value) → n .length < 65536
+gather-typed n value bs (none-taken e q) = let z : n .length ≡ 0 = ap (λ (g : SoFar). g .numbers .length) q in omega (arith, z)
 gather-typed n value bs (tag-taken tag e q) =
-    let z : n .length ≡ 0 = ap (λ (g : Gather). g .numbers .length) q in omega (arith, z)
+    let z : n .length ≡ 0 = ap (λ (g : SoFar). g .numbers .length) q in omega (arith, z)
 gather-typed n value bs (low-taken tag low a e q) =
-    let z : n .length ≡ low = ap (λ (g : Gather). g .numbers .length) q in omega (arith, z, a)
+    let z : n .length ≡ low = ap (λ (g : SoFar). g .numbers .length) q in omega (arith, z, a)
 gather-typed n value bs (value-taken tag low high v a c e l q) =
-    let z = ap (λ (g : Gather). g .numbers .length) q in omega (arith, z, a, c)
+    let z = ap (λ (g : SoFar). g .numbers .length) q in omega (arith, z, a, c)
 
 phase-typed : (x : Phase) (room : List ℕ) (l : Local) (d : Groups) → OkPhase real (sticks.phaseSeen x room) l d → LengthTyped x
 phase-typed (phase.Gathering n) room l d g = gather-typed n _ (g .0) (g .1)
@@ -154,14 +154,14 @@ module _ (b : Buffers) (g : HeadAndRooms b) where
     over-is : (call : Stick → Lent → Outcome) → overBytes call b ≡ leftOf (call (stickBy b) (lentBy b))
     over-is call = over-done b call (written-lengths h) written-stands
 
-    pub left-is : (c : Call real) → leftBy c b ≡ leftOf (outcomeOf c (standsFor b))
+    pub left-is : (c : CoreCall real) → leftBy c b ≡ leftOf (outcomeOf c (standsFor b))
     unfolding takeBytes tickBytes giveBytes pressBytes
     left-is (take p byte) = over-is (λ s l. takeCall s l (sticks.portNumber p) byte)
     left-is (tick p) = over-is (λ s l. tickCall s l (sticks.portNumber p))
     left-is (give p) = over-is (λ s l. giveCall s l (sticks.portNumber p))
     left-is (press code) = over-is (λ s l. pressCall s l code)
 
-same-answer : (c : Call real) (o : Outcome)
+same-answer : (c : CoreCall real) (o : Outcome)
     → answerBy (doneWith c (o .byte)) (o .answer) ≡ answerBy (sticks.success c o) (o .answer)
 same-answer (take p byte) o = refl
 same-answer (tick p) o = refl
@@ -209,7 +209,7 @@ module _ (b : Buffers) (s : AfterFresh b) where
   })
 
 module _ (b : Buffers) (g : HeadAndRooms b) (r : Reached real sticks.sticks (standsFor b))
-    (c : Call real) (o : OkCall real c) where
+    (c : CoreCall real) (o : OkCall real c) where
   abbrev after : World
   after = sticks.called c (standsFor b) .world
 
@@ -265,7 +265,7 @@ module _ (b : Buffers) (r : Reached real bytes b) where
       record { lengths = written-lengths b (imaged .1) g; stands = written-stands b (imaged .1); fits = g .fits }
 
   -- the answers of a run are the numbers that the calls give
-  pub always-numbers : (c : Call real) → number real (callBytes c b .answer) ≡ leftBy c b .answer
+  pub always-numbers : (c : CoreCall real) → number real (callBytes c b .answer) ≡ leftBy c b .answer
   always-numbers c =
       let w = standsFor b in
       let q = left-is b (imaged .1) (linked.always-sound w (imaged .0)) c in

@@ -24,7 +24,7 @@ use Rattle.firmware.proofs.fixlomand_press.Kinds as press-kinds
 use Rattle.firmware.proofs.fixlomand_press.Reads as press-reads
 use Rattle.firmware.proofs.fixlomand_translate.Kinds as translate-kinds
 use Rattle.firmware.proofs.fixlomand_translate.Reads as translate-reads
-use Rattle.serial.specs.Core.{Call, take, tick, give, press}
+use Rattle.serial.specs.Core.{CoreCall, take, tick, give, press}
 use Rattle.machine.specs.Real.{real}
 use Rattle.machine.specs.Sticks.{portNumber}
 use Rattle.demands.specs.Told.{fourLent, FreshCall, TakeCall, TickCall, GiveCall, PressCall, CallByC, by-take, by-tick, by-give, by-press, RunByC, here, then}
@@ -81,13 +81,13 @@ module _ (b : Buffers) where
   abbrev pub press-call : (code : ℕ) → PressCall
   press-call code = asked press-open b (code, tt)
 
-  pub can-call : (c : Call real) → (r : Returned) × CallByC b c r
+  pub can-call : (c : CoreCall real) → (r : Returned) × CallByC b c r
   can-call (take p byte) = (_, by-take (take-call (portNumber p) byte) p refl)
   can-call (tick p) = (_, by-tick (tick-call (portNumber p)) p refl)
   can-call (give p) = (_, by-give (give-call (portNumber p)) p refl)
   can-call (press code) = (_, by-press (press-call code))
 
-pub can-run : (cs : List (Call real)) (b : Buffers) → (b′ : Buffers) × RunByC b cs b′
+pub can-run : (cs : List (CoreCall real)) (b : Buffers) → (b′ : Buffers) × RunByC b cs b′
 can-run [] b = (b, here)
 can-run (c ∷ cs) b =
     let o = can-call b c in

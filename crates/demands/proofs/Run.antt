@@ -7,7 +7,7 @@ use Prim.Native.Nat.{ℕ, _%_}
 use native.Mathlib.Omega.{arith}
 use Rattle.calls.specs.Bytes.{Buffers, buffers, Left}
 use Rattle.calls.specs.Returned.{Returned}
-use Rattle.serial.specs.Core.{Call, take, tick, give, press}
+use Rattle.serial.specs.Core.{CoreCall, take, tick, give, press}
 use Rattle.serial.specs.Run.{State, OkCalls, one-more, Begun, Reached, next, after, begin}
 use Rattle.serial.proofs.Runs.{reached-first, reached-next}
 use Rattle.machine.specs.Real.{real}
@@ -31,13 +31,13 @@ run-begins o e =
     (after-fresh o e, fresh-begins (standsFor (leaves o .buffers)) (started-is (leaves o .buffers) (after-fresh o e)) .1)
 
 -- a call of the run
-returned-buffers : (c : Call real) (l : Left) → returnedBy c l .buffers ≡ l .buffers
+returned-buffers : (c : CoreCall real) (l : Left) → returnedBy c l .buffers ≡ l .buffers
 returned-buffers (take p byte) l = refl
 returned-buffers (tick p) l = refl
 returned-buffers (give p) l = refl
 returned-buffers (press code) l = refl
 
-call-buffers : {b : Buffers} {c : Call real} {r : Returned} → CallByC b c r → r .buffers ≡ leftBy c b .buffers
+call-buffers : {b : Buffers} {c : CoreCall real} {r : Returned} → CallByC b c r → r .buffers ≡ leftBy c b .buffers
 call-buffers {b} {c} {r} q = ap (λ (x : Returned). x .buffers) (call-is q) ∙ returned-buffers c (leftBy c b)
 
 -- a call answered 1 changes nothing of a state that is a stick's, and one answered 2 nothing of anything
@@ -63,7 +63,7 @@ aside-same q t =
     let p = remains-same (ap (λ (x : Buffers). x .paper) q) (t .paper) in
     λ i. buffers (s i) (a i) (c i) (p i)
 
-run-comes : {b b′ : Buffers} {cs : List (Call real)} → RunByC b cs b′ → OkCalls real cs → (s : State real bytes)
+run-comes : {b b′ : Buffers} {cs : List (CoreCall real)} → RunByC b cs b′ → OkCalls real cs → (s : State real bytes)
     → Reached real bytes (s .world) → s .world ≡ b → after real bytes cs s .world ≡ b′
 unfolding after
 run-comes here ok s r e = e
@@ -74,7 +74,7 @@ run-comes (above {b} a q rs) ok s r e =
     run-comes rs ok s r (e ∙ sym (one-same (subst HeadAndRooms e (always-whole (s .world) r)) a q))
 run-comes (aside a q t rs) ok s r e = run-comes rs ok s r (e ∙ sym (aside-same (two-same a q) t))
 
-pub linked : (o : FreshCall) → leaves o .number ≡ 0 → (cs : List (Call real)) → OkCalls real cs → (b : Buffers)
+pub linked : (o : FreshCall) → leaves o .number ≡ 0 → (cs : List (CoreCall real)) → OkCalls real cs → (b : Buffers)
     → RunByC (leaves o .buffers) cs b → Linked o cs b
 linked o e cs ok b r =
     let g = run-begins o e in
@@ -82,7 +82,7 @@ linked o e cs ok b r =
     record { begins = g; comes = run-comes r ok (begin real bytes b₀) (reached-first real bytes b₀ g) refl }
 
 -- so what the functions come to is reached in the demands' sense
-pub run-reached : (o : FreshCall) → leaves o .number ≡ 0 → (cs : List (Call real)) → OkCalls real cs → (b : Buffers)
+pub run-reached : (o : FreshCall) → leaves o .number ≡ 0 → (cs : List (CoreCall real)) → OkCalls real cs → (b : Buffers)
     → RunByC (leaves o .buffers) cs b → Reached real bytes b
 run-reached o e cs ok b r =
     let k = linked o e cs ok b r in record { from = leaves o .buffers; begun = k .begins; calls = cs; ok = ok; there = k .comes }

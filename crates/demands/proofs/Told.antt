@@ -10,7 +10,7 @@ use Rattle.calls.specs.Bytes.{Buffers, Left, takeBytes, tickBytes, giveBytes}
 use Rattle.calls.specs.Parts.{Lengths}
 use Rattle.calls.specs.Returned.{Returned, returned, answerOf, bothOf}
 use Rattle.rules.specs.Answers.{TakeAnswers, TickAnswers, GiveAnswers, PressAnswers}
-use Rattle.serial.specs.Core.{Call}
+use Rattle.serial.specs.Core.{CoreCall}
 use Rattle.serial.specs.Run.{Reached}
 use Rattle.machine.specs.Real.{real}
 use Rattle.demands.specs.Bytes.{leftBy, bytes, UndamagedState}
@@ -135,7 +135,7 @@ two-short (any-give o) e = exact (any-give o) .lengths .0 (ap (λ (n : ℕ). n %
 two-short (any-press o) e = exact (any-press o) .lengths .0 e
 
 -- a call of the run
-pub call-is : {b : Buffers} {c : Call real} {r : Returned} → CallByC b c r → r ≡ returnedBy c (leftBy c b)
+pub call-is : {b : Buffers} {c : CoreCall real} {r : Returned} → CallByC b c r → r ≡ returnedBy c (leftBy c b)
 call-is (by-take o p e) = o .told ∙ ap (λ (n : ℕ). answerOf (takeBytes (lends o) n (byteOffered o))) e
 call-is (by-tick o p e) = o .told ∙ ap (λ (n : ℕ). answerOf (tickBytes (lends o) n)) e
 call-is (by-give o p e) = o .told ∙ ap (λ (n : ℕ). bothOf (giveBytes (lends o) n)) e

@@ -13,28 +13,28 @@ use Rattle.layout.specs.Stands.{stands}
 use Rattle.damage.specs.Fits.{stickFits}
 use Rattle.calls.specs.Bytes.{Buffers, Left, stickBy, lentBy, freshBytes, takeBytes, tickBytes, giveBytes, pressBytes}
 use Rattle.calls.specs.Parts.{Lengths}
-use Rattle.serial.specs.Core.{Call, take, tick, give, press, Answer, done, gave, Effect, Core}
+use Rattle.serial.specs.Core.{CoreCall, take, tick, give, press, Answer, done, gave, Effect, Core}
 use Rattle.machine.specs.Real.{real}
-use Rattle.machine.specs.Sticks.{World, portNumber, answerBy, seen}
+use Rattle.machine.specs.Sticks.{World, portNumber, answerBy, viewOf}
 
 -- the stick and the buffers that the lent bytes stand for
 abbrev pub standsFor : Buffers → World
 standsFor b = record { stick = stickBy b; buffers = lentBy b }
 
-abbrev pub leftBy : Call real → Buffers → Left
+abbrev pub leftBy : CoreCall real → Buffers → Left
 leftBy (take p byte) b = takeBytes b (portNumber p) byte
 leftBy (tick p) b = tickBytes b (portNumber p)
 leftBy (give p) b = giveBytes b (portNumber p)
 leftBy (press code) b = pressBytes b code
 
 -- a call that gives a byte gives it with 0
-abbrev pub doneWith : Call real → (byte : ℕ) → Answer real
+abbrev pub doneWith : CoreCall real → (byte : ℕ) → Answer real
 doneWith (take p offered) byte = done
 doneWith (tick p) byte = done
 doneWith (give p) byte = gave byte
 doneWith (press code) byte = done
 
-abbrev pub callBytes : Call real → Buffers → Effect real Buffers
+abbrev pub callBytes : CoreCall real → Buffers → Effect real Buffers
 callBytes c b = let l = leftBy c b in record { world = l .buffers; answer = answerBy (doneWith c (l .byte)) (l .answer) }
 
 -- "after one fresh start that gives 0", whatever the buffers held before
@@ -44,7 +44,7 @@ pub record AfterFresh (b : Buffers) : Type 0 where
   pub leaves : freshBytes before .buffers ≡ b
 
 abbrev pub bytes : Core real
-bytes = record { World = Buffers; Fresh = AfterFresh; call = callBytes; see = λ b. seen (standsFor b) }
+bytes = record { World = Buffers; Fresh = AfterFresh; call = callBytes; see = λ b. viewOf (standsFor b) }
 
 -- what every call tests first: lengths, and that the bytes stand for an undamaged stick
 pub record SoundBuffers (b : Buffers) : Type 0 where

@@ -30,7 +30,7 @@ use Rattle.firmware.proofs.fixlomand_press.Kinds as press-kinds
 use Rattle.firmware.proofs.fixlomand_press.Reads as press-reads
 use Rattle.firmware.proofs.fixlomand_translate.Kinds as translate-kinds
 use Rattle.firmware.proofs.fixlomand_translate.Reads as translate-reads
-use Rattle.serial.specs.Core.{Call, number}
+use Rattle.serial.specs.Core.{CoreCall, number}
 use Rattle.serial.specs.Run.{OkCalls, Begun, Reached, after, begin}
 use Rattle.serial.specs.Reading.{OneReading}
 use Rattle.serial.specs.Demand1.{Demand1}
@@ -45,7 +45,7 @@ use Rattle.demands.specs.Told.{lends, leaves, answerIn, replyByteIn, Fre
 use Rattle.demands.specs.Demand1.{Open, Exactly, OffersByte, TranslateAnswers}
 
 -- a run of the functions is the run that the demands speak of: it begins as they ask, and comes where they say
-pub record Linked (o : FreshCall) (cs : List (Call real)) (b : Buffers) : Type 0 where
+pub record Linked (o : FreshCall) (cs : List (CoreCall real)) (b : Buffers) : Type 0 where
   pub begins : Begun real bytes (leaves o .buffers)
   pub comes : after real bytes cs (begin real bytes (leaves o .buffers)) .world ≡ b
 
@@ -105,11 +105,11 @@ pub record Demands : Type 0 where
   pub fresh-spares : (o : FreshCall) → leaves o .buffers .paper ≡ lends o .paper
   -- the link: what a function returns and leaves is what the run's call does: answer, byte, state and buffers; the run's answers
   -- are those numbers; and each can be called
-  pub call-is : {b : Buffers} {c : Call real} {r : Returned} → CallByC b c r → r ≡ returnedBy c (leftBy c b)
-  pub numbers : (b : Buffers) → Reached real bytes b → (c : Call real)
+  pub call-is : {b : Buffers} {c : CoreCall real} {r : Returned} → CallByC b c r → r ≡ returnedBy c (leftBy c b)
+  pub numbers : (b : Buffers) → Reached real bytes b → (c : CoreCall real)
       → number real (bytes .call c b .answer) ≡ leftBy c b .answer
-  pub can-call : (b : Buffers) (c : Call real) → (r : Returned) × CallByC b c r
+  pub can-call : (b : Buffers) (c : CoreCall real) → (r : Returned) × CallByC b c r
   -- "any sequence of calls after one fresh start that gives 0 .. the same state and lent buffers in every call but those answered
   -- 2"
-  pub link : (o : FreshCall) → leaves o .number ≡ 0 → (cs : List (Call real)) → OkCalls real cs → (b : Buffers)
+  pub link : (o : FreshCall) → leaves o .number ≡ 0 → (cs : List (CoreCall real)) → OkCalls real cs → (b : Buffers)
       → RunByC (leaves o .buffers) cs b → Linked o cs b

@@ -24,8 +24,8 @@ use Rattle.firmware.proofs.fixlomand_press.Kinds as press-kinds
 use Rattle.firmware.proofs.fixlomand_press.Reads as press-reads
 use Rattle.firmware.proofs.fixlomand_translate.Kinds as translate-kinds
 use Rattle.firmware.proofs.fixlomand_translate.Reads as translate-reads
-use Rattle.serial.specs.Machine.{Port}
-use Rattle.serial.specs.Core.{Call, take, tick, give, press}
+use Rattle.serial.specs.Machine.{PortName}
+use Rattle.serial.specs.Core.{CoreCall, take, tick, give, press}
 use Rattle.machine.specs.Real.{real}
 use Rattle.machine.specs.Sticks.{portNumber}
 
@@ -101,14 +101,14 @@ pub data AnyCall : Buffers → Returned → Type 0 where
   any-press : (o : PressCall) → AnyCall (lends o) (leaves o)
 
 -- a call of the run, and the call of the function that it is
-pub data CallByC : Buffers → Call real → Returned → Type 0 where
-  by-take : (o : TakeCall) (p : Port) → portNamed o ≡ portNumber p → CallByC (lends o) (take p (byteOffered o)) (leaves o)
-  by-tick : (o : TickCall) (p : Port) → portNamed o ≡ portNumber p → CallByC (lends o) (tick p) (leaves o)
-  by-give : (o : GiveCall) (p : Port) → portNamed o ≡ portNumber p → CallByC (lends o) (give p) (leaves o)
+pub data CallByC : Buffers → CoreCall real → Returned → Type 0 where
+  by-take : (o : TakeCall) (p : PortName) → portNamed o ≡ portNumber p → CallByC (lends o) (take p (byteOffered o)) (leaves o)
+  by-tick : (o : TickCall) (p : PortName) → portNamed o ≡ portNumber p → CallByC (lends o) (tick p) (leaves o)
+  by-give : (o : GiveCall) (p : PortName) → portNamed o ≡ portNumber p → CallByC (lends o) (give p) (leaves o)
   by-press : (o : PressCall) → CallByC (lends o) (press (codePressed o)) (leaves o)
 
 -- what C is returned: the answer, and of give the reply byte above it
-abbrev pub returnedBy : Call real → Left → Returned
+abbrev pub returnedBy : CoreCall real → Left → Returned
 returnedBy (take p byte) l = answerOf l
 returnedBy (tick p) l = answerOf l
 returnedBy (give p) l = bothOf l
@@ -128,13 +128,13 @@ pub record Aside (b v e b′ : Buffers) : Type 0 where
   pub paper : Remains (b .paper) (v .paper) (e .paper) (b′ .paper)
 
 -- "any sequence of calls .., no second fresh start, the same state and lent buffers in every call but those answered 2"
-pub data RunByC : Buffers → List (Call real) → Buffers → Type 0 where
+pub data RunByC : Buffers → List (CoreCall real) → Buffers → Type 0 where
   here : {b : Buffers} → RunByC b [] b
-  then : {b b′ : Buffers} {c : Call real} {cs : List (Call real)} {r : Returned} → CallByC b c r → RunByC (r .buffers) cs b′
+  then : {b b′ : Buffers} {c : CoreCall real} {cs : List (CoreCall real)} {r : Returned} → CallByC b c r → RunByC (r .buffers) cs b′
       → RunByC b (c ∷ cs) b′
   -- a call of a port above 1
-  above : {b b′ : Buffers} {cs : List (Call real)} {r : Returned} → AnyCall b r → r .number ≡ 1 → RunByC (r .buffers) cs b′
+  above : {b b′ : Buffers} {cs : List (CoreCall real)} {r : Returned} → AnyCall b r → r .number ≡ 1 → RunByC (r .buffers) cs b′
       → RunByC b cs b′
   -- a call answered 2, with any state and any buffers
-  aside : {b v b₁ b′ : Buffers} {cs : List (Call real)} {r : Returned} → AnyCall v r → r .number ≡ 2 → Aside b v (r .buffers) b₁
+  aside : {b v b₁ b′ : Buffers} {cs : List (CoreCall real)} {r : Returned} → AnyCall v r → r .number ≡ 2 → Aside b v (r .buffers) b₁
       → RunByC b₁ cs b′ → RunByC b cs b′

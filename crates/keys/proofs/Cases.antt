@@ -37,15 +37,15 @@ unfolding keys entryOf keyAnswer translateOf obeyed struckBy getOf
 keyboard-cases = refl
 
 -- a call of `translate`
-pub record Call : Type 0 where
+pub record Asks : Type 0 where
   pub code : ℕ
   pub lock : ℕ
   pub inverse : ℕ
 
-abbrev pub call : ℕ → ℕ → ℕ → Call
+abbrev pub call : ℕ → ℕ → ℕ → Asks
 call code lock inverse = record { code = code; lock = lock; inverse = inverse }
 
-abbrev pub calls : List Call
+abbrev pub calls : List Asks
 calls =
     call 0x3F 0 0
     ∷ call 0x3F 1 0
@@ -60,7 +60,7 @@ calls =
     ∷ call 0x3F 0 2
     ∷ []
 
-pub translate-cases : map (λ (c : Call). translateOf (c .code) (c .lock) (c .inverse)) calls
+pub translate-cases : map (λ (c : Asks). translateOf (c .code) (c .lock) (c .inverse)) calls
     ≡ 0x61 ∷ 0x41 ∷ 0x01 ∷ 0xC1 ∷ 0x1B ∷ 258 ∷ 261 ∷ 0x01 ∷ 256 ∷ 262 ∷ 262 ∷ []
 unfolding keys entryOf keyAnswer translateOf
 translate-cases = refl

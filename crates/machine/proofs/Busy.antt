@@ -19,7 +19,7 @@ use Rattle.moves.specs.Move as moves
 use Rattle.cio.specs.Start.{loadedOf, loadStatus, thenOf, openedOf, openingOf, transferOf, workOf}
 use Rattle.alone.specs.Alone.{loaded}
 use Rattle.serial.specs.Machine.{port-0, port-1}
-use Rattle.serial.specs.Core.{gathering, phaseAt, Call, take, tick, give, press}
+use Rattle.serial.specs.Core.{gathering, phaseAt, CoreCall, take, tick, give, press}
 use Rattle.serial.specs.Calls.{coreOf}
 use Rattle.serial.specs.Run.{State, after, begin}
 use Rattle.serial.proofs.Tested.{answers}
@@ -28,18 +28,18 @@ use Rattle.machine.specs.Real.{errandStep, planStep, moveBy, real}
 use Rattle.machine.proofs.Plugged.{first, says, calls, opens}
 
 -- both ports have P on block 0, and port 1 has K on block 1
-abbrev before : List (Call real)
+abbrev before : List (CoreCall real)
 before = opens port-0 0x50 0 8 ++ opens port-1 0x50 0 8 ++ opens port-1 0x4B 1 4
 
 -- port 0 prints two characters; meanwhile a key is pressed, port 1 reads it, and its own print waits
-abbrev busy : List (Call real)
+abbrev busy : List (CoreCall real)
 busy =
     says port-0 (calls 0 0x0B 0 2 0) ++ (tick port-0 ∷ take port-0 1 ∷ give port-0 ∷ tick port-1 ∷ press 0x3F ∷ [])
     ++ says port-1 (calls 1 0x07 0 0 0) ++ (tick port-1 ∷ press 0x15 ∷ tick port-0 ∷ tick port-1 ∷ replicate 7 (give port-1))
     ++ says port-1 (calls 0 0x0B 0 1 0) ++ (tick port-1 ∷ tick port-0 ∷ tick port-1 ∷ tick port-1 ∷ replicate 7 (give port-1))
     ++ replicate 7 (give port-0)
 
-abbrev pub busyCalls : List (Call real)
+abbrev pub busyCalls : List (CoreCall real)
 busyCalls = before ++ busy
 
 abbrev pub busyNumbers : List ℕ

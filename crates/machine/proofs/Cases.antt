@@ -30,14 +30,14 @@ use Rattle.moves.specs.Move as moves
 use Rattle.cio.specs.Start.{loadedOf, loadStatus, thenOf, openedOf, openingOf, transferOf, workOf}
 use Rattle.alone.specs.Alone.{loaded}
 use Rattle.serial.specs.Machine.{port-0}
-use Rattle.serial.specs.Core.{Call, press}
+use Rattle.serial.specs.Core.{CoreCall, press}
 use Rattle.serial.specs.Calls.{coreOf}
 use Rattle.serial.specs.Run.{State, after, begin}
 use Rattle.serial.proofs.Tested.{allOk}
 use Rattle.serial.proofs.Follows.{run-is}
 use Rattle.machine.specs.Spells.{feed, fedOf}
 use Rattle.machine.specs.Real.{errandStep, planStep, moveBy, real}
-use Rattle.machine.specs.Sticks.{seen, sticks}
+use Rattle.machine.specs.Sticks.{viewOf, sticks}
 use Rattle.machine.proofs.Linked.{follows}
 use Rattle.machine.proofs.Plugged.{plugged, plugged-begins, first, ok-by, does}
 
@@ -56,35 +56,35 @@ heardIn s =
     heard (s .seen .port .zeroth .given) (d .console .row ∷ d .console .column ∷ []) (getD (d .screen) 0 0 ∷ getD (d .screen) 2 0 ∷ getD (d .screen) 3 0 ∷ [])
 
 -- what these calls give, of the machine and of the five calls, from a fresh start
-abbrev machinePlays : List (Call real) → Heard
+abbrev machinePlays : List (CoreCall real) → Heard
 machinePlays cs = heardIn (after real (coreOf real) cs (begin real (coreOf real) first))
 
-abbrev pub plays : List (Call real) → Heard
-plays cs = let s = after real sticks cs (begin real sticks plugged) in heardIn (record { world = seen (s .world); seen = s .seen })
+abbrev pub plays : List (CoreCall real) → Heard
+plays cs = let s = after real sticks cs (begin real sticks plugged) in heardIn (record { world = viewOf (s .world); seen = s .seen })
 
 -- a message to port 0, with so many ticks and so many bytes of its reply
-abbrev asks : List ℕ → (ticks n : ℕ) → List (Call real)
+abbrev asks : List ℕ → (ticks n : ℕ) → List (CoreCall real)
 asks bytes ticks n = does port-0 bytes ticks n
 
-abbrev call : (iocb command low high length aux1 aux2 a : ℕ) → (ticks : ℕ) → List (Call real)
+abbrev call : (iocb command low high length aux1 aux2 a : ℕ) → (ticks : ℕ) → List (CoreCall real)
 call iocb command low high length aux1 aux2 a ticks = asks (0x10 ∷ 9 ∷ 0 ∷ iocb ∷ command ∷ low ∷ high ∷ length ∷ 0 ∷ aux1 ∷ aux2 ∷ a ∷ []) ticks 7
 
 -- 1 and 2: a device's specification is loaded, and the device is opened on IOCB 0
-abbrev opens : (letter aux1 aux2 : ℕ) → List (Call real)
+abbrev opens : (letter aux1 aux2 : ℕ) → List (CoreCall real)
 opens letter aux1 aux2 = asks (0x11 ∷ 5 ∷ 0 ∷ 0 ∷ 0 ∷ letter ∷ 0x3A ∷ 0x9B ∷ []) 1 4 ++ call 0 0x03 0 0 0 aux1 aux2 0 1
 
 -- "AB" and $1C at 16, and the record "AB" put: a tick for its start, two characters and the added EOL
-abbrev record-AB : List (Call real)
+abbrev record-AB : List (CoreCall real)
 record-AB = opens 0x45 0x0D 0 ++ (asks (0x11 ∷ 5 ∷ 0 ∷ 16 ∷ 0 ∷ 0x41 ∷ 0x42 ∷ 0x1C ∷ []) 1 4 ++ call 0 0x09 16 0 2 0 0 0 4)
 
 -- "Then PUT CHARACTERS $1C and GET RECORD", and a FETCH of what it stored
-abbrev back : ℕ → List (Call real)
+abbrev back : ℕ → List (CoreCall real)
 back n = record-AB ++ (call 0 0x0B 18 0 1 0 0 0 2 ++ (call 0 0x05 32 0 n 0 0 0 4 ++ asks (0x12 ∷ 4 ∷ 0 ∷ 32 ∷ 0 ∷ 3 ∷ 0 ∷ []) 1 7))
 
-abbrev key : ℕ → List (Call real)
+abbrev key : ℕ → List (CoreCall real)
 key code = press code ∷ call 0 0x07 0 0 0 0 0 0 2
 
-abbrev pub scripts : List (List (Call real))
+abbrev pub scripts : List (List (CoreCall real))
 scripts =
     (opens 0x45 0x0D 0 ++ (call 8 0x0C 0 0 0 0 0 0 1 ++ (call 1 0x07 0 0 1 0 0 7 1 ++ (call 0 0x0B 0xFF 0x3F 1 0 0 0 2 ++ call 0 0x0B 0xFF 0x3F 2 0 0 0 1)))) ∷
     record-AB ∷ back 10 ∷ back 3 ∷ back 2 ∷
@@ -125,14 +125,14 @@ unfolding after feed fedOf goodField senseOf badStatus messageOf errandStep plan
 machine-cases = refl
 
 -- the five calls play what the machine plays
-abbrev allBytes : List (List (Call real)) → Bool
+abbrev allBytes : List (List (CoreCall real)) → Bool
 allBytes [] = true
 allBytes (cs ∷ css) = both (allOk real (λ b. ltb b 256) cs) (allBytes css)
 
-play-one : (cs : List (Call real)) → T (allOk real (λ b. ltb b 256) cs) → plays cs ≡ machinePlays cs
+play-one : (cs : List (CoreCall real)) → T (allOk real (λ b. ltb b 256) cs) → plays cs ≡ machinePlays cs
 play-one cs t = ap heardIn (run-is real sticks follows plugged plugged-begins cs (ok-by cs t))
 
-play-all : (css : List (List (Call real))) → T (allBytes css) → map plays css ≡ map machinePlays css
+play-all : (css : List (List (CoreCall real))) → T (allBytes css) → map plays css ≡ map machinePlays css
 play-all [] t = refl
 play-all (cs ∷ css) t =
     let a = play-one cs (both-left (allOk real (λ b. ltb b 256) cs) (allBytes css) t) in

@@ -35,7 +35,7 @@ use Rattle.alone.specs.Fit.{FitLocal}
 use Rattle.alone.specs.Moves.{moves, begunBy, JobEnds, IsAlone}
 use Rattle.alone.specs.Alone as request
 use Rattle.alone.proofs.Fit.{fit-part}
-use Rattle.serial.specs.Machine.{Port, port-0, port-1, Reply, ends, finish}
+use Rattle.serial.specs.Machine.{PortName, port-0, port-1, ReplyBytes, ends, finish}
 use Rattle.serial.specs.Core.{Phase, replying, View, phaseAt, localAt, locals, Core}
 use Rattle.serial.specs.Calls.{landed}
 use Rattle.serial.specs.Undamaged.{NeverDamaged}
@@ -46,7 +46,7 @@ use Rattle.machine.specs.Course.{OnCourse, later, CourseOf, CourseRule}
 use Rattle.machine.proofs.Lawful.{job-moves, local-is, finish-ended, is-alone}
 
 -- the phase of the port that a step has landed on
-landed-ends : (p : Port) (g : Group) (l : Local) (x : Part g) (r : Reply ℕ) (v : View real)
+landed-ends : (p : PortName) (g : Group) (l : Local) (x : Part g) (r : ReplyBytes ℕ) (v : View real)
     → phaseAt real p (landed real p g (record { local = l; dev = x; out = ends r }) v) ≡ replying r
 landed-ends port-0 g l x r v = refl
 landed-ends port-1 g l x r v = refl
@@ -62,7 +62,7 @@ module _ {D : Type 0} (H : Asked → Acts D) (left : D → ℕ) (device : Device
   prepared (work.Open then number name) h = absurd (choose-go (λ (a : AloneOn D). 0 < length (a .course) → ⊥) (offersOf device (c .aux1)) _ _ (λ t k. omega arith) (λ t k. omega arith) h)
   prepared (work.Transfer kind) h = refl
 
-module _ (C : Core real) (w : C .World) (p : Port) where
+module _ (C : Core real) (w : C .World) (p : PortName) where
   abbrev view : View real
   view = C .see w
 
@@ -141,11 +141,11 @@ module _ (C : Core real) (w : C .World) (p : Port) where
     plan-course m (plan.Free e) q u i r t = free-course m e (bytesOf m) r (t 0)
     plan-course m (plan.On job) q u i r t = job-course job q (i .0) t
 
-pub fit-mine : (p : Port) (v : View real) → FitAll (locals real v) (v .devs) → FitLocal (localAt real p v)
+pub fit-mine : (p : PortName) (v : View real) → FitAll (locals real v) (v .devs) → FitLocal (localAt real p v)
 fit-mine port-0 v f = f .zeroth
 fit-mine port-1 v f = f .first
 
-mine-alone : (p : Port) (m : Said) (v : View real) → FitAll (locals real v) (v .devs)
+mine-alone : (p : PortName) (m : Said) (v : View real) → FitAll (locals real v) (v .devs)
     → let l = localAt real p v in
     IsAlone (planOf (askedOf m) (l .table) (l .area)) [] l (v .devs) (aloneOf (request.saidOf (askedOf m) []) l (v .devs))
 mine-alone port-0 m v f = is-alone port-0 m (locals real v) (v .devs) f

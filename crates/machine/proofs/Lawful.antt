@@ -40,7 +40,7 @@ use Rattle.alone.specs.Alone as request
 use Rattle.alone.proofs.Fit.{fit-part, fit-put}
 use Rattle.alone.proofs.Keeps.{FitAlone, alone-keeps}
 use Rattle.alone.proofs.AloneIs as alone
-use Rattle.serial.specs.Machine.{Port, port-0, port-1, Two, at, set, ends, finishOut}
+use Rattle.serial.specs.Machine.{PortName, port-0, port-1, Two, at, set, ends, finishOut}
 use Rattle.serial.specs.Laws.{Laws, OkOut}
 use Rattle.rules.proofs.RequestKeeps.{FitJob, FitPlan, plan-fit, FitOut, FitBegun, job-keeps, move-keeps}
 use Rattle.machine.specs.Spells.{none-taken}
@@ -79,15 +79,15 @@ own-used (owner.Console h) x u = u
 own-used owner.Printer x u = tt
 
 -- what is not damaged
-pub fit-at : (p : Port) (t : Two Local) (s : Groups) → FitAll t s → FitLocal (at p t)
+pub fit-at : (p : PortName) (t : Two Local) (s : Groups) → FitAll t s → FitLocal (at p t)
 fit-at port-0 t s f = f .zeroth
 fit-at port-1 t s f = f .first
 
-fit-set : (p : Port) (g : Group) (l : Local) (x : Part g) (t : Two Local) (s : Groups) → FitAll t s → FitLocal l → FitPart g x → FitAll (set p l t) (putGroup g s x)
+fit-set : (p : PortName) (g : Group) (l : Local) (x : Part g) (t : Two Local) (s : Groups) → FitAll t s → FitLocal l → FitPart g x → FitAll (set p l t) (putGroup g s x)
 fit-set port-0 g l x t s f o h = record { zeroth = o; first = f .first; groups = fit-put g s x (f .groups) h }
 fit-set port-1 g l x t s f o h = record { zeroth = f .zeroth; first = o; groups = fit-put g s x (f .groups) h }
 
-abbrev OkStep : Port → (g : Group) → Two Local → Groups → StepOn g → Type 0
+abbrev OkStep : PortName → (g : Group) → Two Local → Groups → StepOn g → Type 0
 OkStep p g t d s = FitAll (set p (s .local) t) (putGroup g d (s .dev)) × OkOut real (λ k. FitRunning g k (s .local) (s .dev)) (s .out)
 
 -- a device in its own group
@@ -124,7 +124,7 @@ module _ (device : Device) where
       ∙ finish-moves n (w .out) (withArea (w .area) l) (w .device) (k .fits) (k .out)
   finish-moves (suc n) (transfer.ends reply) l x f o = refl
 
-module _ (p : Port) (run : Run) (t : Two Local) (d : Groups) (f : FitAll t d) where
+module _ (p : PortName) (run : Run) (t : Two Local) (d : Groups) (f : FitAll t d) where
   abbrev g : Group
   g = groupOf (run .device)
 
@@ -141,7 +141,7 @@ module _ (p : Port) (run : Run) (t : Two Local) (d : Groups) (f : FitAll t d) wh
         out-fit device (w .out) (withArea (w .area) l) (w .device) (k .out),
       )
 
-pub move-fit : (p : Port) (g : Group) (run : Run) (t : Two Local) (d : Groups) → FitAll t d → FitRunning g run (at p t) (getGroup g d)
+pub move-fit : (p : PortName) (g : Group) (run : Run) (t : Two Local) (d : Groups) → FitAll t d → FitRunning g run (at p t) (getGroup g d)
     → OkStep p g t d (moveBy g run (at p t) (getGroup g d))
 move-fit p g run t d f r =
     subst (λ (h : Group). FitRunning h run (at p t) (getGroup h d) → OkStep p h t d (moveBy h run (at p t) (getGroup h d))) (r .held) (own-move p run t d f) r
@@ -183,7 +183,7 @@ module _ (job : Job) (l : Local) (x : Part (groupOf (job .device))) (f : FitPart
       ∙ ap (wentBy after) (alone.in-time (deviceActs (job .device)) (l .number) (begun .out) (l .area) (begun .device) 0 (v .course) _ (j .comes))
       ∙ ap (λ (m : Local). record { local = m; dev = v .device; out = ends (replyBy (v .reply)) }) (local-is v j (v .local .area))
 
-  job-fit : (p : Port) (t : Two Local) (d : Groups) → FitAll t d → OkStep p mine t d (jobStep mine job l x)
+  job-fit : (p : PortName) (t : Two Local) (d : Groups) → FitAll t d → OkStep p mine t d (jobStep mine job l x)
   job-fit p t d a =
       subst (OkStep p mine t d) (sym step-is) (
         fit-set p mine after (begun .device) t d a (record { area = o .area; eight = with-length (l .table) (job .call .iocb) (begun .block) ∙ o .eight; made = begun-fit .made }) (begun-fit .fits),
@@ -229,7 +229,7 @@ module _ (l : Local) (o : FitLocal l) (d : Groups) (f : FitGroups d) where
       let g = groupOf (job .device) in
       ap (putGroup g d) (sym (get-put g (aloneOnDevice job l d .device) d))
 
-  module _ (p : Port) (t : Two Local) (a : FitAll t d) where
+  module _ (p : PortName) (t : Two Local) (a : FitAll t d) where
     plan-fits : (q : Plan) (bytes : List ℕ) → FitPlan q (l .table) → FitAlone (alonePlan q bytes l d)
         → OkStep p (groupNeeded q) t d (planStep (groupNeeded q) q bytes l (getGroup (groupNeeded q) d))
     unfolding planStep alonePlan errandStep aloneErrand
@@ -240,7 +240,7 @@ module _ (l : Local) (o : FitLocal l) (d : Groups) (f : FitGroups d) where
     plan-fits (plan.On job) bytes q k = let g = groupOf (job .device) in job-fit job l (getGroup g d) (fit-part g d f) o q p t d a
 
 -- by the message
-module _ (p : Port) (m : Said) (t : Two Local) (d : Groups) (f : FitAll t d) where
+module _ (p : PortName) (m : Said) (t : Two Local) (d : Groups) (f : FitAll t d) where
   abbrev asks : Local
   asks = at p t
 

@@ -23,8 +23,8 @@ use Rattle.calls.specs.Stick.{Outcome, outcome, refused, refusalOf, LengthsFit,
 use Rattle.calls.specs.Calls.{freshCall, takeAt, takeCall, tickAt, tickCall, giveAt, giveCall, consoleHeld, withKey, pressAt, pressCall}
 use Rattle.alone.specs.Alone.{local}
 use Rattle.alone.specs.Fit.{FitLocal}
-use Rattle.serial.specs.Machine.{Port, port-0, port-1, at, set, other}
-use Rattle.serial.specs.Core.{Phase, PortView, View, phaseAt, locals, Call, Answer, done, gave, number, Effect}
+use Rattle.serial.specs.Machine.{PortName, port-0, port-1, at, set, other}
+use Rattle.serial.specs.Core.{Phase, PortView, View, phaseAt, locals, CoreCall, Answer, done, gave, number, Effect}
 use Rattle.serial.specs.Calls.{Act, takeAct, giveAct, tickAct, holds, onPort, pressIf, callOf, FreshView}
 use Rattle.serial.specs.Run.{OkCall, Begun, Reached}
 use Rattle.serial.specs.Undamaged.{OkPhase, Undamaged, NeverDamaged}
@@ -43,7 +43,7 @@ use Rattle.rules.proofs.FreshStart.{fresh-done, fresh-guarded}
 use Rattle.rules.proofs.Answers as answers
 use Rattle.rules.proofs.NeverDamaged as never
 use Rattle.machine.specs.Real.{pressedOn, FitAll, real}
-use Rattle.machine.specs.Sticks.{World, phaseSeen, portSeen, seen, portNumber, answerBy, outcomeOf, called, StartedFresh, sticks, Sound}
+use Rattle.machine.specs.Sticks.{World, phaseSeen, portSeen, viewOf, portNumber, answerBy, outcomeOf, called, StartedFresh, sticks, Sound}
 use Rattle.machine.specs.Course.{CourseRule}
 use Rattle.machine.proofs.Lawful.{lawful}
 use Rattle.machine.proofs.Course.{course}
@@ -55,7 +55,7 @@ abbrev worldOf : Outcome → World
 worldOf o = record { stick = o .stick; buffers = o .lent }
 
 abbrev effectSeen : Answer real → Outcome → Effect real (View real)
-effectSeen success o = record { world = seen (worldOf o); answer = answerBy success (o .answer) }
+effectSeen success o = record { world = viewOf (worldOf o); answer = answerBy success (o .answer) }
 
 -- a part put back in its place, and the other part
 module _ (n : ℕ) (part xs : List ℕ) where
@@ -75,13 +75,13 @@ abbrev viewBy : (p q : blocks.Port) → (room half room′ half′ : List ℕ) �
 viewBy p q room half room′ half′ g = record { ports = record { zeroth = portSeen 0 p room half; first = portSeen 1 q room′ half′ }; devs = g }
 
 -- what is seen of a port's parts, and of the groups, put back in their places
-seen-put : (p : Port) (s : Stick) (l : Lent) → LengthsFit l → (port : blocks.Port) (room half : List ℕ) (g : Groups) → length room ≡ roomLength → length half ≡ areaLength
+seen-put : (p : PortName) (s : Stick) (l : Lent) → LengthsFit l → (port : blocks.Port) (room half : List ℕ) (g : Groups) → length room ≡ roomLength → length half ≡ areaLength
     → let n = portNumber p in
-    seen (record {
+    viewOf (record {
       stick = withPort n port (withGroups g s);
       buffers = lent (withPart roomLength n room (l .rooms)) (withPart areaLength n half (l .area)) (g .console .screen) (g .printer .paper);
     })
-    ≡ record { ports = set p (portSeen n port room half) (seen (record { stick = s; buffers = l }) .ports); devs = g }
+    ≡ record { ports = set p (portSeen n port room half) (viewOf (record { stick = s; buffers = l }) .ports); devs = g }
 seen-put port-0 s l w port room half g h k =
     let rooms = l .rooms in
     let area = l .area in
@@ -103,7 +103,7 @@ or-is : (a b : Bool) → (a || b) ≡ or a b
 or-is true b = refl
 or-is false b = refl
 
-low-port : (p : Port) → ltb (portNumber p) 2 ≡ true
+low-port : (p : PortName) → ltb (portNumber p) 2 ≡ true
 low-port port-0 = refl
 low-port port-1 = refl
 
@@ -112,7 +112,7 @@ module _ (s : Stick) (l : Lent) (g : Guarded s l) where
   here = record { stick = s; buffers = l }
 
   abbrev view : View real
-  view = seen here
+  view = viewOf here
 
   abbrev fit : never.Undamaged s
   fit = never.undamaged-of s l (g .fits)
@@ -126,7 +126,7 @@ module _ (s : Stick) (l : Lent) (g : Guarded s l) where
   unfolding pressCall
   press-is code = rw (allowed 0 refl)
 
-  module _ (p : Port) where
+  module _ (p : PortName) where
     abbrev n : ℕ
     n = portNumber p
 
@@ -137,14 +137,14 @@ module _ (s : Stick) (l : Lent) (g : Guarded s l) where
     own-seen : at p (view .ports) ≡ portSeen n own (roomAt n l) (areaAt n l)
     own-seen = by p
       where
-        by : (p : Port) → let n = portNumber p in at p (view .ports) ≡ portSeen n (portAt n s) (roomAt n l) (areaAt n l)
+        by : (p : PortName) → let n = portNumber p in at p (view .ports) ≡ portSeen n (portAt n s) (roomAt n l) (areaAt n l)
         by port-0 = refl
         by port-1 = refl
 
     other-seen : phaseAt real (other p) view ≡ phaseSeen (otherAt n s .phase) (roomAt (portNumber (other p)) l)
     other-seen = by p
       where
-        by : (p : Port) → phaseAt real (other p) view ≡ phaseSeen (otherAt (portNumber p) s .phase) (roomAt (portNumber (other p)) l)
+        by : (p : PortName) → phaseAt real (other p) view ≡ phaseSeen (otherAt (portNumber p) s .phase) (roomAt (portNumber (other p)) l)
         by port-0 = refl
         by port-1 = refl
 
@@ -171,9 +171,9 @@ module _ (s : Stick) (l : Lent) (g : Guarded s l) where
 
     -- with another port and room
     room-seen : (port : blocks.Port) (room : List ℕ) → length room ≡ roomLength
-        → seen (record { stick = withPort n port s; buffers = withRoom n room l }) ≡ record { ports = set p (portSeen n port room (areaAt n l)) (view .ports); devs = groupsAt s l }
+        → viewOf (record { stick = withPort n port s; buffers = withRoom n room l }) ≡ record { ports = set p (portSeen n port room (areaAt n l)) (view .ports); devs = groupsAt s l }
     room-seen port room h =
-        ap (λ (area : List ℕ). seen (record { stick = withPort n port s; buffers = lent (withPart roomLength n room (l .rooms)) area (l .screen) (l .paper) })) (sym (part-back areaLength n (l .area)))
+        ap (λ (area : List ℕ). viewOf (record { stick = withPort n port s; buffers = lent (withPart roomLength n room (l .rooms)) area (l .screen) (l .paper) })) (sym (part-back areaLength n (l .area)))
         ∙ seen-put p s l (g .lengths) port room (areaAt n l) (groupsAt s l) h area-long
 
     -- take
@@ -191,7 +191,7 @@ module _ (s : Stick) (l : Lent) (g : Guarded s l) where
     give-seen-at =
         let t = givePort (own .phase) own (roomAt n l) in
         ap (λ (rooms : List ℕ). record {
-          world = seen (record { stick = withPort n (t .port) s; buffers = lent rooms (l .area) (l .screen) (l .paper) });
+          world = viewOf (record { stick = withPort n (t .port) s; buffers = lent rooms (l .area) (l .screen) (l .paper) });
           answer = answerBy (gave (t .byte)) (t .answer);
         }) (sym (part-back roomLength n (l .rooms)))
         ∙ ap (λ (v : View real). record { world = v; answer = answerBy (gave (t .byte)) (t .answer) }) (room-seen (t .port) (roomAt n l) room-long)
@@ -203,7 +203,7 @@ module _ (s : Stick) (l : Lent) (g : Guarded s l) where
       own-fit : FitLocal (local n (own .table) (areaAt n l))
       own-fit = by p
         where
-          by : (p : Port) → let n = portNumber p in FitLocal (local n (portAt n s .table) (areaAt n l))
+          by : (p : PortName) → let n = portNumber p in FitLocal (local n (portAt n s .table) (areaAt n l))
           by port-0 = u .fit .zeroth
           by port-1 = u .fit .first
 
@@ -239,14 +239,14 @@ module _ (s : Stick) (l : Lent) (g : Guarded s l) where
       pressed-seen code (consoleHeld s) ∙ ap (λ (t : Bool). pressIf real t (some (pressedOn code (view .devs .console))) view) (sym q)
 
   -- each call
-  call-seen : Undamaged real view → (c : Call real) → OkCall real c → record { world = seen (called c here .world); answer = called c here .answer } ≡ callOf real c view
+  call-seen : Undamaged real view → (c : CoreCall real) → OkCall real c → record { world = viewOf (called c here .world); answer = called c here .answer } ≡ callOf real c view
   call-seen u (calls.take p byte) o = ap (effectSeen done) (take-is p byte) ∙ take-seen-at p byte
   call-seen u (calls.tick p) o = ap (effectSeen done) (tick-is p) ∙ tick-seen-at p u
   call-seen u (calls.give p) o = ap (λ (y : Outcome). effectSeen (gave (y .byte)) y) (give-is p) ∙ give-seen-at p
   call-seen u (calls.press code) o = ap (effectSeen done) (press-is code) ∙ press-seen code
 
   -- what a call leaves is sound
-  call-sound : (c : Call real) → OkCall real c → Sound (called c here .world)
+  call-sound : (c : CoreCall real) → OkCall real c → Sound (called c here .world)
   call-sound (calls.take p byte) o = never.take-keeps s l g (portNumber p) byte o
   call-sound (calls.tick p) o = never.tick-keeps s l g (portNumber p)
   call-sound (calls.give p) o = never.give-keeps s l g (portNumber p)
@@ -257,7 +257,7 @@ not-zero : (success : Answer real) → (Refused real success → ⊥) → (n : �
 not-zero success z n r e = z (subst (λ (m : ℕ). Refused real (answerBy success m)) e r)
 
 module _ (s : Stick) (l : Lent) where
-  call-refused : (c : Call real) → Refused real (called c (record { stick = s; buffers = l }) .answer) → called c (record { stick = s; buffers = l }) .world ≡ record { stick = s; buffers = l }
+  call-refused : (c : CoreCall real) → Refused real (called c (record { stick = s; buffers = l }) .answer) → called c (record { stick = s; buffers = l }) .world ≡ record { stick = s; buffers = l }
   call-refused (calls.take p byte) r = ap worldOf (take-still s l (portNumber p) byte (not-zero done (λ z. z) (takeCall s l (portNumber p) byte .answer) r))
   call-refused (calls.tick p) r = ap worldOf (tick-still s l (portNumber p) (not-zero done (λ z. z) (tickCall s l (portNumber p) .answer) r))
   call-refused (calls.give p) r = ap worldOf (give-still s l (portNumber p) (not-zero (gave (giveCall s l (portNumber p) .byte)) (λ z. z) (giveCall s l (portNumber p) .answer) r))
@@ -277,19 +277,19 @@ module _ (w : World) (b : StartedFresh w) where
   fresh-stick = sym (ap (λ (o : Outcome). o .stick) (fresh-done (b .borrowed) borrowed-long (b .before))) ∙ b .stick
 
   -- "both ports gathering with no byte taken, no group held"
-  pub fresh-seen : FreshView real (seen w)
+  pub fresh-seen : FreshView real (viewOf w)
   unfolding goodField
-  fresh-seen = subst (λ (s : Stick). FreshView real (seen (record { stick = s; buffers = w .buffers }))) fresh-stick refl
+  fresh-seen = subst (λ (s : Stick). FreshView real (viewOf (record { stick = s; buffers = w .buffers }))) fresh-stick refl
 
   -- nothing is damaged then, so that the run of the demands begins with every such start
-  module _ (p : Port) where
+  module _ (p : PortName) where
     abbrev started : blocks.Port
     started = portAt (portNumber p) (w .stick)
 
     eight : length (started .table .blocks) ≡ 8
     eight = subst (λ (s : Stick). length (portAt (portNumber p) s .table .blocks) ≡ 8) fresh-stick (by p)
       where
-        by : (p : Port) → length (portAt (portNumber p) freshStick .table .blocks) ≡ 8
+        by : (p : PortName) → length (portAt (portNumber p) freshStick .table .blocks) ≡ 8
         by port-0 = refl
         by port-1 = refl
 
@@ -302,7 +302,7 @@ module _ (w : World) (b : StartedFresh w) where
           made = port-of started (w .stick .console) (never.port-fits (portNumber p) (w .stick) (fit (w .stick) (w .buffers) g)) .0;
         }
 
-  fresh-fit : FitAll (locals real (seen w)) (seen w .devs)
+  fresh-fit : FitAll (locals real (viewOf w)) (viewOf w .devs)
   fresh-fit =
       let g = fresh-sound in
       record { zeroth = local-fit port-0; first = local-fit port-1; groups = never.groups-fit (w .stick) (w .buffers) (fit (w .stick) (w .buffers) g) (g .lengths) }
@@ -382,11 +382,11 @@ module _ (s : Stick) (l : Lent) (g : Guarded s l) where
       (λ z. a .lengths .0 z (g .lengths))
       (λ z. answers.never (g .fits) (a .damaged .0 z .damaged))
 
-  most-one : (p : Port) → portNumber p ≤ 1
+  most-one : (p : PortName) → portNumber p ≤ 1
   most-one port-0 = omega arith
   most-one port-1 = omega arith
 
-  call-number : (c : Call real) → number real (called c (record { stick = s; buffers = l }) .answer) ≡ outcomeOf c (record { stick = s; buffers = l }) .answer
+  call-number : (c : CoreCall real) → number real (called c (record { stick = s; buffers = l }) .answer) ≡ outcomeOf c (record { stick = s; buffers = l }) .answer
   call-number (calls.take p byte) = let n = portNumber p in first-is done refl n _ (most-one p) (take-most s l n byte) (take-answers s l n byte .first)
   call-number (calls.tick p) = let n = portNumber p in first-is done refl n _ (most-one p) (tick-most s l n) (tick-answers s l n .first)
   call-number (calls.give p) = let n = portNumber p in first-is (gave _) refl n _ (most-one p) (give-most s l n) (give-answers s l n .first)
@@ -398,5 +398,5 @@ module _ (s : Stick) (l : Lent) (g : Guarded s l) where
       (λ z. answers.never (g .fits) (a .damaged .0 z .damaged))
 
 -- "each refusal gives the number in the tables of document 01"; 1, 2 and 3 are given in no such run
-pub numbers : (w : World) → Reached real sticks w → (c : Call real) → number real (called c w .answer) ≡ outcomeOf c w .answer
+pub numbers : (w : World) → Reached real sticks w → (c : CoreCall real) → number real (called c w .answer) ≡ outcomeOf c w .answer
 numbers w r c = call-number (w .stick) (w .buffers) (always-sound w r) c

@@ -12,11 +12,11 @@ use Rattle.base.proofs.Choices.{pick-le}
 use Rattle.wire.specs.Messages.{wordOf, goodField, gatherOf, messageOf}
 use Rattle.alone.specs.Alone.{Said}
 use Rattle.serial.specs.Machine.{Fed, more, full}
-use Rattle.machine.specs.Spells.{saidBy, Spells, Gather, gathers, nothingYet, keptValue, fedOf, feed, Gathered, none-taken, tag-taken, low-taken, value-taken}
+use Rattle.machine.specs.Spells.{saidBy, Spells, SoFar, gathers, nothingYet, keptValue, fedOf, feed, GatheredSoFar, none-taken, tag-taken, low-taken, value-taken}
 
 -- what a fed byte comes to, of the bytes so far
-abbrev FedIs : List ℕ → Fed Gather Said → Type 0
-FedIs bytes (more y) = Gathered bytes y
+abbrev FedIs : List ℕ → Fed SoFar Said → Type 0
+FedIs bytes (more y) = GatheredSoFar bytes y
 FedIs bytes (full m) = Spells bytes m
 
 -- a good field's value is kept, and a bad field says the same without it
@@ -82,32 +82,32 @@ second-is : (bytes : List ℕ) (tag byte : ℕ) → byte < 256 → bytes ≡ tag
 unfolding feed
 second-is bytes tag byte a e = low-taken tag byte a e refl
 
-fed : (bytes : List ℕ) (x : Gather) (byte : ℕ) → byte < 256 → Gathered bytes x → FedIs (bytes ++ (byte ∷ [])) (feed x byte)
+fed : (bytes : List ℕ) (x : SoFar) (byte : ℕ) → byte < 256 → GatheredSoFar bytes x → FedIs (bytes ++ (byte ∷ [])) (feed x byte)
 fed bytes x byte h g = by g
   where
-    Next : Gather → Type 0
+    Next : SoFar → Type 0
     Next y = FedIs (bytes ++ (byte ∷ [])) (feed y byte)
 
-    by : Gathered bytes x → Next x
+    by : GatheredSoFar bytes x → Next x
     by (none-taken e q) = subst Next (sym q) (first-is (bytes ++ (byte ∷ [])) byte (ap (λ (r : List ℕ). r ++ (byte ∷ [])) e))
     by (tag-taken tag e q) = subst Next (sym q) (second-is (bytes ++ (byte ∷ [])) tag byte h (ap (λ (r : List ℕ). r ++ (byte ∷ [])) e))
     by (low-taken tag low a e q) = subst Next (sym q) (header-is (bytes ++ (byte ∷ [])) tag low byte a h (ap (λ (r : List ℕ). r ++ (byte ∷ [])) e))
     by (value-taken tag low high value a b e l q) = subst Next (sym q) (value-more bytes byte tag low high value a b e l)
 
-pub more-is : (bytes : List ℕ) (x y : Gather) (byte : ℕ) → byte < 256 → Gathered bytes x → feed x byte ≡ more y → Gathered (bytes ++ (byte ∷ [])) y
+pub more-is : (bytes : List ℕ) (x y : SoFar) (byte : ℕ) → byte < 256 → GatheredSoFar bytes x → feed x byte ≡ more y → GatheredSoFar (bytes ++ (byte ∷ [])) y
 more-is bytes x y byte h g e = subst (FedIs (bytes ++ (byte ∷ []))) e (fed bytes x byte h g)
 
-pub full-is : (bytes : List ℕ) (x : Gather) (m : Said) (byte : ℕ) → byte < 256 → Gathered bytes x → feed x byte ≡ full m → Spells (bytes ++ (byte ∷ [])) m
+pub full-is : (bytes : List ℕ) (x : SoFar) (m : Said) (byte : ℕ) → byte < 256 → GatheredSoFar bytes x → feed x byte ≡ full m → Spells (bytes ++ (byte ∷ [])) m
 full-is bytes x m byte h g e = subst (FedIs (bytes ++ (byte ∷ []))) e (fed bytes x byte h g)
 
 -- no whole message stands at the front of what is gathered
-pub not-whole : (bytes later : List ℕ) (x : Gather) (m : Said) → Gathered (bytes ++ later) x → Spells bytes m → ⊥
+pub not-whole : (bytes later : List ℕ) (x : SoFar) (m : Said) → GatheredSoFar (bytes ++ later) x → Spells bytes m → ⊥
 not-whole bytes later x m g s = by g
   where
     front : bytes ++ later ≡ s .tag ∷ s .low ∷ s .high ∷ (s .value ++ later)
     front = ap (λ (r : List ℕ). r ++ later) (s .all)
 
-    by : Gathered (bytes ++ later) x → ⊥
+    by : GatheredSoFar (bytes ++ later) x → ⊥
     by (none-taken e q) =
         let z : s .tag ∷ s .low ∷ s .high ∷ (s .value ++ later) ≡ [] = sym front ∙ e in
         let y : _≡_ {A = ℕ} 0 1 = cc in

@@ -15,7 +15,7 @@ use Rattle.devices.specs.Fit.{FitGroups}
 use Rattle.plan.specs.Plan.{planIn, planOf}
 use Rattle.alone.specs.Alone.{Said, call, load, fetch, bad, saidOf, Local, aloneErrand, alonePlan, aloneOf}
 use Rattle.alone.specs.Fit.{FitLocal}
-use Rattle.serial.specs.Machine.{Port, port-0, port-1, Two, at, set}
+use Rattle.serial.specs.Machine.{PortName, port-0, port-1, Two, at, set}
 use Rattle.serial.specs.Core.{replying, PortView, View, localAt, Core}
 use Rattle.serial.specs.Undamaged.{NeverDamaged}
 use Rattle.serial.specs.Demand2.{AloneRule}
@@ -23,7 +23,7 @@ use Rattle.serial.specs.Demand3.{bytesOf}
 use Rattle.rules.proofs.Statuses.{call-statuses, call-replies, call-blocks, call-shape, call-needs, load-replies, fetch-replies}
 use Rattle.machine.specs.Spells.{saidBy, Spells}
 use Rattle.machine.specs.Real.{replyBy, real}
-use Rattle.machine.specs.Statuses.{Replies, RepliesWith, StatusRule, FieldRule, FieldsRule, NeedsRule}
+use Rattle.machine.specs.Statuses.{RepliesTo, RepliesWith, StatusRule, FieldRule, FieldsRule, NeedsRule}
 use Rattle.machine.proofs.Course.{fit-mine}
 
 -- a reply that is not empty is its first byte and the rest
@@ -37,7 +37,7 @@ whole-reply (load address bytes) l s fl fg = refl
 whole-reply (fetch address count) l s fl fg = refl
 whole-reply (bad status) l s fl fg = refl
 
-replies : (m : Said) (l : Local) (s : Groups) → FitLocal l → FitGroups s → Replies m l s (aloneOf m l s .local) (aloneOf m l s .groups) (aloneOf m l s .reply)
+replies : (m : Said) (l : Local) (s : Groups) → FitLocal l → FitGroups s → RepliesTo m l s (aloneOf m l s .local) (aloneOf m l s .groups) (aloneOf m l s .reply)
 unfolding aloneOf planOf planIn alonePlan aloneErrand
 replies (call c) l s fl fg = (call-statuses c l s fl fg, (call-replies c l s fl fg, call-blocks c l s fl fg))
 replies (load address bytes) l s fl fg = (load-replies address bytes l s fl, refl)
@@ -45,7 +45,7 @@ replies (fetch address count) l s fl fg = (fetch-replies address count l s, (ref
 replies (bad status) l s fl fg = (refl, (refl, refl))
 
 -- a port that has been set
-set-at : (p : Port) (x : PortView real) (t : Two (PortView real)) → at p (set p x t) ≡ x
+set-at : (p : PortName) (x : PortView real) (t : Two (PortView real)) → at p (set p x t) ≡ x
 set-at port-0 x t = refl
 set-at port-1 x t = refl
 
@@ -55,7 +55,7 @@ done-alone : (m : Said) (l : Local) (s : Groups) → FitLocal l → FitGroups s
 done-alone m l s fl fg = record {
   reply = replyBy (aloneOf m l s .reply);
   made = refl;
-  says = subst (Replies m l s (aloneOf m l s .local) (aloneOf m l s .groups)) (sym (whole-reply m l s fl fg)) (replies m l s fl fg);
+  says = subst (RepliesTo m l s (aloneOf m l s .local) (aloneOf m l s .groups)) (sym (whole-reply m l s fl fg)) (replies m l s fl fg);
 }
 
 pub statuses : (C : Core real) → AloneRule real C → NeverDamaged real C → StatusRule C

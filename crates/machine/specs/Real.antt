@@ -35,9 +35,9 @@ use Rattle.cio.specs.Start.{loadStatus, Begun}
 use Rattle.alone.specs.Alone.{Said, askedOf, bytesOf, Local, withArea, withOwnBlock, loaded, aloneOf}
 use Rattle.alone.specs.Fit.{FitLocal}
 use Rattle.alone.specs.Moves.{mostMoves, begunBy}
-use Rattle.serial.specs.Machine.{Two, Reply, Out, goes, ends, Step, Alone, Machine}
+use Rattle.serial.specs.Machine.{Two, ReplyBytes, Becomes, goes, ends, Step, AloneLeaves, Machine}
 use Rattle.rules.specs.Running.{FitRun}
-use Rattle.machine.specs.Spells.{Spells, Gather, nothingYet, feed, Gathered}
+use Rattle.machine.specs.Spells.{Spells, SoFar, nothingYet, feed, GatheredSoFar}
 
 -- a device that is not of the group refuses all; no request comes to it
 abbrev pub noActs : {D : Type 0} → Acts D
@@ -60,11 +60,11 @@ actsIn groups.Printer (owner.Console h) asked = noActs
 actsIn groups.Printer owner.Printer asked = printerActs asked
 
 -- a reply has its first byte, and the rest; none is empty
-abbrev pub replyBy : List ℕ → Reply ℕ
+abbrev pub replyBy : List ℕ → ReplyBytes ℕ
 replyBy [] = record { head = 0; rest = [] }
 replyBy (byte ∷ bytes) = record { head = byte; rest = bytes }
 
-abbrev pub outBy : transfer.Out → Out ℕ Run
+abbrev pub outBy : transfer.Out → Becomes ℕ Run
 outBy (transfer.goes run) = goes run
 outBy (transfer.ends reply) = ends (replyBy reply)
 
@@ -107,7 +107,7 @@ unfoldable pub moveBy : (g : Group) → Run → Local → Part g → StepOn g
 moveBy g run l x = wentBy l (advanceOf (actsIn g (ownerOf (run .device))) (l .number) run (l .area) x)
 
 -- "A request .. alone gives the whole reply .., memory, control blocks, console and paper that the CIO rules .. give"
-abbrev pub aloneBy : Said → Local → Groups → Alone ℕ Local Groups
+abbrev pub aloneBy : Said → Local → Groups → AloneLeaves ℕ Local Groups
 aloneBy said l s = let w = aloneOf said l s in record { local = w .local; devs = w .groups; reply = replyBy (w .reply) }
 
 -- "A press stores the code over an older one"; the console refuses none
@@ -137,7 +137,7 @@ abbrev pub real : Machine
 real = record {
   Byte = ℕ;
   Local = Local;
-  Gather = Gather;
+  Gather = SoFar;
   Message = Said;
   none-yet = nothingYet;
   feed = feed;
@@ -157,7 +157,7 @@ real = record {
   console = groups.Console;
   hit = λ code x. some (pressedOn code x);
   OkByte = λ byte. byte < 256;
-  Gathered = Gathered;
+  Gathered = GatheredSoFar;
   Spells = Spells;
   Fit = FitAll;
   OkRun = FitRunning;

@@ -27,14 +27,14 @@ pub record Spells (bytes : List ℕ) (said : Said) : Type 0 where
   pub says : said ≡ saidBy tag (wordOf low high) value
 
 -- the numbers of what is taken so far, and the value's bytes
-pub record Gather : Type 0 where
+pub record SoFar : Type 0 where
   pub numbers : blocks.Gather
   pub value : List ℕ
 
-abbrev pub gathers : blocks.Gather → List ℕ → Gather
+abbrev pub gathers : blocks.Gather → List ℕ → SoFar
 gathers numbers value = record { numbers = numbers; value = value }
 
-abbrev pub nothingYet : Gather
+abbrev pub nothingYet : SoFar
 nothingYet = gathers freshGather []
 
 -- "A bad field's value is dropped by its length."
@@ -42,11 +42,11 @@ abbrev pub keptValue : (tag size : ℕ) → List ℕ → List ℕ
 keptValue tag size value = pick (goodField tag size) value []
 
 -- "It is ready when its last byte is taken."
-unfoldable pub fedOf : (tag size taken : ℕ) → (value : List ℕ) → Fed Gather Said
+unfoldable pub fedOf : (tag size taken : ℕ) → (value : List ℕ) → Fed SoFar Said
 fedOf tag size taken value = pick (leb (3 + size) taken) (full (saidBy tag size value)) (more (gathers (gatherOf tag size taken) value))
 
 -- while only the low byte of the length is taken it is the length
-unfoldable pub feed : Gather → ℕ → Fed Gather Said
+unfoldable pub feed : SoFar → ℕ → Fed SoFar Said
 feed x byte =
     let n = x .numbers in
     pick (eqb (n .taken) 0) (more (gathers (gatherOf byte 0 1) []))
@@ -55,9 +55,9 @@ feed x byte =
     (fedOf (n .tag) (n .length) (n .taken + 1) (keptValue (n .tag) (n .length) (x .value ++ (byte ∷ []))))))
 
 -- these bytes are gathered, and spell no whole message yet; a length is made of two bytes
-pub data Gathered (bytes : List ℕ) (x : Gather) : Type 0 where
-  none-taken : bytes ≡ [] → x ≡ nothingYet → Gathered bytes x
-  tag-taken : (tag : ℕ) → bytes ≡ tag ∷ [] → x ≡ gathers (gatherOf tag 0 1) [] → Gathered bytes x
-  low-taken : (tag low : ℕ) → low < 256 → bytes ≡ tag ∷ low ∷ [] → x ≡ gathers (gatherOf tag low 2) [] → Gathered bytes x
+pub data GatheredSoFar (bytes : List ℕ) (x : SoFar) : Type 0 where
+  none-taken : bytes ≡ [] → x ≡ nothingYet → GatheredSoFar bytes x
+  tag-taken : (tag : ℕ) → bytes ≡ tag ∷ [] → x ≡ gathers (gatherOf tag 0 1) [] → GatheredSoFar bytes x
+  low-taken : (tag low : ℕ) → low < 256 → bytes ≡ tag ∷ low ∷ [] → x ≡ gathers (gatherOf tag low 2) [] → GatheredSoFar bytes x
   value-taken : (tag low high : ℕ) (value : List ℕ) → low < 256 → high < 256 → bytes ≡ tag ∷ low ∷ high ∷ value → length value < wordOf low high
-      → x ≡ gathers (gatherOf tag (wordOf low high) (3 + length value)) (keptValue tag (wordOf low high) value) → Gathered bytes x
+      → x ≡ gathers (gatherOf tag (wordOf low high) (3 + length value)) (keptValue tag (wordOf low high) value) → GatheredSoFar bytes x

@@ -13,7 +13,7 @@ use Rattle.replies.specs.Replies.{statusReply}
 use Rattle.devices.specs.declared.Group.the-variants as group
 use Rattle.devices.specs.Groups.{Groups}
 use Rattle.alone.specs.Alone.{Said, call, load, fetch, bad, Local}
-use Rattle.serial.specs.Machine.{Port, at, Reply}
+use Rattle.serial.specs.Machine.{PortName, at, ReplyBytes}
 use Rattle.serial.specs.Core.{ready, replying, PortView, phaseAt, localAt, Core}
 use Rattle.serial.specs.Run.{Reached}
 use Rattle.serial.specs.Demand2.{Waits, ticked}
@@ -24,22 +24,22 @@ use Rattle.machine.specs.Real.{real}
 
 -- "Reply $90", "Reply $91", "Reply $92", "reply $FF", by what the message says: l and s the port's data and the devices before it, the
 -- others after it
-abbrev pub Replies : Said → (l : Local) → (s : Groups) → (after : Local) → (left : Groups) → (reply : List ℕ) → Type 0
-Replies (call c) l s after left reply =
+abbrev pub RepliesTo : Said → (l : Local) → (s : Groups) → (after : Local) → (left : Groups) → (reply : List ℕ) → Type 0
+RepliesTo (call c) l s after left reply =
     CallStatuses c l s (replyStatus reply) × (CallReplies c l s reply (after .area) left × CallBlocks c l s (replyStatus reply) (after .table))
-Replies (load address bytes) l s after left reply = LoadReplies l address bytes after reply × (left ≡ s)
-Replies (fetch address count) l s after left reply = FetchReplies l address count reply × ((after ≡ l) × (left ≡ s))
-Replies (bad status) l s after left reply = (reply ≡ statusReply 0xFF status) × ((after ≡ l) × (left ≡ s))
+RepliesTo (load address bytes) l s after left reply = LoadReplies l address bytes after reply × (left ≡ s)
+RepliesTo (fetch address count) l s after left reply = FetchReplies l address count reply × ((after ≡ l) × (left ≡ s))
+RepliesTo (bad status) l s after left reply = (reply ≡ statusReply 0xFF status) × ((after ≡ l) × (left ≡ s))
 
 -- what stands at the port after a request m, and the devices
 pub record RepliesWith (m : Said) (l : Local) (s : Groups) (port : PortView real) (left : Groups) : Type 0 where
-  pub reply : Reply ℕ
+  pub reply : ReplyBytes ℕ
   pub made : port .phase ≡ replying reply
-  pub says : Replies m l s (port .local) left (bytesOf real reply)
+  pub says : RepliesTo m l s (port .local) left (bytesOf real reply)
 
 -- a ready request that does not wait, ticked to its end
 abbrev pub StatusRule : Core real → Type 0
-StatusRule C = (w : C .World) → Reached real C w → (p : Port) (m : Said) → phaseAt real p (C .see w) ≡ ready m → (Waits real p m (C .see w) → ⊥)
+StatusRule C = (w : C .World) → Reached real C w → (p : PortName) (m : Said) → phaseAt real p (C .see w) ≡ ready m → (Waits real p m (C .see w) → ⊥)
     → let v = C .see w in
     let u = C .see (ticked real C (suc (real .fuel)) p w) in
     RepliesWith m (localAt real p v) (v .devs) (at p (u .ports)) (u .devs)

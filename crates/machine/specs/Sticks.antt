@@ -17,8 +17,8 @@ use Rattle.devices.specs.Groups.{groupOf}
 use Rattle.calls.specs.Stick.{Outcome, Guarded, roomAt, areaAt, groupsAt}
 use Rattle.calls.specs.Calls.{freshCall, takeCall, tickCall, giveCall, pressCall}
 use Rattle.alone.specs.Alone.{local, saidOf}
-use Rattle.serial.specs.Machine.{Port, port-0, port-1}
-use Rattle.serial.specs.Core.{Phase, gathering, ready, running, replying, PortView, View, Call, take, tick, give, press, Answer, done, gave, not-gathering, no-byte, console-held, idle, group-held, key-refused, Effect, Core}
+use Rattle.serial.specs.Machine.{PortName, port-0, port-1}
+use Rattle.serial.specs.Core.{Phase, gathering, ready, running, replying, PortView, View, CoreCall, take, tick, give, press, Answer, done, gave, not-gathering, no-byte, console-held, idle, group-held, key-refused, Effect, Core}
 use Rattle.machine.specs.Spells.{gathers, keptValue}
 use Rattle.machine.specs.Real.{replyBy, real}
 
@@ -38,8 +38,8 @@ phaseSeen (phase.Replying reply) room = replying (replyBy (drop (reply .given) (
 abbrev pub portSeen : (number : ℕ) → blocks-port.Port → (room half : List ℕ) → PortView real
 portSeen number port room half = record { local = local number (port .table) half; phase = phaseSeen (port .phase) room }
 
-abbrev pub seen : World → View real
-seen w =
+abbrev pub viewOf : World → View real
+viewOf w =
     let s = w .stick in
     let l = w .buffers in
     record {
@@ -47,7 +47,7 @@ seen w =
       devs = groupsAt s l;
     }
 
-abbrev pub portNumber : Port → ℕ
+abbrev pub portNumber : PortName → ℕ
 portNumber port-0 = 0
 portNumber port-1 = 1
 
@@ -66,20 +66,20 @@ abbrev pub effectBy : Answer real → Outcome → Effect real World
 effectBy on-0 o = record { world = record { stick = o .stick; buffers = o .lent }; answer = answerBy on-0 (o .answer) }
 
 -- "Fresh start; take a byte; tick a port; give the next reply byte; press a key."
-abbrev pub outcomeOf : Call real → World → Outcome
+abbrev pub outcomeOf : CoreCall real → World → Outcome
 outcomeOf (take p byte) w = takeCall (w .stick) (w .buffers) (portNumber p) byte
 outcomeOf (tick p) w = tickCall (w .stick) (w .buffers) (portNumber p)
 outcomeOf (give p) w = giveCall (w .stick) (w .buffers) (portNumber p)
 outcomeOf (press code) w = pressCall (w .stick) (w .buffers) code
 
 -- a call that gives a byte gives it with 0
-abbrev pub success : Call real → Outcome → Answer real
+abbrev pub success : CoreCall real → Outcome → Answer real
 success (take p byte) o = done
 success (tick p) o = done
 success (give p) o = gave (o .byte)
 success (press code) o = done
 
-abbrev pub called : Call real → World → Effect real World
+abbrev pub called : CoreCall real → World → Effect real World
 called c w = let o = outcomeOf c w in effectBy (success c o) o
 
 -- "after one fresh start that gives 0", whatever state and buffers held before
@@ -91,7 +91,7 @@ pub record StartedFresh (w : World) : Type 0 where
   pub buffers : freshCall before borrowed .lent ≡ w .buffers
 
 abbrev pub sticks : Core real
-sticks = record { World = World; Fresh = StartedFresh; call = called; see = seen }
+sticks = record { World = World; Fresh = StartedFresh; call = called; see = viewOf }
 
 -- undamaged, and each lent buffer of its length: what every call tests first
 abbrev pub Sound : World → Type 0

@@ -1,30 +1,30 @@
 // The five calls, over buffers that may be lent cut.
 use script::lengths::LentLengths;
-use script::ops::Call;
+use script::ops::CallOp;
 
 // The answer in the low byte; of a give the reply byte in the high one.
 fn perform(
-    call: Call,
+    call: CallOp,
     state: &mut [u8],
     area: &mut [u8],
     screen: &mut [u8],
     paper: &mut [u8],
 ) -> u16 {
     match call {
-        Call::Nothing => 0,
-        Call::Fresh => firmware::fixlomand_fresh(state, area, screen, paper) as u16,
-        Call::Take(port, byte) => {
+        CallOp::Nothing => 0,
+        CallOp::Fresh => firmware::fixlomand_fresh(state, area, screen, paper) as u16,
+        CallOp::Take(port, byte) => {
             firmware::fixlomand_take(state, area, screen, paper, port, byte) as u16
         }
-        Call::Tick(port) => firmware::fixlomand_tick(state, area, screen, paper, port) as u16,
-        Call::Give(port) => firmware::fixlomand_give(state, area, screen, paper, port),
-        Call::Press(code) => firmware::fixlomand_press(state, area, screen, paper, code) as u16,
+        CallOp::Tick(port) => firmware::fixlomand_tick(state, area, screen, paper, port) as u16,
+        CallOp::Give(port) => firmware::fixlomand_give(state, area, screen, paper, port),
+        CallOp::Press(code) => firmware::fixlomand_press(state, area, screen, paper, code) as u16,
     }
 }
 
 // A call that is lent the first bytes of each buffer, at most its whole.
 pub fn perform_cut(
-    call: Call,
+    call: CallOp,
     lengths: LentLengths,
     state: &mut [u8],
     area: &mut [u8],

@@ -51,7 +51,7 @@ use Rattle.calls.specs.Port.{portWith, Reach, reach, startPlan, moveRun, Ticked
 use Rattle.alone.specs.Fit.{UsedBy}
 use Rattle.alone.proofs.Fit.{fit-part, fit-put}
 use Rattle.rules.specs.Running.{Allowed, OpenFor, FitRun}
-use Rattle.rules.proofs.RequestKeeps.{FitPlan, plan-fit, FitOut, job-keeps, move-keeps, Replies, errand-keeps, landed-length}
+use Rattle.rules.proofs.RequestKeeps.{FitPlan, plan-fit, FitOut, job-keeps, move-keeps, RepliesFit, errand-keeps, landed-length}
 
 both : (a b : Bool) → a ≡ true → b ≡ true → and a b ≡ true
 both a b p q = rw (p, q)
@@ -160,14 +160,14 @@ module _ (device : Device) (table : Table) (x : Part (groupOf device)) where
   landed-apart (goes run) room held f c = rw (f .named) c
   landed-apart (ends reply) room held f c = refl
 
-replies-fits : (phase : Phase) (table : Table) (console : Console) → Replies phase → phaseFits phase table console ≡ true
+replies-fits : (phase : Phase) (table : Table) (console : Console) → RepliesFit phase → phaseFits phase table console ≡ true
 unfolding phaseFits
 replies-fits (Gathering gather) table console f = absurd f
 replies-fits (Ready header) table console f = absurd f
 replies-fits (Running run) table console f = absurd f
 replies-fits (Replying reply) table console f = f
 
-replies-apart : (phase : Phase) (held : Group) → Replies phase → clash (heldOf phase) held ≡ false
+replies-apart : (phase : Phase) (held : Group) → RepliesFit phase → clash (heldOf phase) held ≡ false
 replies-apart (Gathering gather) held f = absurd f
 replies-apart (Ready header) held f = absurd f
 replies-apart (Running run) held f = absurd f

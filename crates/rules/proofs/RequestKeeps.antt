@@ -229,14 +229,14 @@ pub job-keeps : (job : Job) (port : ℕ) (table : Table) → FitJob job table �
 job-keeps job port table j m x f = work-keeps (job .device) port (job .call) table m x f (job .work) j
 
 -- what needs no group ends with a reply that fits
-abbrev pub Replies : Phase → Type 0
-Replies (Gathering gather) = ⊥
-Replies (Ready header) = ⊥
-Replies (Running run) = ⊥
-Replies (Replying reply) = replyFits reply ≡ true
+abbrev pub RepliesFit : Phase → Type 0
+RepliesFit (Gathering gather) = ⊥
+RepliesFit (Ready header) = ⊥
+RepliesFit (Running run) = ⊥
+RepliesFit (Replying reply) = replyFits reply ≡ true
 
 pub record FitFreed (room half : List ℕ) (f : Freed) : Type 0 where
-  pub replies : Replies (f .port .phase)
+  pub replies : RepliesFit (f .port .phase)
   pub kept : length (f .port .room) ≡ length room
   pub area : length (f .area) ≡ length half
 

@@ -37,7 +37,7 @@ use Rattle.devices.specs.declared.Group.the-variants as group
 use Rattle.devices.specs.Groups.{Groups, Part, getGroup, groupOf, deviceActs}
 use Rattle.alone.specs.Alone.{Local}
 use Rattle.alone.specs.Loading.{LoadLeaves}
-use Rattle.alone.specs.Ending.{readTo, ReadsTo, GetEnds, Stores, sentOf, writtenTo, WritesTo, PutEnds}
+use Rattle.alone.specs.Ending.{readTo, ReadsTo, GetEnds, Stores, mostSent, writtenTo, WritesTo, PutEnds}
 use Rattle.rules.specs.Answers.{oneOf}
 
 -- "status", the first byte of a reply's value
@@ -175,7 +175,7 @@ module _ (c : Call) (l : Local) (s : Groups) where
     pub at : At (readTo (actsOn device) k (started .stands))
 
   abbrev pub sentBy : Way → List ℕ
-  sentBy way = sentOf way (c .a) (c .length) (l .area) (c .address)
+  sentBy way = mostSent way (c .a) (c .length) (l .area) (c .address)
 
   -- it comes to this byte, that is written to this device
   pub record WritesAt (device : Device) (At : (byte : ℕ) → Part (groupOf device) → Type 0) : Type 0 where

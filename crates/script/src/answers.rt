@@ -1,21 +1,21 @@
 // What is written for an op once the stick has been asked what the op asks.
 use crate::dump;
 use crate::ops;
-use crate::ops::Call;
+use crate::ops::CallOp;
 use crate::ops::Op;
 use crate::say;
 use crate::ticks;
 
 // A call's answer, and of a give the reply byte: the low and the high byte of the number that the call returned.
-fn write(call: Call, number: u16) {
+fn write(call: CallOp, number: u16) {
     say::byte((number % 256) as u8);
     match call {
-        Call::Nothing => {}
-        Call::Fresh => {}
-        Call::Take(port, byte) => {}
-        Call::Tick(port) => {}
-        Call::Give(port) => say::byte((number / 256) as u8),
-        Call::Press(code) => {}
+        CallOp::Nothing => {}
+        CallOp::Fresh => {}
+        CallOp::Take(port, byte) => {}
+        CallOp::Tick(port) => {}
+        CallOp::Give(port) => say::byte((number / 256) as u8),
+        CallOp::Press(code) => {}
     }
 }
 

@@ -2,7 +2,7 @@
 use libc::STDIN_FILENO;
 
 // What the stick is asked: one of the five calls, or none.
-pub enum Call {
+pub enum CallOp {
     Nothing,
     Fresh,
     Take(u8, u8),
@@ -19,7 +19,7 @@ pub enum Op {
     Lend(u8, u32),
     Dump,
     Ticks(u8, u16, u16),
-    Call(Call),
+    Call(CallOp),
 }
 
 impl Op {
@@ -36,17 +36,17 @@ impl Op {
     }
 
     // What the op asks the stick now.
-    pub fn call(self) -> Call {
+    pub fn call(self) -> CallOp {
         match self {
-            Op::Start => Call::Fresh,
-            Op::End => Call::Nothing,
-            Op::Lend(which, length) => Call::Nothing,
-            Op::Dump => Call::Nothing,
+            Op::Start => CallOp::Fresh,
+            Op::End => CallOp::Nothing,
+            Op::Lend(which, length) => CallOp::Nothing,
+            Op::Dump => CallOp::Nothing,
             Op::Ticks(port, most, made) => {
                 if made < most {
-                    return Call::Tick(port);
+                    return CallOp::Tick(port);
                 }
-                Call::Nothing
+                CallOp::Nothing
             }
             Op::Call(call) => call,
         }
@@ -77,11 +77,11 @@ fn long(low: u8, middle: u8, high: u8) -> u32 {
 // An op and its operands, as far as it has some.
 fn op_of(op: u8, first: u8, second: u8, third: u8, fourth: u8) -> Op {
     match op {
-        b'F' => Op::Call(Call::Fresh),
-        b'T' => Op::Call(Call::Take(first, second)),
-        b'K' => Op::Call(Call::Tick(first)),
-        b'G' => Op::Call(Call::Give(first)),
-        b'P' => Op::Call(Call::Press(first)),
+        b'F' => Op::Call(CallOp::Fresh),
+        b'T' => Op::Call(CallOp::Take(first, second)),
+        b'K' => Op::Call(CallOp::Tick(first)),
+        b'G' => Op::Call(CallOp::Give(first)),
+        b'P' => Op::Call(CallOp::Press(first)),
         b'X' => Op::Ticks(first, word(second, third), 0),
         b'L' => Op::Lend(first, long(second, third, fourth)),
         b'D' => Op::Dump,

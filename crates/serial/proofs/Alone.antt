@@ -2,7 +2,7 @@
 -- the ticks after them nothing. Assumes nothing.
 use mathlib.Core.Path.{_≡_, refl, sym, _∙_, ap}
 use Prim.Native.Nat.{ℕ, zero, suc}
-use Rattle.serial.specs.Machine.{Port, port-0, port-1, set, Out, goes, ends, Machine, StepOf, finish, finishOut}
+use Rattle.serial.specs.Machine.{PortName, port-0, port-1, set, Becomes, goes, ends, Machine, StepOf, finish, finishOut}
 use Rattle.serial.specs.Core.{replying, View, localAt, locals, tick, Effect}
 use Rattle.serial.specs.Calls.{landed, callOf, coreOf}
 use Rattle.serial.specs.Demand2.{ticked, LaterRule, AloneRule}
@@ -16,12 +16,12 @@ module _ (M : Machine) (L : Laws M) where
   open Laws L using (get-put, put-put, alone-is, alone-else)
 
   -- a tick behind a step is the next step
-  tick-landed : (p : Port) (g : Group) (k : Run) (l : Local) (x : Dev g) (v : View M)
+  tick-landed : (p : PortName) (g : Group) (k : Run) (l : Local) (x : Dev g) (v : View M)
       → callOf M (tick p) (landed M p g (record { local = l; dev = x; out = goes k }) v) .world ≡ landed M p g (move g k l x) v
   tick-landed port-0 g k l x v = rw (get-put g x (v .devs), put-put g (move g k l x .dev) x (v .devs))
   tick-landed port-1 g k l x v = rw (get-put g x (v .devs), put-put g (move g k l x .dev) x (v .devs))
 
-  ticked-landed : (n : ℕ) (p : Port) (g : Group) (o : Out Byte Run) (l : Local) (x : Dev g) (v : View M)
+  ticked-landed : (n : ℕ) (p : PortName) (g : Group) (o : Becomes Byte Run) (l : Local) (x : Dev g) (v : View M)
       → ticked M (coreOf M) n p (landed M p g (record { local = l; dev = x; out = o }) v) ≡ landed M p g (finishOut M n g o l x) v
   unfolding ticked finishOut
   ticked-landed zero p g (goes k) l x v = refl
@@ -32,7 +32,7 @@ module _ (M : Machine) (L : Laws M) where
   ticked-landed (suc n) port-0 g (ends r) l x v = ticked-landed n port-0 g (ends r) l x v ∙ ap (λ s. landed M port-0 g s v) (finish-ends M n g l x r)
   ticked-landed (suc n) port-1 g (ends r) l x v = ticked-landed n port-1 g (ends r) l x v ∙ ap (λ s. landed M port-1 g s v) (finish-ends M n g l x r)
 
-  at-is : (p : Port) (m : Message) (v : View M) → Fit (locals M v) (v .devs)
+  at-is : (p : PortName) (m : Message) (v : View M) → Fit (locals M v) (v .devs)
       → let l = localAt M p v in
       let g = need l m in
       let a = alone m l (v .devs) in
@@ -40,7 +40,7 @@ module _ (M : Machine) (L : Laws M) where
   at-is port-0 m v f = alone-is port-0 m (locals M v) (v .devs) f
   at-is port-1 m v f = alone-is port-1 m (locals M v) (v .devs) f
 
-  at-else : (p : Port) (m : Message) (v : View M) → Fit (locals M v) (v .devs)
+  at-else : (p : PortName) (m : Message) (v : View M) → Fit (locals M v) (v .devs)
       → let l = localAt M p v in
       let g = need l m in
       let a = alone m l (v .devs) in

@@ -2,8 +2,8 @@
 use mathlib.Core.Path.{_≡_, refl, _∙_, ap}
 use mathlib.Core.Bool.{Bool, true, false, _||_}
 use mathlib.Core.Option.{Option, none, some}
-use Rattle.serial.specs.Machine.{Port, port-0, port-1, other, Machine}
-use Rattle.serial.specs.Core.{Phase, gathering, ready, running, replying, Held, View, phaseAt, localAt, Call, take, tick, give, press, Answer, done, idle, console-held}
+use Rattle.serial.specs.Machine.{PortName, port-0, port-1, other, Machine}
+use Rattle.serial.specs.Core.{Phase, gathering, ready, running, replying, Held, View, phaseAt, localAt, CoreCall, take, tick, give, press, Answer, done, idle, console-held}
 use Rattle.serial.specs.Calls.{Act, keep, holds, startIf, tickAct, takeAct, giveAct, onPort, pressIf, callOf, coreOf}
 use Rattle.serial.specs.Demand1.{takeAnswer, giveAnswer, Nothing, Refused, Demand1}
 use Rattle.serial.proofs.Waiting.{held-back, free}
@@ -34,11 +34,11 @@ module _ (M : Machine) where
   tick-same (running g k) l q d r = absurd r
   tick-same (replying x) l q d r = refl
 
-  on-same : (p : Port) (v : View M) (a : Answer M) → onPort M p (keep M (phaseAt M p v) (localAt M p v) (v .devs) a) v .world ≡ v
+  on-same : (p : PortName) (v : View M) (a : Answer M) → onPort M p (keep M (phaseAt M p v) (localAt M p v) (v .devs) a) v .world ≡ v
   on-same port-0 v a = refl
   on-same port-1 v a = refl
 
-  pub refused-same : (v : View M) (c : Call M) → Refused M (callOf M c v .answer) → callOf M c v .world ≡ v
+  pub refused-same : (v : View M) (c : CoreCall M) → Refused M (callOf M c v .answer) → callOf M c v .world ≡ v
   refused-same v (take p b) r = ap (λ (a : Act M). onPort M p a v .world) (take-same (phaseAt M p v) b (localAt M p v) (v .devs) r) ∙ on-same p v done
   refused-same v (tick p) r = ap (λ (a : Act M). onPort M p a v .world) (tick-same (phaseAt M p v) (localAt M p v) (phaseAt M (other p) v) (v .devs) r) ∙ on-same p v done
   refused-same v (give p) r = ap (λ (a : Act M). onPort M p a v .world) (give-same (phaseAt M p v) (localAt M p v) (v .devs) r) ∙ on-same p v done
@@ -68,10 +68,10 @@ module _ (M : Machine) where
   idle-answered (running g k) l q d n = absurd n
   idle-answered (replying r) l q d n = refl
 
-  abbrev held-at : View M → Port → Bool
+  abbrev held-at : View M → PortName → Bool
   held-at v p = holds M console (phaseAt M p v)
 
-  press-held : (v : View M) (c : Key) (p : Port) → Held M console (phaseAt M p v) → callOf M (press c) v .answer ≡ console-held
+  press-held : (v : View M) (c : Key) (p : PortName) → Held M console (phaseAt M p v) → callOf M (press c) v .answer ≡ console-held
   press-held v c port-0 h = rw (held-back M console (phaseAt M port-0 v) h)
   press-held v c port-1 h = go (held-at v port-0) (held-back M console (phaseAt M port-1 v) h)
     where

@@ -6,8 +6,8 @@ use mathlib.Core.Option.{Option, none, some}
 use mathlib.Core.List.{List, [], _∷_}
 use Prim.Native.Nat.{ℕ, zero, suc, _<_}
 use native.Mathlib.Omega.{arith}
-use Rattle.serial.specs.Machine.{Port, port-0, port-1, Out, goes, ends, Machine, finishOut}
-use Rattle.serial.specs.Core.{Phase, gathering, ready, running, replying, Runs, Quiet, View, phaseAt, localAt, Call, take, tick, give, press}
+use Rattle.serial.specs.Machine.{PortName, port-0, port-1, Becomes, goes, ends, Machine, finishOut}
+use Rattle.serial.specs.Core.{Phase, gathering, ready, running, replying, Runs, Quiet, View, phaseAt, localAt, CoreCall, take, tick, give, press}
 use Rattle.serial.specs.Calls.{holds, phaseOf, startIf, tickAct, takeAct, giveAct, pressIf, hitTo, coreOf}
 use Rattle.serial.specs.Run.{State, OkCalls, one-more, next, after, begin}
 use Rattle.serial.specs.Demand2.{isTick, countIf, ticks, Along, Bound, Stops, EndRule}
@@ -79,7 +79,7 @@ module _ (M : Machine) (L : Laws M) where
   keeps-hit ph (some x) d e = elsewhere console x e
 
   -- its own tick is one move nearer the end; its other calls change nothing while it runs
-  land-within : (n : ℕ) (g : Group) (o : Out Byte Run) (l : Local) (x : Dev g) (d : Devs) → Ended M (finishOut M n g o l x .out) → Within n (phaseOf M g o) l (put g x d)
+  land-within : (n : ℕ) (g : Group) (o : Becomes Byte Run) (l : Local) (x : Dev g) (d : Devs) → Ended M (finishOut M n g o l x .out) → Within n (phaseOf M g o) l (put g x d)
   land-within n g (goes k) l x d h = rw (get-put g x d) h
   land-within n g (ends r) l x d h = tt
 
@@ -108,20 +108,20 @@ module _ (M : Machine) (L : Laws M) where
   give-within n (ready m) l d r h = absurd r
   give-within n (replying x) l d r h = absurd r
 
-  abbrev pub WithinAt : ℕ → Port → View M → Type 0
+  abbrev pub WithinAt : ℕ → PortName → View M → Type 0
   WithinAt n p v = Within n (phaseAt M p v) (localAt M p v) (v .devs)
 
-  press-within : (p : Port) (c : Key) (n : ℕ) (v : View M) → WithinAt n p v → WithinAt n p (coreOf M .call (press c) v .world)
+  press-within : (p : PortName) (c : Key) (n : ℕ) (v : View M) → WithinAt n p v → WithinAt n p (coreOf M .call (press c) v .world)
   press-within p c n v h = go p (holds M console (phaseAt M port-0 v)) (holds M console (phaseAt M port-1 v)) refl refl h
     where
-      go : (p : Port) (t u : Bool) → holds M console (phaseAt M port-0 v) ≡ t → holds M console (phaseAt M port-1 v) ≡ u → WithinAt n p v
+      go : (p : PortName) (t u : Bool) → holds M console (phaseAt M port-0 v) ≡ t → holds M console (phaseAt M port-1 v) ≡ u → WithinAt n p v
           → WithinAt n p (pressIf M (t || u) (hit c (get console (v .devs))) v .world)
       go p true u e f h = h
       go p false true e f h = h
       go port-0 false false e f h = within-keeps n _ _ _ _ (keeps-hit (phaseAt M port-0 v) (hit c (get console (v .devs))) (v .devs) e) h
       go port-1 false false e f h = within-keeps n _ _ _ _ (keeps-hit (phaseAt M port-1 v) (hit c (get console (v .devs))) (v .devs) f) h
 
-  pub step-within : (p : Port) (c : Call M) (n : ℕ) (v : View M) → meets M L (phaseAt M port-0 v) (phaseAt M port-1 v) ≡ false → Runs M (phaseAt M p v)
+  pub step-within : (p : PortName) (c : CoreCall M) (n : ℕ) (v : View M) → meets M L (phaseAt M port-0 v) (phaseAt M port-1 v) ≡ false → Runs M (phaseAt M p v)
       → WithinAt (countIf M (isTick M p c) n) p v → WithinAt n p (coreOf M .call c v .world)
   step-within port-0 (tick port-0) n v i r h = tick-within n (phaseAt M port-0 v) _ _ _ r h
   step-within port-1 (tick port-1) n v i r h = tick-within n (phaseAt M port-1 v) _ _ _ r h
@@ -141,7 +141,7 @@ module _ (M : Machine) (L : Laws M) where
   step-within p (press c) n v i r h = press-within p c n v h
 
   -- where it runs through so many ticks of its own, more moves were left
-  bound-from : (p : Port) (cs : List (Call M)) (n : ℕ) (y₀ : Whole M) (s : State M (coreOf M)) → OkCalls M cs → Holding M L y₀ s → WithinAt n p (s .world) → Along M (coreOf M) p cs (s .world)
+  bound-from : (p : PortName) (cs : List (CoreCall M)) (n : ℕ) (y₀ : Whole M) (s : State M (coreOf M)) → OkCalls M cs → Holding M L y₀ s → WithinAt n p (s .world) → Along M (coreOf M) p cs (s .world)
       → ticks M p cs < n
   unfolding ticks
   bound-from p [] n y₀ s ok i h a = positive n (phaseAt M p (s .world)) _ _ a h
@@ -161,7 +161,7 @@ module _ (M : Machine) (L : Laws M) where
   pending-within (running g k) l d h = h .1
   pending-within (replying r) l d h = tt
 
-  pub within-fuel : (p : Port) (y₀ : Whole M) (s : State M (coreOf M)) → Holding M L y₀ s → WithinAt fuel p (s .world)
+  pub within-fuel : (p : PortName) (y₀ : Whole M) (s : State M (coreOf M)) → Holding M L y₀ s → WithinAt fuel p (s .world)
   within-fuel port-0 y₀ s i = pending-within (phaseAt M port-0 (s .world)) _ _ (i .own .pend)
   within-fuel port-1 y₀ s i = pending-within (phaseAt M port-1 (s .world)) _ _ (i .others .pend)
 
@@ -179,7 +179,7 @@ module _ (M : Machine) (L : Laws M) where
   phase-or (running g k) = inl tt
   phase-or (replying r) = inr tt
 
-  along-or : (p : Port) (cs : List (Call M)) (w : View M) → Along M (coreOf M) p cs w ⊎ Stops M (coreOf M) p cs w
+  along-or : (p : PortName) (cs : List (CoreCall M)) (w : View M) → Along M (coreOf M) p cs w ⊎ Stops M (coreOf M) p cs w
   along-or p [] w = phase-or (phaseAt M p w)
   along-or p (c ∷ cs) w = go (phase-or (phaseAt M p w)) (along-or p cs (coreOf M .call c w .world))
     where

@@ -4,7 +4,7 @@ use mathlib.Core.Path.{_≡_, refl, _∙_, subst}
 use mathlib.Core.Bool.{false}
 use mathlib.Core.List.{List, [], _∷_, _++_}
 use Prim.Native.Nat.{ℕ, zero, suc}
-use Rattle.serial.specs.Machine.{Port, port-0, port-1, Two, Reply, Out, goes, ends, Machine, StepOf, finishOut}
+use Rattle.serial.specs.Machine.{PortName, port-0, port-1, Two, ReplyBytes, Becomes, goes, ends, Machine, StepOf, finishOut}
 use Rattle.serial.specs.Core.{Phase, gathering, ready, running, replying, Quiet}
 use Rattle.serial.specs.Calls.{holds, phaseOf}
 use Rattle.serial.specs.Run.{replyIn}
@@ -12,7 +12,7 @@ use Rattle.serial.specs.Laws.{OkOut, Laws}
 use Rattle.serial.proofs.Finish.{Ended, finish-ends}
 
 -- a port's own and the other's, as a pair for both ports
-abbrev pub duo : {X : Type 0} → Port → X → X → Two X
+abbrev pub duo : {X : Type 0} → PortName → X → X → Two X
 duo port-0 x y = record { zeroth = x; first = y }
 duo port-1 x y = record { zeroth = y; first = x }
 
@@ -20,14 +20,14 @@ module _ (M : Machine) (L : Laws M) where
   open Machine M using (Byte, Local, Group, Devs, Dev, get, put, Run, move, fuel, Fit, OkRun)
   open Laws L using (get-put, put-put, clash-sym, get-apart, put-apart, move-fit)
 
-  abbrev pub repliesOf : Out Byte Run → List (Reply Byte)
+  abbrev pub repliesOf : Becomes Byte Run → List (ReplyBytes Byte)
   repliesOf (goes k) = []
   repliesOf (ends r) = r ∷ []
 
   pub record Part : Type 0 where
     pub local : Local
     pub devs : Devs
-    pub made : List (Reply Byte)
+    pub made : List (ReplyBytes Byte)
 
   abbrev pub part : (g : Group) → StepOf M g → Devs → Part
   part g s d = record { local = s .local; devs = put g (s .dev) d; made = repliesOf (s .out) }
@@ -48,10 +48,10 @@ module _ (M : Machine) (L : Laws M) where
   end-quiet (running g k) l d t = absurd t
 
   -- a step and then its end is the end of the step
-  abbrev pub more-made : List (Reply Byte) → Part → Part
+  abbrev pub more-made : List (ReplyBytes Byte) → Part → Part
   more-made rs e = record { local = e .local; devs = e .devs; made = rs ++ e .made }
 
-  pub end-land : (g : Group) (o : Out Byte Run) (l : Local) (x : Dev g) (d : Devs)
+  pub end-land : (g : Group) (o : Becomes Byte Run) (l : Local) (x : Dev g) (d : Devs)
       → more-made (replyIn M (phaseOf M g o)) (endOf (phaseOf M g o) l (put g x d)) ≡ part g (finishOut M fuel g o l x) d
   end-land g (goes k) l x d = simp (get-put, put-put)
   end-land g (ends r) l x d = rw (finish-ends M fuel g l x r)
@@ -80,13 +80,13 @@ module _ (M : Machine) (L : Laws M) where
   Pending (replying r) l d = Unit {0}
 
   -- its end keeps what is not damaged
-  pub own-move-fit : (p : Port) (g : Group) (j : Run) (l k : Local) (d : Devs) → Fit (duo p l k) d → OkRun g j l (get g d)
+  pub own-move-fit : (p : PortName) (g : Group) (j : Run) (l k : Local) (d : Devs) → Fit (duo p l k) d → OkRun g j l (get g d)
       → let s = move g j l (get g d) in
       Fit (duo p (s .local) k) (put g (s .dev) d) × OkOut M (λ j. OkRun g j (s .local) (s .dev)) (s .out)
   own-move-fit port-0 g j l k d f o = move-fit port-0 g j (duo port-0 l k) d f o
   own-move-fit port-1 g j l k d f o = move-fit port-1 g j (duo port-1 l k) d f o
 
-  finish-fit : (n : ℕ) (p : Port) (g : Group) (o : Out Byte Run) (l k : Local) (x : Dev g) (d : Devs) → Fit (duo p l k) (put g x d) → OkOut M (λ j. OkRun g j l x) o
+  finish-fit : (n : ℕ) (p : PortName) (g : Group) (o : Becomes Byte Run) (l k : Local) (x : Dev g) (d : Devs) → Fit (duo p l k) (put g x d) → OkOut M (λ j. OkRun g j l x) o
       → let s = finishOut M n g o l x in
       Fit (duo p (s .local) k) (put g (s .dev) d)
   unfolding finishOut
@@ -100,7 +100,7 @@ module _ (M : Machine) (L : Laws M) where
       let q = subst (λ (y : Dev g). let s = move g j l y in Fit (duo p (s .local) k) (put g (s .dev) (put g x d)) × OkOut M (λ j. OkRun g j (s .local) (s .dev)) (s .out)) e i in
       finish-fit n p g (s .out) (s .local) k (s .dev) d (subst (Fit (duo p (s .local) k)) (put-put g (s .dev) x d) (q .0)) (q .1)
 
-  running-fit : (n : ℕ) (p : Port) (g : Group) (j : Run) (l k : Local) (d : Devs) → Fit (duo p l k) d → OkRun g j l (get g d)
+  running-fit : (n : ℕ) (p : PortName) (g : Group) (j : Run) (l k : Local) (d : Devs) → Fit (duo p l k) d → OkRun g j l (get g d)
       → let s = finishOut M n g (goes j) l (get g d) in
       Ended M (s .out) → Fit (duo p (s .local) k) (put g (s .dev) d)
   unfolding finishOut
@@ -110,7 +110,7 @@ module _ (M : Machine) (L : Laws M) where
       let s = move g j l (get g d) in
       finish-fit n p g (s .out) (s .local) k (s .dev) d (i .0) (i .1)
 
-  pub end-fit : (p : Port) (a : Phase M) (l k : Local) (d : Devs) → Fit (duo p l k) d → Pending a l d → Fit (duo p (endOf a l d .local) k) (endOf a l d .devs)
+  pub end-fit : (p : PortName) (a : Phase M) (l k : Local) (d : Devs) → Fit (duo p l k) d → Pending a l d → Fit (duo p (endOf a l d .local) k) (endOf a l d .devs)
   end-fit p (gathering x) l k d f h = f
   end-fit p (ready m) l k d f h = f
   end-fit p (running g j) l k d f h = running-fit fuel p g j l k d f (h .0) (h .1)

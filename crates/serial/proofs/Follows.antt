@@ -3,8 +3,8 @@ use mathlib.Core.Path.{_≡_, refl, sym, _∙_, ap, subst}
 use mathlib.Core.Logic.{inl, inr}
 use mathlib.Core.List.{List, [], _∷_, _++_}
 use Prim.Native.Nat.{ℕ, zero, suc}
-use Rattle.serial.specs.Machine.{Port, at, Machine}
-use Rattle.serial.specs.Core.{phaseAt, Call, take, tick, give, press, Answer, number, Core}
+use Rattle.serial.specs.Machine.{PortName, at, Machine}
+use Rattle.serial.specs.Core.{phaseAt, CoreCall, take, tick, give, press, Answer, number, Core}
 use Rattle.serial.specs.Calls.{callOf, coreOf}
 use Rattle.serial.specs.Run.{watch, State, OkCall, OkCalls, one-more, phaseIn, next, after, Begun, begin, Reached}
 use Rattle.serial.specs.Undamaged.{NeverDamaged}
@@ -26,13 +26,13 @@ module _ (M : Machine) (C : Core M) (F : Follows M C) where
   abbrev viewed : State M C → State M (coreOf M)
   viewed s = record { world = C .see (s .world); seen = s .seen }
 
-  next-is : (c : Call M) (s : State M C) → Reached M C (s .world) → OkCall M c → viewed (next M C c s) ≡ next M (coreOf M) c (viewed s)
+  next-is : (c : CoreCall M) (s : State M C) → Reached M C (s .world) → OkCall M c → viewed (next M C c s) ≡ next M (coreOf M) c (viewed s)
   next-is c s r o =
       let x = world-is (s .world) r c o in
       let y = answer-is (s .world) r c o in
       λ i. record { world = x i; seen = watch M c (phaseIn M C (s .world)) (λ p. phaseAt M p (x i)) (y i) (s .seen) }
 
-  after-is : (cs : List (Call M)) (s : State M C) → Reached M C (s .world) → OkCalls M cs → viewed (after M C cs s) ≡ after M (coreOf M) cs (viewed s)
+  after-is : (cs : List (CoreCall M)) (s : State M C) → Reached M C (s .world) → OkCalls M cs → viewed (after M C cs s) ≡ after M (coreOf M) cs (viewed s)
   unfolding after
   after-is [] s r ok = refl
   after-is (c ∷ cs) s r (one-more o ok) =
@@ -41,11 +41,11 @@ module _ (M : Machine) (C : Core M) (F : Follows M C) where
   begun-is : (w : C .World) → Begun M C w → Begun M (coreOf M) (C .see w)
   begun-is w b = (fresh-is w b, b .1)
 
-  pub run-is : (w : C .World) → Begun M C w → (cs : List (Call M)) → OkCalls M cs → viewed (after M C cs (begin M C w)) ≡ after M (coreOf M) cs (begin M (coreOf M) (C .see w))
+  pub run-is : (w : C .World) → Begun M C w → (cs : List (CoreCall M)) → OkCalls M cs → viewed (after M C cs (begin M C w)) ≡ after M (coreOf M) cs (begin M (coreOf M) (C .see w))
   run-is w b cs ok = after-is cs (begin M C w) (reached-first M C w b) ok
 
   -- so are the numbers it answers
-  pub answers-is : (cs : List (Call M)) (w : C .World) → Reached M C w → OkCalls M cs → answers M C cs w ≡ answers M (coreOf M) cs (C .see w)
+  pub answers-is : (cs : List (CoreCall M)) (w : C .World) → Reached M C w → OkCalls M cs → answers M C cs w ≡ answers M (coreOf M) cs (C .see w)
   answers-is [] w r ok = refl
   answers-is (c ∷ cs) w r (one-more o ok) =
       let e = C .call c w in
@@ -63,23 +63,23 @@ module _ (M : Machine) (C : Core M) (F : Follows M C) where
   }
 
   -- what is said of a list of calls
-  along-is : (p : Port) (cs : List (Call M)) (w : C .World) → Reached M C w → OkCalls M cs → Along M C p cs w → Along M (coreOf M) p cs (C .see w)
+  along-is : (p : PortName) (cs : List (CoreCall M)) (w : C .World) → Reached M C w → OkCalls M cs → Along M C p cs w → Along M (coreOf M) p cs (C .see w)
   along-is p [] w r ok a = a
   along-is p (c ∷ cs) w r (one-more o ok) a =
       (a .0, subst (λ v. Along M (coreOf M) p cs v) (world-is w r c o) (along-is p cs (C .call c w .world) (reached-next M C w r c o) ok (a .1)))
 
-  stops-back : (p : Port) (cs : List (Call M)) (w : C .World) → Reached M C w → OkCalls M cs → Stops M (coreOf M) p cs (C .see w) → Stops M C p cs w
+  stops-back : (p : PortName) (cs : List (CoreCall M)) (w : C .World) → Reached M C w → OkCalls M cs → Stops M (coreOf M) p cs (C .see w) → Stops M C p cs w
   stops-back p [] w r ok s = s
   stops-back p (c ∷ cs) w r (one-more o ok) (inl q) = inl q
   stops-back p (c ∷ cs) w r (one-more o ok) (inr s) =
       inr (stops-back p cs (C .call c w .world) (reached-next M C w r c o) ok (subst (λ v. Stops M (coreOf M) p cs v) (sym (world-is w r c o)) s))
 
-  ticked-is : (n : ℕ) (p : Port) (w : C .World) → Reached M C w → C .see (ticked M C n p w) ≡ ticked M (coreOf M) n p (C .see w)
+  ticked-is : (n : ℕ) (p : PortName) (w : C .World) → Reached M C w → C .see (ticked M C n p w) ≡ ticked M (coreOf M) n p (C .see w)
   unfolding ticked
   ticked-is zero p w r = refl
   ticked-is (suc n) p w r = ticked-is n p (C .call (tick p) w .world) (reached-next M C w r (tick p) tt) ∙ ap (ticked M (coreOf M) n p) (world-is w r (tick p) tt)
 
-  moves-is : (ds : List (Call M)) (w : C .World) → Reached M C w → Moves M C ds w → Moves M (coreOf M) ds (C .see w)
+  moves-is : (ds : List (CoreCall M)) (w : C .World) → Reached M C w → Moves M C ds w → Moves M (coreOf M) ds (C .see w)
   moves-is [] w r m = tt
   moves-is (take p b ∷ ds) w r m = absurd (m .0)
   moves-is (tick p ∷ ds) w r m =
@@ -87,7 +87,7 @@ module _ (M : Machine) (C : Core M) (F : Follows M C) where
   moves-is (give p ∷ ds) w r m = absurd (m .0)
   moves-is (press c ∷ ds) w r m = absurd (m .0)
 
-  moves-back : (ds : List (Call M)) (w : C .World) → Reached M C w → Moves M (coreOf M) ds (C .see w) → Moves M C ds w
+  moves-back : (ds : List (CoreCall M)) (w : C .World) → Reached M C w → Moves M (coreOf M) ds (C .see w) → Moves M C ds w
   moves-back [] w r m = tt
   moves-back (take p b ∷ ds) w r m = absurd (m .0)
   moves-back (tick p ∷ ds) w r m =
@@ -155,14 +155,14 @@ module _ (M : Machine) (C : Core M) (F : Follows M C) where
       can-finish = λ w b cs ok.
           let s = after M C cs (begin M C w) in
           let r = reached-after M C w b cs ok in
-          let q = subst (λ (u : State M (coreOf M)). (ds : List (Call M)) × Moves M (coreOf M) ds (u .world) × Finished M (coreOf M) (after M (coreOf M) ds u))
+          let q = subst (λ (u : State M (coreOf M)). (ds : List (CoreCall M)) × Moves M (coreOf M) ds (u .world) × Finished M (coreOf M) (after M (coreOf M) ds u))
           (sym (run-is w b cs ok)) (right.unfinished M L .can-finish (C .see w) (begun-is w b) cs ok) in
           let m = moves-back (q .0) (s .world) r (q .1) in
           (q .0, m, subst (λ (u : State M (coreOf M)). Finished M (coreOf M) u) (sym (after-is (q .0) s r (moves-ok M C (q .0) (s .world) m))) (q .2));
       as-serial = λ w b cs ok ds m f.
           let s = after M C cs (begin M C w) in
           let r = reached-after M C w b cs ok in
-          let P : State M (coreOf M) → Type 0 = λ u. (ds : List (Call M)) → Moves M (coreOf M) ds (u .world) → Finished M (coreOf M) (after M (coreOf M) ds u)
+          let P : State M (coreOf M) → Type 0 = λ u. (ds : List (CoreCall M)) → Moves M (coreOf M) ds (u .world) → Finished M (coreOf M) (after M (coreOf M) ds u)
           → wholeOf M (coreOf M) (after M (coreOf M) ds u) ≡ serial M (u .seen .log) (wholeOf M C (begin M C w)) in
           let q = subst P (sym (run-is w b cs ok)) (right.unfinished M L .as-serial (C .see w) (begun-is w b) cs ok) in
           let e = after-is ds s r (moves-ok M C ds (s .world) m) in

@@ -3,7 +3,7 @@
 use mathlib.Core.Path.{sym, _∙_, ap, subst}
 use mathlib.Core.List.{List, [], _∷_}
 use Rattle.serial.specs.Machine.{Machine}
-use Rattle.serial.specs.Core.{View, Call, Core}
+use Rattle.serial.specs.Core.{View, CoreCall, Core}
 use Rattle.serial.specs.Calls.{FreshView, callOf}
 use Rattle.serial.specs.Run.{State, OkCall, OkCalls, one-more, next, after, begin, Begun, Reached}
 use Rattle.serial.specs.Follows.{Follows, Images}
@@ -19,10 +19,10 @@ module _ (M : Machine) (C B : Core M) (image : B .World → C .World) (Good : B 
   first-imaged : (b : B .World) → Begun M B b → Imaged b
   first-imaged b e = let q = begins b e in (reached-first M C (image b) (q .0), q .1)
 
-  next-imaged : (b : B .World) → Imaged b → (c : Call M) → OkCall M c → Imaged (B .call c b .world)
+  next-imaged : (b : B .World) → Imaged b → (c : CoreCall M) → OkCall M c → Imaged (B .call c b .world)
   next-imaged b i c o = (subst (Reached M C) (sym (world-is b (i .1) (i .0) c o)) (reached-next M C (image b) (i .0) c o), good b (i .1) (i .0) c o)
 
-  after-imaged : (cs : List (Call M)) (s : State M B) → OkCalls M cs → Imaged (s .world) → Imaged (after M B cs s .world)
+  after-imaged : (cs : List (CoreCall M)) (s : State M B) → OkCalls M cs → Imaged (s .world) → Imaged (after M B cs s .world)
   unfolding after
   after-imaged [] s ok i = i
   after-imaged (c ∷ cs) s (one-more o ok) i = after-imaged cs (next M B c s) ok (next-imaged (s .world) i c o)

@@ -4,8 +4,8 @@ use mathlib.Core.Path.{_≡_, refl, sym, _∙_, ap, subst}
 use mathlib.Core.Bool.{Bool, true, false, _||_}
 use mathlib.Core.Option.{Option, none, some}
 use mathlib.Core.List.{List, [], _∷_, _++_, append-nil}
-use Rattle.serial.specs.Machine.{Port, port-0, port-1, Two, other, Out, goes, ends, Fed, more, full, Machine, finish}
-use Rattle.serial.specs.Core.{Phase, gathering, ready, running, replying, Quiet, View, phaseAt, localAt, locals, Call, take, tick, give, press}
+use Rattle.serial.specs.Machine.{PortName, port-0, port-1, Two, other, Becomes, goes, ends, Fed, more, full, Machine, finish}
+use Rattle.serial.specs.Core.{Phase, gathering, ready, running, replying, Quiet, View, phaseAt, localAt, locals, CoreCall, take, tick, give, press}
 use Rattle.serial.specs.Calls.{Act, holds, phaseOf, land, startIf, tickAct, takeAct, giveAct, fedPhase, restPhase, pressIf, idleOver, coreOf}
 use Rattle.serial.specs.Run.{Event, started, pressed, PortSeen, leftReady, startedBy, madeBy, ifDone, byteIn, tookMore, gaveMore, madeMore, OkCall, OkCalls, one-more, State, next, after, Begun, begin}
 use Rattle.serial.specs.Demand3.{Whole, one, serial, wholeOf, requestsOf, bytesOfAll}
@@ -22,14 +22,14 @@ module _ (M : Machine) (L : Laws M) (y₀ : Whole M) where
   open Laws L using (start-fit, hit-fit)
 
   -- port p with phase a, data l and what is seen of it; the other with b, k and v; the devices; the events
-  pub record Inv (p : Port) (a : Phase M) (l : Local) (u : PortSeen M) (b : Phase M) (k : Local) (v : PortSeen M) (d : Devs) (log : List (Event M)) : Type 0 where
+  pub record Inv (p : PortName) (a : Phase M) (l : Local) (u : PortSeen M) (b : Phase M) (k : Local) (v : PortSeen M) (d : Devs) (log : List (Event M)) : Type 0 where
     pub same : settle M L p a l (u .made) b k (v .made) d ≡ serial M log y₀
     pub apart : meets M L a b ≡ false
     pub fit : Fit (duo p l k) d
     pub own : PortInv M L a l d u (requestsOf M p log)
     pub others : PortInv M L b k d v (requestsOf M (other p) log)
 
-  swap : (p : Port) (a : Phase M) (l : Local) (u : PortSeen M) (b : Phase M) (k : Local) (v : PortSeen M) (d : Devs) (log : List (Event M))
+  swap : (p : PortName) (a : Phase M) (l : Local) (u : PortSeen M) (b : Phase M) (k : Local) (v : PortSeen M) (d : Devs) (log : List (Event M))
       → Inv p a l u b k v d log → Inv (other p) b k v a l u d log
   swap port-0 a l u b k v d log h = record
       { same = settle-swap M L port-0 a l (u .made) b k (v .made) d (h .apart) ∙ h .same; apart = meets-sym M L a b (h .apart); fit = h .fit; own = h .others; others = h .own }
@@ -37,22 +37,22 @@ module _ (M : Machine) (L : Laws M) (y₀ : Whole M) where
       { same = settle-swap M L port-1 a l (u .made) b k (v .made) d (h .apart) ∙ h .same; apart = meets-sym M L a b (h .apart); fit = h .fit; own = h .others; others = h .own }
 
   -- a tick of port p that does this
-  abbrev Ticked : Port → Phase M → PortSeen M → Phase M → Local → PortSeen M → List (Event M) → Act M → Type 0
+  abbrev Ticked : PortName → Phase M → PortSeen M → Phase M → Local → PortSeen M → List (Event M) → Act M → Type 0
   Ticked p a u b k v log e =
       Inv p (e .port .phase) (e .port .local) (madeMore M (madeBy M a (e .port .phase)) u) b k v (e .devs) (log ++ startedBy M p a (e .port .phase))
 
-  own-start-fit : (p : Port) (m : Message) (l k : Local) (d : Devs) → Fit (duo p l k) d
+  own-start-fit : (p : PortName) (m : Message) (l k : Local) (d : Devs) → Fit (duo p l k) d
       → let g = need l m in
       let s = start g m l (get g d) in
       Fit (duo p (s .local) k) (put g (s .dev) d) × OkOut M (λ k. OkRun g k (s .local) (s .dev)) (s .out)
   own-start-fit port-0 m l k d f = start-fit port-0 m (duo port-0 l k) d f
   own-start-fit port-1 m l k d f = start-fit port-1 m (duo port-1 l k) d f
 
-  left-land : (p : Port) (m : Message) (g : Group) (o : Out Byte Run) → leftReady M p m (phaseOf M g o) ≡ started p m ∷ []
+  left-land : (p : PortName) (m : Message) (g : Group) (o : Becomes Byte Run) → leftReady M p m (phaseOf M g o) ≡ started p m ∷ []
   left-land p m g (goes k) = refl
   left-land p m g (ends r) = refl
 
-  start-inv : (p : Port) (m : Message) (l : Local) (u : PortSeen M) (b : Phase M) (k : Local) (v : PortSeen M) (d : Devs) (log : List (Event M)) → holds M (need l m) b ≡ false
+  start-inv : (p : PortName) (m : Message) (l : Local) (u : PortSeen M) (b : Phase M) (k : Local) (v : PortSeen M) (d : Devs) (log : List (Event M)) → holds M (need l m) b ≡ false
       → Inv p (ready m) l u b k v d log → Ticked p (ready m) u b k v log (land M (need l m) (start (need l m) m l (get (need l m) d)) d)
   start-inv p m l u b k v d log e h =
       let g = need l m in
@@ -67,7 +67,7 @@ module _ (M : Machine) (L : Laws M) (y₀ : Whole M) where
         others = rw (requests-other M p log m) (port-apart M L g (s .dev) b k d e (h .others));
       })
 
-  move-inv : (p : Port) (g : Group) (j : Run) (l : Local) (u : PortSeen M) (b : Phase M) (k : Local) (v : PortSeen M) (d : Devs) (log : List (Event M))
+  move-inv : (p : PortName) (g : Group) (j : Run) (l : Local) (u : PortSeen M) (b : Phase M) (k : Local) (v : PortSeen M) (d : Devs) (log : List (Event M))
       → Inv p (running g j) l u b k v d log → Ticked p (running g j) u b k v log (land M g (move g j l (get g d)) d)
   move-inv p g j l u b k v d log h =
       let s = move g j l (get g d) in
@@ -81,11 +81,11 @@ module _ (M : Machine) (L : Laws M) (y₀ : Whole M) where
         others = port-apart M L g (s .dev) b k d (h .apart) (h .others);
       })
 
-  still-inv : (p : Port) (a : Phase M) (l : Local) (u : PortSeen M) (b : Phase M) (k : Local) (v : PortSeen M) (d : Devs) (log : List (Event M))
+  still-inv : (p : PortName) (a : Phase M) (l : Local) (u : PortSeen M) (b : Phase M) (k : Local) (v : PortSeen M) (d : Devs) (log : List (Event M))
       → Inv p a l u b k v d log → Inv p a l (madeMore M [] u) b k v d (log ++ [])
   still-inv p a l u b k v d log h = rw (append-nil log, append-nil (u .made)) h
 
-  tick-inv : (p : Port) (a : Phase M) (l : Local) (u : PortSeen M) (b : Phase M) (k : Local) (v : PortSeen M) (d : Devs) (log : List (Event M))
+  tick-inv : (p : PortName) (a : Phase M) (l : Local) (u : PortSeen M) (b : Phase M) (k : Local) (v : PortSeen M) (d : Devs) (log : List (Event M))
       → Inv p a l u b k v d log → Ticked p a u b k v log (tickAct M a l b d)
   tick-inv p (gathering x) l u b k v d log h = still-inv p (gathering x) l u b k v d log h
   tick-inv p (ready m) l u b k v d log h = go (holds M (need l m) b) refl
@@ -97,7 +97,7 @@ module _ (M : Machine) (L : Laws M) (y₀ : Whole M) where
   tick-inv p (replying r) l u b k v d log h = still-inv p (replying r) l u b k v d log h
 
   -- bytes in and out: what does not run changes only what is seen
-  calm : (p : Port) (a a′ : Phase M) (l : Local) (u u′ : PortSeen M) (b : Phase M) (k : Local) (v : PortSeen M) (d : Devs) (log : List (Event M)) → Quiet M a → Quiet M a′
+  calm : (p : PortName) (a a′ : Phase M) (l : Local) (u u′ : PortSeen M) (b : Phase M) (k : Local) (v : PortSeen M) (d : Devs) (log : List (Event M)) → Quiet M a → Quiet M a′
       → u′ .made ≡ u .made → Inv p a l u b k v d log → PortInv M L a′ l d u′ (requestsOf M p log) → Inv p a′ l u′ b k v d log
   calm p a a′ l u u′ b k v d log qa qa′ e h i = record {
     same =
@@ -117,7 +117,7 @@ module _ (M : Machine) (L : Laws M) (y₀ : Whole M) where
   quiet-rest [] = tt
   quiet-rest (b ∷ bs) = tt
 
-  take-inv : (c : Byte) (p : Port) (a : Phase M) (l : Local) (u : PortSeen M) (b : Phase M) (k : Local) (v : PortSeen M) (d : Devs) (log : List (Event M)) → OkByte c
+  take-inv : (c : Byte) (p : PortName) (a : Phase M) (l : Local) (u : PortSeen M) (b : Phase M) (k : Local) (v : PortSeen M) (d : Devs) (log : List (Event M)) → OkByte c
       → Inv p a l u b k v d log → let e = takeAct M a c l d in Inv p (e .port .phase) (e .port .local) (tookMore M (ifDone M (e .answer) c) u) b k v (e .devs) log
   take-inv c p (gathering x) l u b k v d log ok h =
       calm p (gathering x) (fedPhase M (feed x c)) l u (tookMore M (c ∷ []) u) b k v d log tt (quiet-fed (feed x c)) refl h (port-take M L x c l d u ok (h .own))
@@ -125,7 +125,7 @@ module _ (M : Machine) (L : Laws M) (y₀ : Whole M) where
   take-inv c p (running g j) l u b k v d log ok h = rw (append-nil (u .taken)) h
   take-inv c p (replying r) l u b k v d log ok h = rw (append-nil (u .taken)) h
 
-  give-inv : (p : Port) (a : Phase M) (l : Local) (u : PortSeen M) (b : Phase M) (k : Local) (v : PortSeen M) (d : Devs) (log : List (Event M))
+  give-inv : (p : PortName) (a : Phase M) (l : Local) (u : PortSeen M) (b : Phase M) (k : Local) (v : PortSeen M) (d : Devs) (log : List (Event M))
       → Inv p a l u b k v d log → let e = giveAct M a l d in Inv p (e .port .phase) (e .port .local) (gaveMore M (byteIn M (e .answer)) u) b k v (e .devs) log
   give-inv p (gathering x) l u b k v d log h = rw (append-nil (u .given)) h
   give-inv p (ready m) l u b k v d log h = rw (append-nil (u .given)) h
@@ -176,7 +176,7 @@ module _ (M : Machine) (L : Laws M) (y₀ : Whole M) where
       Inv port-1 (phaseAt M port-1 w) (localAt M port-1 w) (s .seen .port .first) (phaseAt M port-0 w) (localAt M port-0 w) (s .seen .port .zeroth) (w .devs) (s .seen .log)
   turned s h = swap port-0 _ _ _ _ _ _ _ _ h
 
-  pub inv-next : (c : Call M) (s : State M (coreOf M)) → OkCall M c → Holding s → Holding (next M (coreOf M) c s)
+  pub inv-next : (c : CoreCall M) (s : State M (coreOf M)) → OkCall M c → Holding s → Holding (next M (coreOf M) c s)
   inv-next (take port-0 c) s ok h = take-inv c port-0 _ _ _ _ _ _ _ _ ok h
   inv-next (take port-1 c) s ok h = swap port-1 _ _ _ _ _ _ _ _ (take-inv c port-1 _ _ _ _ _ _ _ _ ok (turned s h))
   inv-next (tick port-0) s ok h = tick-inv port-0 _ _ _ _ _ _ _ _ h
@@ -185,7 +185,7 @@ module _ (M : Machine) (L : Laws M) (y₀ : Whole M) where
   inv-next (give port-1) s ok h = swap port-1 _ _ _ _ _ _ _ _ (give-inv port-1 _ _ _ _ _ _ _ _ (turned s h))
   inv-next (press c) s ok h = press-inv c _ _ _ _ _ _ _ _ h
 
-  pub inv-after : (cs : List (Call M)) (s : State M (coreOf M)) → OkCalls M cs → Holding s → Holding (after M (coreOf M) cs s)
+  pub inv-after : (cs : List (CoreCall M)) (s : State M (coreOf M)) → OkCalls M cs → Holding s → Holding (after M (coreOf M) cs s)
   unfolding after
   inv-after [] s ok h = h
   inv-after (c ∷ cs) s (one-more oc ok) h = inv-after cs (next M (coreOf M) c s) ok (inv-next c s oc h)
@@ -194,7 +194,7 @@ module _ (M : Machine) (L : Laws M) where
   open Machine M using (Local, none-yet, Devs, Fit)
   open Laws L using (begun)
 
-  port-begin : (l : Local) (d : Devs) (p : Port) → PortInv M L (gathering none-yet) l d (record { taken = []; given = []; made = [] }) (requestsOf M p [])
+  port-begin : (l : Local) (d : Devs) (p : PortName) → PortInv M L (gathering none-yet) l d (record { taken = []; given = []; made = [] }) (requestsOf M p [])
   unfolding requestsOf bytesOfAll Spelled
   port-begin l d p = record { pend = tt; ins = record { front = []; behind = []; all = refl; spelled = refl; still = begun }; outs = refl }
 
@@ -205,7 +205,7 @@ module _ (M : Machine) (L : Laws M) where
   pub inv-begin : (w : View M) → Begun M (coreOf M) w → let s = begin M (coreOf M) w in Holding M L (wholeOf M (coreOf M) s) s
   inv-begin w b = subst (λ v. let s = begin M (coreOf M) v in Holding M L (wholeOf M (coreOf M) s) s) (sym (b .0)) (inv-idle (locals M w) (w .devs) (b .1))
 
-  pub reached : (w : View M) → Begun M (coreOf M) w → (cs : List (Call M)) → OkCalls M cs
+  pub reached : (w : View M) → Begun M (coreOf M) w → (cs : List (CoreCall M)) → OkCalls M cs
       → let s = begin M (coreOf M) w in
       Holding M L (wholeOf M (coreOf M) s) (after M (coreOf M) cs s)
   reached w b cs ok = let s = begin M (coreOf M) w in inv-after M L (wholeOf M (coreOf M) s) cs s ok (inv-begin w b)

@@ -3,7 +3,7 @@
 use mathlib.Core.Path.{_≡_, refl, sym, _∙_, ap, subst}
 use mathlib.Core.Bool.{false}
 use mathlib.Core.List.{List, [], _∷_, _++_, append-nil, append-assoc}
-use Rattle.serial.specs.Machine.{Reply, Out, goes, ends, Fed, more, full, Machine, StepOf, finish}
+use Rattle.serial.specs.Machine.{ReplyBytes, Becomes, goes, ends, Fed, more, full, Machine, StepOf, finish}
 use Rattle.serial.specs.Core.{Phase, gathering, ready, running, replying}
 use Rattle.serial.specs.Calls.{holds, phaseOf, fedPhase, restPhase}
 use Rattle.serial.specs.Run.{PortSeen, tookMore, gaveMore, madeMore, replyIn}
@@ -35,17 +35,17 @@ module _ (M : Machine) (L : Laws M) where
       go (replying r) e p = tt
 
   -- its start or its move
-  land-pend : (g : Group) (o : Out Byte Run) (l : Local) (x : Dev g) (d : Devs) → OkOut M (λ k. OkRun g k l x) o
+  land-pend : (g : Group) (o : Becomes Byte Run) (l : Local) (x : Dev g) (d : Devs) → OkOut M (λ k. OkRun g k l x) o
       → Ended M (finish M fuel g (record { local = l; dev = x; out = o }) .out) → Pending M L (phaseOf M g o) l (put g x d)
   land-pend g (goes k) l x d h e = rw (get-put g x d) (h, e)
   land-pend g (ends r) l x d h e = tt
 
-  land-outs : (g : Group) (o : Out Byte Run) (v : List Byte) (rs : List (Reply Byte)) → v ++ [] ≡ bytesOfAll M rs
+  land-outs : (g : Group) (o : Becomes Byte Run) (v : List Byte) (rs : List (ReplyBytes Byte)) → v ++ [] ≡ bytesOfAll M rs
       → v ++ left M (phaseOf M g o) ≡ bytesOfAll M (rs ++ replyIn M (phaseOf M g o))
   land-outs g (goes k) v rs e = rw (append-nil rs) e
   land-outs g (ends r) v rs e = rw (bytes-add M rs r, ← e, append-nil v)
 
-  land-behind : (g : Group) (o : Out Byte Run) → Behind M (phaseOf M g o) []
+  land-behind : (g : Group) (o : Becomes Byte Run) → Behind M (phaseOf M g o) []
   land-behind g (goes k) = refl
   land-behind g (ends r) = refl
 

@@ -3,7 +3,7 @@
 use mathlib.Core.Path.{_≡_, refl, sym, _∙_, ap, subst}
 use mathlib.Core.Bool.{Bool, false}
 use mathlib.Core.List.{List, [], _∷_, _++_, append-nil, append-assoc}
-use Rattle.serial.specs.Machine.{Port, port-0, port-1, other, Reply, Out, goes, ends, Machine, StepOf, finish}
+use Rattle.serial.specs.Machine.{PortName, port-0, port-1, other, ReplyBytes, Becomes, goes, ends, Machine, StepOf, finish}
 use Rattle.serial.specs.Core.{Phase, gathering, ready, running, replying, Quiet}
 use Rattle.serial.specs.Calls.{holds, phaseOf}
 use Rattle.serial.specs.Run.{Event, started, replyIn}
@@ -33,7 +33,7 @@ module _ (M : Machine) (L : Laws M) where
   meets-sym (running h j) (running g k) e = clash-sym g h ∙ e
   meets-sym (replying r) (running g k) e = refl
 
-  pub meets-land : (g : Group) (o : Out Byte Run) (b : Phase M) → holds M g b ≡ false → meets (phaseOf M g o) b ≡ false
+  pub meets-land : (g : Group) (o : Becomes Byte Run) (b : Phase M) → holds M g b ≡ false → meets (phaseOf M g o) b ≡ false
   meets-land g (goes k) b e = e
   meets-land g (ends r) b e = refl
 
@@ -45,7 +45,7 @@ module _ (M : Machine) (L : Laws M) where
 
   -- what both ports leave, each gone on to its end: port p (phase a, data l, replies r) before the other (b, k, q)
 
-  abbrev pub settle : Port → Phase M → Local → List (Reply Byte) → Phase M → Local → List (Reply Byte) → Devs → Whole M
+  abbrev pub settle : PortName → Phase M → Local → List (ReplyBytes Byte) → Phase M → Local → List (ReplyBytes Byte) → Devs → Whole M
   settle p a l r b k q d = record {
     local = duo p (endOf M L a l d .local) (endOf M L b k d .local);
     devs = endOf M L b k (endOf M L a l d .devs) .devs;
@@ -60,25 +60,25 @@ module _ (M : Machine) (L : Laws M) where
       rw (get-end M L g b k d e, end-apart M L g (going M L g j l d .dev) b k d e)
   devs-swap (replying r) l b k d e = refl
 
-  pub settle-swap : (p : Port) (a : Phase M) (l : Local) (r : List (Reply Byte)) (b : Phase M) (k : Local) (q : List (Reply Byte)) (d : Devs) → meets a b ≡ false
+  pub settle-swap : (p : PortName) (a : Phase M) (l : Local) (r : List (ReplyBytes Byte)) (b : Phase M) (k : Local) (q : List (ReplyBytes Byte)) (d : Devs) → meets a b ≡ false
       → settle (other p) b k q a l r d ≡ settle p a l r b k q d
   settle-swap port-0 a l r b k q d e = let f = devs-swap a l b k d e in λ i. record { local = settle port-0 a l r b k q d .local; devs = f i; made = settle port-0 a l r b k q d .made }
   settle-swap port-1 a l r b k q d e = let f = devs-swap a l b k d e in λ i. record { local = settle port-1 a l r b k q d .local; devs = f i; made = settle port-1 a l r b k q d .made }
 
-  pub settle-quiet : (p : Port) (a : Phase M) (l : Local) (r : List (Reply Byte)) (b : Phase M) (k : Local) (q : List (Reply Byte)) (d : Devs) → Quiet M a → Quiet M b
+  pub settle-quiet : (p : PortName) (a : Phase M) (l : Local) (r : List (ReplyBytes Byte)) (b : Phase M) (k : Local) (q : List (ReplyBytes Byte)) (d : Devs) → Quiet M a → Quiet M b
       → settle p a l r b k q d ≡ record { local = duo p l k; devs = d; made = duo p r q }
   settle-quiet p a l r b k q d qa qb = rw (end-quiet M L a l d qa, end-quiet M L b k d qb, append-nil r, append-nil q)
 
   -- a step of port p, where the other does not hold its group
 
-  abbrev pub landing : Port → (g : Group) → StepOf M g → List (Reply Byte) → Phase M → Local → List (Reply Byte) → Devs → Whole M
+  abbrev pub landing : PortName → (g : Group) → StepOf M g → List (ReplyBytes Byte) → Phase M → Local → List (ReplyBytes Byte) → Devs → Whole M
   landing p g s r b k q d = record {
     local = duo p (s .local) (endOf M L b k d .local);
     devs = put g (s .dev) (endOf M L b k d .devs);
     made = duo p (r ++ repliesOf M L (s .out)) (q ++ endOf M L b k d .made);
   }
 
-  pub settle-land : (p : Port) (g : Group) (s : StepOf M g) (r : List (Reply Byte)) (b : Phase M) (k : Local) (q : List (Reply Byte)) (d : Devs) → holds M g b ≡ false
+  pub settle-land : (p : PortName) (g : Group) (s : StepOf M g) (r : List (ReplyBytes Byte)) (b : Phase M) (k : Local) (q : List (ReplyBytes Byte)) (d : Devs) → holds M g b ≡ false
       → settle p (phaseOf M g (s .out)) (s .local) (r ++ replyIn M (phaseOf M g (s .out))) b k q (put g (s .dev) d) ≡ landing p g (finish M fuel g s) r b k q d
   settle-land p g s r b k q d e =
       let x = end-land M L g (s .out) (s .local) (s .dev) d in
@@ -89,7 +89,7 @@ module _ (M : Machine) (L : Laws M) where
       append-assoc r _ _ ∙ ap (λ (u : Part M L). r ++ u .made) x in
       λ i. record { local = duo p (x i .local) (y i .local); devs = v i; made = duo p (w i) (q ++ y i .made) }
 
-  pub settle-move : (p : Port) (g : Group) (j : Run) (l : Local) (r : List (Reply Byte)) (b : Phase M) (k : Local) (q : List (Reply Byte)) (d : Devs) → holds M g b ≡ false
+  pub settle-move : (p : PortName) (g : Group) (j : Run) (l : Local) (r : List (ReplyBytes Byte)) (b : Phase M) (k : Local) (q : List (ReplyBytes Byte)) (d : Devs) → holds M g b ≡ false
       → Ended M (going M L g j l d .out)
       → let s = move g j l (get g d) in
       settle p (phaseOf M g (s .out)) (s .local) (r ++ replyIn M (phaseOf M g (s .out))) b k q (put g (s .dev) d) ≡ settle p (running g j) l r b k q d
@@ -99,34 +99,34 @@ module _ (M : Machine) (L : Laws M) where
 
   -- a start: the request alone, put behind what was
 
-  one-own : (p : Port) (m : Message) (l k : Local) (e : Devs) (r q : List (Reply Byte))
+  one-own : (p : PortName) (m : Message) (l k : Local) (e : Devs) (r q : List (ReplyBytes Byte))
       → let a = alone m l e in
       one M (started p m) (record { local = duo p l k; devs = e; made = duo p r q }) ≡ record { local = duo p (a .local) k; devs = a .devs; made = duo p (r ++ (a .reply ∷ [])) q }
   one-own port-0 m l k e r q = refl
   one-own port-1 m l k e r q = refl
 
-  own-alone-is : (p : Port) (m : Message) (l k : Local) (d : Devs) → Fit (duo p l k) d
+  own-alone-is : (p : PortName) (m : Message) (l k : Local) (d : Devs) → Fit (duo p l k) d
       → let g = need l m in
       let a = alone m l d in
       finish M fuel g (start g m l (get g d)) ≡ record { local = a .local; dev = get g (a .devs); out = ends (a .reply) }
   own-alone-is port-0 m l k d f = alone-is port-0 m (duo port-0 l k) d f
   own-alone-is port-1 m l k d f = alone-is port-1 m (duo port-1 l k) d f
 
-  own-alone-else : (p : Port) (m : Message) (l k : Local) (d : Devs) → Fit (duo p l k) d
+  own-alone-else : (p : PortName) (m : Message) (l k : Local) (d : Devs) → Fit (duo p l k) d
       → let g = need l m in
       let a = alone m l d in
       a .devs ≡ put g (get g (a .devs)) d
   own-alone-else port-0 m l k d f = alone-else port-0 m (duo port-0 l k) d f
   own-alone-else port-1 m l k d f = alone-else port-1 m (duo port-1 l k) d f
 
-  other-fit : (p : Port) (b : Phase M) (k l : Local) (d : Devs) → Fit (duo p l k) d → Pending M L b k d → Fit (duo p l (endOf M L b k d .local)) (endOf M L b k d .devs)
+  other-fit : (p : PortName) (b : Phase M) (k l : Local) (d : Devs) → Fit (duo p l k) d → Pending M L b k d → Fit (duo p l (endOf M L b k d .local)) (endOf M L b k d .devs)
   other-fit port-0 b k l d f h = end-fit M L port-1 b k l d f h
   other-fit port-1 b k l d f h = end-fit M L port-0 b k l d f h
 
-  pub start-ends : (p : Port) (m : Message) (l k : Local) (d : Devs) → Fit (duo p l k) d → let g = need l m in Ended M (finish M fuel g (start g m l (get g d)) .out)
+  pub start-ends : (p : PortName) (m : Message) (l k : Local) (d : Devs) → Fit (duo p l k) d → let g = need l m in Ended M (finish M fuel g (start g m l (get g d)) .out)
   start-ends p m l k d f = subst (λ (s : StepOf M (need l m)). Ended M (s .out)) (sym (own-alone-is p m l k d f)) tt
 
-  pub settle-start : (p : Port) (m : Message) (l : Local) (r : List (Reply Byte)) (b : Phase M) (k : Local) (q : List (Reply Byte)) (d : Devs) → holds M (need l m) b ≡ false
+  pub settle-start : (p : PortName) (m : Message) (l : Local) (r : List (ReplyBytes Byte)) (b : Phase M) (k : Local) (q : List (ReplyBytes Byte)) (d : Devs) → holds M (need l m) b ≡ false
       → Fit (duo p l k) d → Pending M L b k d
       → let g = need l m in
       let s = start g m l (get g d) in
@@ -143,11 +143,11 @@ module _ (M : Machine) (L : Laws M) where
       ∙ ap (λ (s : StepOf M g). landing p g s r b k q d) x
       ∙ ap (λ (w : Devs). record { local = duo p (a .local) (v .local); devs = w; made = duo p (r ++ (a .reply ∷ [])) (q ++ v .made) }) (sym (own-alone-else p m l (v .local) (v .devs) i))
       ∙ sym (one-own p m l (v .local) (v .devs) r (q ++ v .made))
-      ∙ ap (λ (z : List (Reply Byte)). one M (started p m) (record { local = duo p l (v .local); devs = v .devs; made = duo p z (q ++ v .made) })) (sym (append-nil r))
+      ∙ ap (λ (z : List (ReplyBytes Byte)). one M (started p m) (record { local = duo p l (v .local); devs = v .devs; made = duo p z (q ++ v .made) })) (sym (append-nil r))
 
   -- a key
 
-  pub settle-hit : (x : Dev console) (p : Port) (a : Phase M) (l : Local) (r : List (Reply Byte)) (b : Phase M) (k : Local) (q : List (Reply Byte)) (d : Devs)
+  pub settle-hit : (x : Dev console) (p : PortName) (a : Phase M) (l : Local) (r : List (ReplyBytes Byte)) (b : Phase M) (k : Local) (q : List (ReplyBytes Byte)) (d : Devs)
       → holds M console a ≡ false → holds M console b ≡ false
       → let y = settle p a l r b k q d in
       settle p a l r b k q (put console x d) ≡ record { local = y .local; devs = put console x (y .devs); made = y .made }

@@ -3,7 +3,7 @@
 use mathlib.Core.Path.{refl, sym, subst}
 use mathlib.Core.List.{List, [], _∷_}
 use Rattle.serial.specs.Machine.{Machine}
-use Rattle.serial.specs.Core.{Call, Core}
+use Rattle.serial.specs.Core.{CoreCall, Core}
 use Rattle.serial.specs.Calls.{coreOf}
 use Rattle.serial.specs.Run.{State, OkCall, OkCalls, one-more, next, after, begin, Reached}
 use Rattle.serial.specs.Undamaged.{Undamaged}
@@ -19,12 +19,12 @@ module _ (M : Machine) (L : Laws M) (C : Core M) (Sound : C .World → Type 0) (
   abbrev Kept : C .World → Type 0
   Kept w = Sound w × Reached M (coreOf M) (C .see w)
 
-  kept-next : (w : C .World) → Kept w → (c : Call M) → OkCall M c → Kept (C .call c w .world)
+  kept-next : (w : C .World) → Kept w → (c : CoreCall M) → OkCall M c → Kept (C .call c w .world)
   kept-next w k c o =
       let u = never-damaged M L (C .see w) (k .1) in
       (sound w (k .0) u c o, subst (Reached M (coreOf M)) (sym (world-is w (k .0) u c o)) (reached-next M (coreOf M) (C .see w) (k .1) c o))
 
-  kept-after : (cs : List (Call M)) (s : State M C) → OkCalls M cs → Kept (s .world) → Kept (after M C cs s .world)
+  kept-after : (cs : List (CoreCall M)) (s : State M C) → OkCalls M cs → Kept (s .world) → Kept (after M C cs s .world)
   unfolding after
   kept-after [] s ok k = k
   kept-after (c ∷ cs) s (one-more o ok) k = kept-after cs (next M C c s) ok (kept-next (s .world) k c o)

@@ -5,7 +5,7 @@ use mathlib.Core.Bool.{Bool, true, false}
 use mathlib.Core.Option.{Option, none, some}
 use mathlib.Core.List.{List, [], _∷_}
 use Prim.Native.Nat.{ℕ, zero, suc, _<_}
-use Rattle.serial.specs.Machine.{Machine, Step, Alone, Reply, Out, goes, ends, Fed, more, full}
+use Rattle.serial.specs.Machine.{Machine, Step, AloneLeaves, ReplyBytes, Becomes, goes, ends, Fed, more, full}
 
 pub data Group : Type 0 where
   nobody keyboard printer : Group
@@ -51,7 +51,7 @@ needs zero = nobody
 needs (suc zero) = keyboard
 needs (suc (suc n)) = printer
 
-abbrev pub replies : ℕ → Reply ℕ
+abbrev pub replies : ℕ → ReplyBytes ℕ
 replies n = record { head = 144; rest = n ∷ [] }
 
 abbrev pub few : ℕ → ℕ
@@ -61,7 +61,7 @@ few (suc (suc zero)) = 2
 few (suc (suc (suc n))) = 3
 
 -- n stars are left to print
-abbrev pub goesOn : ℕ → Out ℕ ℕ
+abbrev pub goesOn : ℕ → Becomes ℕ ℕ
 goesOn zero = ends (replies 1)
 goesOn (suc n) = goes n
 
@@ -79,7 +79,7 @@ abbrev pub stars : ℕ → List ℕ → List ℕ
 stars zero x = x
 stars (suc n) x = 42 ∷ stars n x
 
-abbrev pub aloneBy : ℕ → ℕ → List ℕ → Devices → Alone ℕ (List ℕ) Devices
+abbrev pub aloneBy : ℕ → ℕ → List ℕ → Devices → AloneLeaves ℕ (List ℕ) Devices
 aloneBy zero v l d = record { local = v ∷ l; devs = d; reply = replies 1 }
 aloneBy (suc zero) v l d = record { local = l; devs = record { key = 255; paper = d .paper }; reply = replies (d .key) }
 aloneBy (suc (suc n)) v l d = record { local = l; devs = record { key = d .key; paper = stars (few v) (d .paper) }; reply = replies 1 }

@@ -4,7 +4,7 @@ use mathlib.Core.Path.{_≡_, refl}
 use mathlib.Core.List.{List, [], _∷_}
 use lib.Dec.{T, ltb, ltb→lt}
 use Rattle.serial.specs.Machine.{port-0, port-1}
-use Rattle.serial.specs.Core.{View, Call, take, tick, give, press}
+use Rattle.serial.specs.Core.{View, CoreCall, take, tick, give, press}
 use Rattle.serial.specs.Calls.{coreOf, idleOver}
 use Rattle.serial.specs.Run.{started, pressed, OkCalls, after, begin, State, Reached}
 use Rattle.serial.specs.Undamaged.{NeverDamaged}
@@ -32,21 +32,21 @@ toy-unfinished = unfinished toy toy-laws
 pub toy-never-damaged : NeverDamaged toy (coreOf toy)
 toy-never-damaged = never-damaged toy toy-laws
 
-pub ok-by : (cs : List (Call toy)) → T (allOk toy (λ b. ltb b 256) cs) → OkCalls toy cs
+pub ok-by : (cs : List (CoreCall toy)) → T (allOk toy (λ b. ltb b 256) cs) → OkCalls toy cs
 ok-by cs t = all-ok toy (λ b. ltb b 256) (λ b h. ltb→lt b 256 h) cs t
 
 abbrev pub first : View toy
 first = idleOver toy (record { zeroth = []; first = [] }) (record { key = 255; paper = [] })
 
 -- what these calls lead to, where they are done so
-abbrev pub led : Calls toy → List (Call toy) → View toy
+abbrev pub led : Calls toy → List (CoreCall toy) → View toy
 led f cs = after toy (with-call toy f) cs (begin toy (with-call toy f) first) .world
 
-pub leads : (f : Calls toy) (cs : List (Call toy)) → T (allOk toy (λ b. ltb b 256) cs) → Reached toy (with-call toy f) (led f cs)
+pub leads : (f : Calls toy) (cs : List (CoreCall toy)) → T (allOk toy (λ b. ltb b 256) cs) → Reached toy (with-call toy f) (led f cs)
 leads f cs t = record { from = first; begun = (refl, tt); calls = cs; ok = ok-by cs t; there = refl }
 
 -- port 0 prints two stars; meanwhile a key is pressed, port 1 reads it, and its own print waits
-abbrev toyBusy : List (Call toy)
+abbrev toyBusy : List (CoreCall toy)
 toyBusy =
     take port-0 2 ∷ take port-0 2 ∷ tick port-0 ∷ take port-0 1 ∷ give port-0 ∷ tick port-1 ∷ press 60 ∷
     take port-1 1 ∷ take port-1 0 ∷ tick port-1 ∷ press 61 ∷ tick port-1 ∷ give port-1 ∷ give port-1 ∷ tick port-0 ∷
@@ -84,7 +84,7 @@ toy-serial : wholeOf toy (coreOf toy) toyEnd ≡ serial toy (toyEnd .seen .log) 
 toy-serial = toy-demand3 .as-serial first (refl, tt) toyBusy (ok-by toyBusy tt) toy-finished
 
 -- the bound is met with nothing to spare: three stars run still after two further ticks
-abbrev long : List (Call toy)
+abbrev long : List (CoreCall toy)
 long = take port-0 2 ∷ take port-0 3 ∷ tick port-0 ∷ []
 
 long-runs : Along toy (coreOf toy) port-0 (tick port-0 ∷ tick port-0 ∷ []) (after toy (coreOf toy) long (begin toy (coreOf toy) first) .world)

@@ -4,7 +4,7 @@ use mathlib.Core.Path.{_≡_, refl, sym, _∙_, ap, subst}
 use mathlib.Core.Bool.{Bool, true, false, true≢false}
 use Prim.Native.Nat.{ℕ}
 use native.Mathlib.Omega.{arith}
-use Rattle.serial.specs.Machine.{Port, port-0, port-1, other, Out, goes, ends, Machine}
+use Rattle.serial.specs.Machine.{PortName, port-0, port-1, other, Becomes, goes, ends, Machine}
 use Rattle.serial.specs.Core.{Phase, gathering, ready, running, replying, Held, View, phaseAt, localAt, tick, Answer, done, group-held, number, Effect}
 use Rattle.serial.specs.Calls.{holds, land, startIf, tickAct, onPort, landed, callOf, coreOf}
 use Rattle.serial.specs.Demand2.{Waits, NotReady, WaitingRule, OneCharacter}
@@ -33,26 +33,26 @@ module _ (M : Machine) where
       go false e = refl
 
   -- a ready port's tick
-  waited : (p : Port) (m : Message) (v : View M) → phaseAt M p v ≡ ready m → Waits M p m v → callOf M (tick p) v .answer ≡ group-held
+  waited : (p : PortName) (m : Message) (v : View M) → phaseAt M p v ≡ ready m → Waits M p m v → callOf M (tick p) v .answer ≡ group-held
   waited p m v e h =
       ap (λ ph. onPort M p (tickAct M ph (localAt M p v) (phaseAt M (other p) v) (v .devs)) v .answer) e
       ∙ ap (λ t. onPort M p (startIf M t (need (localAt M p v) m) m (localAt M p v) (v .devs)) v .answer) (held-back _ (phaseAt M (other p) v) h)
 
-  pub began : (p : Port) (m : Message) (v : View M) → phaseAt M p v ≡ ready m → (Waits M p m v → ⊥)
+  pub began : (p : PortName) (m : Message) (v : View M) → phaseAt M p v ≡ ready m → (Waits M p m v → ⊥)
       → let g = need (localAt M p v) m in
       callOf M (tick p) v ≡ onPort M p (land M g (start g m (localAt M p v) (get g (v .devs))) (v .devs)) v
   began p m v e n =
       ap (λ ph. onPort M p (tickAct M ph (localAt M p v) (phaseAt M (other p) v) (v .devs)) v) e
       ∙ ap (λ t. onPort M p (startIf M t (need (localAt M p v) m) m (localAt M p v) (v .devs)) v) (free _ (phaseAt M (other p) v) n)
 
-  pub moved : (p : Port) (g : Group) (k : Run) (v : View M) → phaseAt M p v ≡ running g k
+  pub moved : (p : PortName) (g : Group) (k : Run) (v : View M) → phaseAt M p v ≡ running g k
       → callOf M (tick p) v ≡ onPort M p (land M g (move g k (localAt M p v) (get g (v .devs))) (v .devs)) v
   moved p g k v e = ap (λ ph. onPort M p (tickAct M ph (localAt M p v) (phaseAt M (other p) v) (v .devs)) v) e
 
   done-not-held : (a : Answer M) → a ≡ done → a ≡ group-held → ⊥
   done-not-held a e f = let z : _≡_ {A = ℕ} 0 8 = ap (number M) (sym e ∙ f) in omega arith
 
-  landed-not : (p : Port) (g : Group) (o : Out Byte Run) (l : Local) (x : Dev g) (v : View M)
+  landed-not : (p : PortName) (g : Group) (o : Becomes Byte Run) (l : Local) (x : Dev g) (v : View M)
       → NotReady M (phaseAt M p (landed M p g (record { local = l; dev = x; out = o }) v))
   landed-not port-0 g (goes k) l x v = tt
   landed-not port-0 g (ends r) l x v = tt
@@ -69,7 +69,7 @@ module _ (M : Machine) where
         (ap (λ (f : Effect M (View M)). f .answer) q, subst (λ (f : Effect M (View M)). NotReady M (phaseAt M p (f .world))) (sym q) (landed-not p g (s .out) (s .local) (s .dev) v));
   }
     where
-      only : (v : View M) (p : Port) (m : Message) → phaseAt M p v ≡ ready m → callOf M (tick p) v .answer ≡ group-held → Waits M p m v
+      only : (v : View M) (p : PortName) (m : Message) → phaseAt M p v ≡ ready m → callOf M (tick p) v .answer ≡ group-held → Waits M p m v
       only v p m e a = go (holds M (need (localAt M p v) m) (phaseAt M (other p) v)) refl
         where
           go : (t : Bool) → holds M (need (localAt M p v) m) (phaseAt M (other p) v) ≡ t → Waits M p m v

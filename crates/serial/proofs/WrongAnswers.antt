@@ -4,8 +4,8 @@ use mathlib.Core.List.{List, [], _∷_}
 use Prim.Native.Nat.{ℕ}
 use native.Mathlib.Omega.{arith}
 use lib.ListN.{getD}
-use Rattle.serial.specs.Machine.{port-0, Reply}
-use Rattle.serial.specs.Core.{Call, take, tick, press, number}
+use Rattle.serial.specs.Machine.{port-0, ReplyBytes}
+use Rattle.serial.specs.Core.{CoreCall, take, tick, press, number}
 use Rattle.serial.specs.Run.{after}
 use Rattle.serial.specs.Demand1.{Demand1}
 use Rattle.serial.specs.Demand3.{Whole, serial, SerialRule}
@@ -20,10 +20,10 @@ idling-wrong d =
     let z : _≡_ {A = ℕ} 4 0 = ap (number toy) e in omega arith
 
 -- port 0 starts to read the key, which is pressed only then
-abbrev readLate : List (Call toy)
+abbrev readLate : List (CoreCall toy)
 readLate = take port-0 1 ∷ take port-0 0 ∷ tick port-0 ∷ press 60 ∷ tick port-0 ∷ []
 
-abbrev keyRead : List (Reply ℕ) → ℕ
+abbrev keyRead : List (ReplyBytes ℕ) → ℕ
 keyRead [] = 0
 keyRead (r ∷ rs) = getD (r .rest) 0 0
 

@@ -5,7 +5,7 @@ use Prim.Native.Nat.{ℕ}
 use native.Mathlib.Omega.{arith}
 use lib.ListN.{length}
 use Rattle.serial.specs.Machine.{port-0, port-1}
-use Rattle.serial.specs.Core.{Call, take, tick, give}
+use Rattle.serial.specs.Core.{CoreCall, take, tick, give}
 use Rattle.serial.specs.Run.{after}
 use Rattle.serial.specs.Reading.{Spelled}
 use Rattle.serial.specs.Demand3.{requestsOf, TakenRule, GivenRule, bytesOfAll}
@@ -21,7 +21,7 @@ mixed-in-wrong r =
     let z : _≡_ {A = ℕ} 1 0 = ap length e in omega arith
 
 -- port 0's request is done, and port 1 is asked for a byte
-abbrev givenAcross : List (Call toy)
+abbrev givenAcross : List (CoreCall toy)
 givenAcross = take port-0 0 ∷ take port-0 7 ∷ tick port-0 ∷ give port-1 ∷ []
 
 pub mixed-out-wrong : GivenRule toy (with-call toy (crossed toy)) → ⊥

@@ -2,8 +2,8 @@
 -- statement rules out which is proved of the toy machine in the other Wrong files, by computed runs. Assumes nothing.
 use mathlib.Core.Bool.{false}
 use Prim.Native.Nat.{ℕ, suc}
-use Rattle.serial.specs.Machine.{Port, port-0, set, other, Reply, Machine}
-use Rattle.serial.specs.Core.{Phase, gathering, ready, running, replying, View, phaseAt, localAt, Call, take, tick, give, press, Answer, done, not-gathering, no-byte, console-held, idle, group-held, Effect, Core}
+use Rattle.serial.specs.Machine.{PortName, port-0, set, other, ReplyBytes, Machine}
+use Rattle.serial.specs.Core.{Phase, gathering, ready, running, replying, View, phaseAt, localAt, CoreCall, take, tick, give, press, Answer, done, not-gathering, no-byte, console-held, idle, group-held, Effect, Core}
 use Rattle.serial.specs.Calls.{callOf, pressIf, FreshView, coreOf}
 use Rattle.serial.specs.Demand2.{ticked}
 
@@ -11,7 +11,7 @@ module _ (M : Machine) where
   open Machine M using (Byte, get, console, hit)
 
   abbrev pub Calls : Type 0
-  Calls = Call M → View M → Effect M (View M)
+  Calls = CoreCall M → View M → Effect M (View M)
 
   -- the machine's ports and devices, with other calls
   abbrev pub with-call : Calls → Core M
@@ -21,32 +21,32 @@ module _ (M : Machine) where
   still a v = record { world = v; answer = a }
 
   -- port p comes to reply
-  abbrev pub replied : Port → Reply Byte → View M → View M
+  abbrev pub replied : PortName → ReplyBytes Byte → View M → View M
   replied p r v = record { ports = set p (record { local = localAt M p v; phase = replying r }) (v .ports); devs = v .devs }
 
   -- another tick where the port is ready, or runs
-  abbrev pub atReady : Phase M → (Port → View M → Effect M (View M)) → Port → View M → Effect M (View M)
+  abbrev pub atReady : Phase M → (PortName → View M → Effect M (View M)) → PortName → View M → Effect M (View M)
   atReady (gathering x) f p v = callOf M (tick p) v
   atReady (ready m) f p v = f p v
   atReady (running g k) f p v = callOf M (tick p) v
   atReady (replying r) f p v = callOf M (tick p) v
 
-  abbrev pub atRunning : Phase M → (Port → View M → Effect M (View M)) → Port → View M → Effect M (View M)
+  abbrev pub atRunning : Phase M → (PortName → View M → Effect M (View M)) → PortName → View M → Effect M (View M)
   atRunning (gathering x) f p v = callOf M (tick p) v
   atRunning (ready m) f p v = callOf M (tick p) v
   atRunning (running g k) f p v = f p v
   atRunning (replying r) f p v = callOf M (tick p) v
 
-  abbrev pub whenTicked : (Port → View M → Effect M (View M)) → Calls
+  abbrev pub whenTicked : (PortName → View M → Effect M (View M)) → Calls
   whenTicked f (take p b) v = callOf M (take p b) v
   whenTicked f (tick p) v = f p v
   whenTicked f (give p) v = callOf M (give p) v
   whenTicked f (press c) v = callOf M (press c) v
 
-  abbrev pub whenReady : (Port → View M → Effect M (View M)) → Calls
+  abbrev pub whenReady : (PortName → View M → Effect M (View M)) → Calls
   whenReady f = whenTicked (λ p v. atReady (phaseAt M p v) f p v)
 
-  abbrev pub whenRunning : (Port → View M → Effect M (View M)) → Calls
+  abbrev pub whenRunning : (PortName → View M → Effect M (View M)) → Calls
   whenRunning f = whenTicked (λ p v. atRunning (phaseAt M p v) f p v)
 
   -- "an idle core earns nothing": every call is refused
@@ -71,7 +71,7 @@ module _ (M : Machine) where
   pretends = whenReady (λ p v. still done v)
 
   -- "One lock over both groups": a ready port is answered 8 while the other runs anything
-  abbrev pub lockedBy : Phase M → Port → View M → Effect M (View M)
+  abbrev pub lockedBy : Phase M → PortName → View M → Effect M (View M)
   lockedBy (gathering x) p v = callOf M (tick p) v
   lockedBy (ready m) p v = callOf M (tick p) v
   lockedBy (running g k) p v = still group-held v
@@ -89,11 +89,11 @@ module _ (M : Machine) where
   allAtOnce n = whenReady (λ p v. record { world = ticked M (coreOf M) (suc n) p v; answer = done })
 
   -- "Doing the first character and claiming the rest", with this reply
-  abbrev pub firstOnly : Reply Byte → Calls
+  abbrev pub firstOnly : ReplyBytes Byte → Calls
   firstOnly r = whenRunning (λ p v. record { world = replied p r (callOf M (tick p) v .world); answer = done })
 
   -- "Always refusing, or always status 1": this reply, whatever is asked
-  abbrev pub always : Reply Byte → Calls
+  abbrev pub always : ReplyBytes Byte → Calls
   always r = whenReady (λ p v. record { world = replied p r v; answer = done })
 
   -- "Mixing two ports' bytes on the way in": one command buffer, port 0's
@@ -111,7 +111,7 @@ module _ (M : Machine) where
   crossed (press c) v = callOf M (press c) v
 
   -- "Choosing the reply port when the request ends": the reply goes to the other port, where that gathers
-  abbrev pub handedOver : Phase M → Phase M → Port → View M → View M
+  abbrev pub handedOver : Phase M → Phase M → PortName → View M → View M
   handedOver (replying r) (gathering x) p v =
       replied (other p) r (record { ports = set p (record { local = localAt M p v; phase = gathering x }) (v .ports); devs = v .devs })
   handedOver (replying r) (ready m) p v = v

@@ -5,7 +5,7 @@ use Prim.Native.Nat.{ℕ}
 use native.Mathlib.Omega.{arith}
 use lib.ListN.{length, getD}
 use Rattle.serial.specs.Machine.{port-0}
-use Rattle.serial.specs.Core.{Phase, gathering, ready, running, replying, View, phaseAt, Call, take, tick}
+use Rattle.serial.specs.Core.{Phase, gathering, ready, running, replying, View, phaseAt, CoreCall, take, tick}
 use Rattle.serial.specs.Run.{after}
 use Rattle.serial.specs.Demand2.{OneCharacter, Bound, AloneRule, ticks, ticked}
 use Rattle.serial.proofs.Toy.{toy, printer, replies}
@@ -22,10 +22,10 @@ status (running g k) = 0
 status (replying r) = getD (r .rest) 0 0
 
 -- port 0 is to print two stars; and has started
-abbrev asks : List (Call toy)
+abbrev asks : List (CoreCall toy)
 asks = take port-0 2 ∷ take port-0 2 ∷ []
 
-abbrev printing : List (Call toy)
+abbrev printing : List (CoreCall toy)
 printing = take port-0 2 ∷ take port-0 2 ∷ tick port-0 ∷ []
 
 pub moving-nothing-wrong : OneCharacter toy (with-call toy (movesNothing toy)) → ⊥
@@ -60,7 +60,7 @@ always-refusing-wrong a =
     let z : _≡_ {A = ℕ} 132 1 = ap (λ v. status (phaseAt toy port-0 v)) e in omega arith
 
 -- "always status 1": with the key not pressed, reading it is answered 255
-abbrev asksKey : List (Call toy)
+abbrev asksKey : List (CoreCall toy)
 asksKey = take port-0 1 ∷ take port-0 0 ∷ []
 
 pub always-one-wrong : AloneRule toy (with-call toy (always toy (replies 1))) → ⊥

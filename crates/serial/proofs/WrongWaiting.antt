@@ -3,7 +3,7 @@ use mathlib.Core.Path.{refl, sym}
 use mathlib.Core.Bool.{true≢false}
 use mathlib.Core.List.{List, [], _∷_}
 use Rattle.serial.specs.Machine.{port-0, port-1}
-use Rattle.serial.specs.Core.{Call, take, tick}
+use Rattle.serial.specs.Core.{CoreCall, take, tick}
 use Rattle.serial.specs.Run.{after}
 use Rattle.serial.specs.Demand2.{WaitingRule}
 use Rattle.serial.proofs.Toy.{toy}
@@ -11,7 +11,7 @@ use Rattle.serial.proofs.ToyRun.{led, leads}
 use Rattle.serial.proofs.WrongCores.{with-call, neverStarts, pretends, oneLock}
 
 -- port 0 has a request that needs no group
-abbrev asks : List (Call toy)
+abbrev asks : List (CoreCall toy)
 asks = take port-0 0 ∷ take port-0 7 ∷ []
 
 pub never-starting-wrong : WaitingRule toy (with-call toy (neverStarts toy)) → ⊥
@@ -23,7 +23,7 @@ unfolding after
 pretending-wrong w = w .starts (led (pretends toy) asks) (leads (pretends toy) asks tt) port-0 (record { tag = 0; value = 7 }) refl (λ h. h) .1
 
 -- port 0 prints, port 1 asks for the key
-abbrev printing : List (Call toy)
+abbrev printing : List (CoreCall toy)
 printing = take port-0 2 ∷ take port-0 2 ∷ tick port-0 ∷ take port-1 1 ∷ take port-1 0 ∷ []
 
 pub one-lock-wrong : WaitingRule toy (with-call toy (oneLock toy)) → ⊥

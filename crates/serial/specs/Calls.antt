@@ -3,8 +3,8 @@ use mathlib.Core.Path.{_≡_}
 use mathlib.Core.Bool.{Bool, true, false, _||_}
 use mathlib.Core.Option.{Option, none, some}
 use mathlib.Core.List.{List, [], _∷_}
-use Rattle.serial.specs.Machine.{Port, port-0, port-1, Two, set, other, Out, goes, ends, Fed, more, full, Machine, StepOf}
-use Rattle.serial.specs.Core.{Phase, gathering, ready, running, replying, PortView, View, phaseAt, localAt, locals, Call, take, tick, give, press, Answer, done, gave, not-gathering, no-byte, console-held, idle, group-held, key-refused, Effect, Core}
+use Rattle.serial.specs.Machine.{PortName, port-0, port-1, Two, set, other, Becomes, goes, ends, Fed, more, full, Machine, StepOf}
+use Rattle.serial.specs.Core.{Phase, gathering, ready, running, replying, PortView, View, phaseAt, localAt, locals, CoreCall, take, tick, give, press, Answer, done, gave, not-gathering, no-byte, console-held, idle, group-held, key-refused, Effect, Core}
 
 module _ (M : Machine) where
   open Machine M using (Byte, Local, Gather, Message, none-yet, feed, Group, Devs, Dev, get, put, clash, Run, need, start, move, console, hit)
@@ -48,7 +48,7 @@ module _ (M : Machine) where
   holds g (replying r) = false
 
   -- "The last tick makes the reply and frees the group."
-  abbrev pub phaseOf : Group → Out Byte Run → Phase M
+  abbrev pub phaseOf : Group → Becomes Byte Run → Phase M
   phaseOf g (goes k) = running g k
   phaseOf g (ends r) = replying r
 
@@ -66,11 +66,11 @@ module _ (M : Machine) where
   tickAct (running g k) l t d = land g (move g k l (get g d)) d
   tickAct (replying r) l t d = keep (replying r) l d idle
 
-  abbrev pub onPort : Port → Act → View M → Effect M (View M)
+  abbrev pub onPort : PortName → Act → View M → Effect M (View M)
   onPort p a v = record { world = record { ports = set p (a .port) (v .ports); devs = a .devs }; answer = a .answer }
 
   -- the port and its group's device as the step leaves them, all else as before
-  abbrev pub landed : Port → (g : Group) → StepOf M g → View M → View M
+  abbrev pub landed : PortName → (g : Group) → StepOf M g → View M → View M
   landed p g s v = onPort p (land g s (v .devs)) v .world
 
   -- "key pressed while a request holds the console": 6
@@ -86,7 +86,7 @@ module _ (M : Machine) where
   pressIf true o v = record { world = v; answer = console-held }
   pressIf false o v = record { world = record { ports = v .ports; devs = hitTo o (v .devs) }; answer = hitAnswer o }
 
-  abbrev pub callOf : Call M → View M → Effect M (View M)
+  abbrev pub callOf : CoreCall M → View M → Effect M (View M)
   callOf (take p b) v = onPort p (takeAct (phaseAt M p v) b (localAt M p v) (v .devs)) v
   callOf (tick p) v = onPort p (tickAct (phaseAt M p v) (localAt M p v) (phaseAt M (other p) v) (v .devs)) v
   callOf (give p) v = onPort p (giveAct (phaseAt M p v) (localAt M p v) (v .devs)) v

@@ -3,7 +3,7 @@
 use mathlib.Core.Path.{_≡_}
 use mathlib.Core.Bool.{true}
 use Prim.Native.Nat.{ℕ}
-use Rattle.serial.specs.Machine.{Port, Two, at, Reply, Machine}
+use Rattle.serial.specs.Machine.{PortName, Two, at, ReplyBytes, Machine}
 
 module _ (M : Machine) where
   open Machine M using (Byte, Local, Gather, Message, Group, Devs, clash, Run, Key)
@@ -13,7 +13,7 @@ module _ (M : Machine) where
     gathering : Gather → Phase
     ready : Message → Phase
     running : Group → Run → Phase
-    replying : Reply Byte → Phase
+    replying : ReplyBytes Byte → Phase
 
   -- a request runs in this phase; none does
   abbrev pub Runs : Phase → Type 0
@@ -44,21 +44,21 @@ module _ (M : Machine) where
     pub ports : Two PortView
     pub devs : Devs
 
-  abbrev pub phaseAt : Port → View → Phase
+  abbrev pub phaseAt : PortName → View → Phase
   phaseAt p v = at p (v .ports) .phase
 
-  abbrev pub localAt : Port → View → Local
+  abbrev pub localAt : PortName → View → Local
   localAt p v = at p (v .ports) .local
 
   abbrev pub locals : View → Two Local
   locals v = record { zeroth = v .ports .zeroth .local; first = v .ports .first .local }
 
   -- "Fresh start; take a byte; tick a port; give the next reply byte; press a key." The run begins with the first.
-  pub data Call : Type 0 where
-    take : Port → Byte → Call
-    tick : Port → Call
-    give : Port → Call
-    press : Key → Call
+  pub data CoreCall : Type 0 where
+    take : PortName → Byte → CoreCall
+    tick : PortName → CoreCall
+    give : PortName → CoreCall
+    press : Key → CoreCall
 
   pub data Answer : Type 0 where
     done : Answer
@@ -84,5 +84,5 @@ module _ (M : Machine) where
     pub World : Type 0
     -- as a fresh start that gives 0 leaves it
     pub Fresh : World → Type 0
-    pub call : Call → World → Effect World
+    pub call : CoreCall → World → Effect World
     pub see : World → View

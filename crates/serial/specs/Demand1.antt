@@ -1,8 +1,8 @@
 -- Demand 1 of any core, as far as it speaks of the calls' numbers: each is given exactly when the table says so, and a refusal
 -- changes nothing. (8 is in Demand2.antt, the waiting rule.) Assumes nothing.
 use mathlib.Core.Path.{_≡_}
-use Rattle.serial.specs.Machine.{Port, Machine}
-use Rattle.serial.specs.Core.{Phase, gathering, ready, running, replying, Held, phaseAt, Call, take, tick, give, press, Answer, done, gave, not-gathering, no-byte, console-held, idle, group-held, key-refused, Core}
+use Rattle.serial.specs.Machine.{PortName, Machine}
+use Rattle.serial.specs.Core.{Phase, gathering, ready, running, replying, Held, phaseAt, CoreCall, take, tick, give, press, Answer, done, gave, not-gathering, no-byte, console-held, idle, group-held, key-refused, Core}
 use Rattle.serial.specs.Calls.{hitTo, hitAnswer}
 use Rattle.serial.specs.Run.{OkCall, Reached}
 
@@ -44,16 +44,16 @@ module _ (M : Machine) where
   module _ (C : Core M) where
     -- "Numbers 1 to 8 change nothing"
     abbrev pub RefusedRule : Type 0
-    RefusedRule = (w : C .World) → Reached M C w → (c : Call M) → OkCall M c → Refused (C .call c w .answer) → C .call c w .world ≡ w
+    RefusedRule = (w : C .World) → Reached M C w → (c : CoreCall M) → OkCall M c → Refused (C .call c w .answer) → C .call c w .world ≡ w
 
     pub record Demand1 : Type 0 where
-      pub takes : (w : C .World) → Reached M C w → (p : Port) (b : Byte) → OkByte b → C .call (take p b) w .answer ≡ takeAnswer (phaseAt M p (C .see w))
-      pub gives : (w : C .World) → Reached M C w → (p : Port) → C .call (give p) w .answer ≡ giveAnswer (phaseAt M p (C .see w))
+      pub takes : (w : C .World) → Reached M C w → (p : PortName) (b : Byte) → OkByte b → C .call (take p b) w .answer ≡ takeAnswer (phaseAt M p (C .see w))
+      pub gives : (w : C .World) → Reached M C w → (p : PortName) → C .call (give p) w .answer ≡ giveAnswer (phaseAt M p (C .see w))
       -- 7, "tick, nothing ready or running"; what a running port's tick and a ready one's are answered is in Demand2.antt
-      pub idles : (w : C .World) → Reached M C w → (p : Port) → Nothing (phaseAt M p (C .see w)) → C .call (tick p) w .answer ≡ idle
+      pub idles : (w : C .World) → Reached M C w → (p : PortName) → Nothing (phaseAt M p (C .see w)) → C .call (tick p) w .answer ≡ idle
       -- 6, "key pressed while a request holds the console"; else it is the console's to take it
-      pub held : (w : C .World) → Reached M C w → (c : Key) (p : Port) → Held M console (phaseAt M p (C .see w)) → C .call (press c) w .answer ≡ console-held
-      pub presses : (w : C .World) → Reached M C w → (c : Key) → ((p : Port) → Held M console (phaseAt M p (C .see w)) → ⊥)
+      pub held : (w : C .World) → Reached M C w → (c : Key) (p : PortName) → Held M console (phaseAt M p (C .see w)) → C .call (press c) w .answer ≡ console-held
+      pub presses : (w : C .World) → Reached M C w → (c : Key) → ((p : PortName) → Held M console (phaseAt M p (C .see w)) → ⊥)
           → let v = C .see w in
           let o = hit c (get console (v .devs)) in
           (C .call (press c) w .answer ≡ hitAnswer M o) × (C .see (C .call (press c) w .world) ≡ record { ports = v .ports; devs = hitTo M o (v .devs) })

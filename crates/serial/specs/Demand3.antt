@@ -1,8 +1,8 @@
 -- Demand 3 of any core: the run is as the serial run, and the bytes taken and given are its own. Assumes nothing.
 use mathlib.Core.Path.{_≡_}
 use mathlib.Core.List.{List, [], _∷_, _++_}
-use Rattle.serial.specs.Machine.{Port, port-0, port-1, Two, at, set, Reply, Machine}
-use Rattle.serial.specs.Core.{Phase, gathering, ready, running, replying, Runs, Quiet, phaseAt, locals, Call, take, tick, give, press, Core}
+use Rattle.serial.specs.Machine.{PortName, port-0, port-1, Two, at, set, ReplyBytes, Machine}
+use Rattle.serial.specs.Core.{Phase, gathering, ready, running, replying, Runs, Quiet, phaseAt, locals, CoreCall, take, tick, give, press, Core}
 use Rattle.serial.specs.Calls.{hitTo}
 use Rattle.serial.specs.Reading.{Spelled, Reads}
 use Rattle.serial.specs.Run.{Event, started, pressed, State, OkCalls, Begun, after, begin}
@@ -14,7 +14,7 @@ module _ (M : Machine) where
   pub record Whole : Type 0 where
     pub local : Two Local
     pub devs : Devs
-    pub made : Two (List (Reply Byte))
+    pub made : Two (List (ReplyBytes Byte))
 
   -- a request alone, "to its end as demand 2 says", or a key
   abbrev pub one : Event M → Whole → Whole
@@ -29,14 +29,14 @@ module _ (M : Machine) where
   serial (e ∷ es) y = serial es (one e y)
 
   -- the requests that a port started, in order
-  abbrev pub requestIn : Port → Event M → List Message
+  abbrev pub requestIn : PortName → Event M → List Message
   requestIn port-0 (started port-0 m) = m ∷ []
   requestIn port-0 (started port-1 m) = []
   requestIn port-1 (started port-0 m) = []
   requestIn port-1 (started port-1 m) = m ∷ []
   requestIn p (pressed c) = []
 
-  unfoldable pub requestsOf : Port → List (Event M) → List Message
+  unfoldable pub requestsOf : PortName → List (Event M) → List Message
   requestsOf p [] = []
   requestsOf p (e ∷ es) = requestIn p e ++ requestsOf p es
 
@@ -62,10 +62,10 @@ module _ (M : Machine) where
   readyIn (running g k) = []
   readyIn (replying r) = []
 
-  abbrev pub bytesOf : Reply Byte → List Byte
+  abbrev pub bytesOf : ReplyBytes Byte → List Byte
   bytesOf r = r .head ∷ r .rest
 
-  unfoldable pub bytesOfAll : List (Reply Byte) → List Byte
+  unfoldable pub bytesOfAll : List (ReplyBytes Byte) → List Byte
   bytesOfAll [] = []
   bytesOfAll (r ∷ rs) = bytesOf r ++ bytesOfAll rs
 
@@ -90,24 +90,24 @@ module _ (M : Machine) where
 
     -- "The replies made for each port, ... are those of the run in which the started requests and the taken keys go one at a time"
     abbrev pub SerialRule : Type 0
-    SerialRule = (w : C .World) → Begun M C w → (cs : List (Call M)) → OkCalls M cs
+    SerialRule = (w : C .World) → Begun M C w → (cs : List (CoreCall M)) → OkCalls M cs
         → let s = after M C cs (begin M C w) in
         Finished s → wholeOf s ≡ serial (s .seen .log) (wholeOf (begin M C w))
 
     abbrev pub TakenRule : Type 0
-    TakenRule = (w : C .World) → Begun M C w → (cs : List (Call M)) → OkCalls M cs → (p : Port)
+    TakenRule = (w : C .World) → Begun M C w → (cs : List (CoreCall M)) → OkCalls M cs → (p : PortName)
         → let s = after M C cs (begin M C w) in
         Taken (phaseAt M p (C .see (s .world))) (at p (s .seen .port) .taken) (requestsOf p (s .seen .log))
 
     -- so what a host sent decides what its port started: the taken bytes are read in one way, as its started requests and the ready one
     abbrev pub ReadRule : Type 0
-    ReadRule = (w : C .World) → Begun M C w → (cs : List (Call M)) → OkCalls M cs → (p : Port)
+    ReadRule = (w : C .World) → Begun M C w → (cs : List (CoreCall M)) → OkCalls M cs → (p : PortName)
         → let s = after M C cs (begin M C w) in
         (ms : List Message) (rest : List Byte) → Reads M ms rest (at p (s .seen .port) .taken) → ms ≡ requestsOf p (s .seen .log) ++ readyIn (phaseAt M p (C .see (s .world)))
 
     -- "the bytes given on it are those of its own replies, in order, as far as called for"
     abbrev pub GivenRule : Type 0
-    GivenRule = (w : C .World) → Begun M C w → (cs : List (Call M)) → OkCalls M cs → (p : Port)
+    GivenRule = (w : C .World) → Begun M C w → (cs : List (CoreCall M)) → OkCalls M cs → (p : PortName)
         → let s = after M C cs (begin M C w) in
         at p (s .seen .port) .given ++ left (phaseAt M p (C .see (s .world))) ≡ bytesOfAll (at p (s .seen .port) .made)
 
@@ -118,22 +118,22 @@ module _ (M : Machine) where
       pub given : GivenRule
 
     -- each of these calls is a tick of a port that runs a request then
-    abbrev pub IsMove : Call M → C .World → Type 0
+    abbrev pub IsMove : CoreCall M → C .World → Type 0
     IsMove (take p b) w = ⊥
     IsMove (tick p) w = Runs M (phaseAt M p (C .see w))
     IsMove (give p) w = ⊥
     IsMove (press c) w = ⊥
 
-    abbrev pub Moves : List (Call M) → C .World → Type 0
+    abbrev pub Moves : List (CoreCall M) → C .World → Type 0
     Moves [] w = Unit {0}
     Moves (c ∷ cs) w = IsMove c w × Moves cs (C .call c w .world)
 
     -- where some request is not finished: it can be, and however the two ports' moves are mixed, the serial result is there then
     pub record UnfinishedRule : Type 0 where
-      pub can-finish : (w : C .World) → Begun M C w → (cs : List (Call M)) → OkCalls M cs
+      pub can-finish : (w : C .World) → Begun M C w → (cs : List (CoreCall M)) → OkCalls M cs
           → let s = after M C cs (begin M C w) in
-          (ds : List (Call M)) × Moves ds (s .world) × Finished (after M C ds s)
-      pub as-serial : (w : C .World) → Begun M C w → (cs : List (Call M)) → OkCalls M cs
+          (ds : List (CoreCall M)) × Moves ds (s .world) × Finished (after M C ds s)
+      pub as-serial : (w : C .World) → Begun M C w → (cs : List (CoreCall M)) → OkCalls M cs
           → let s = after M C cs (begin M C w) in
-          (ds : List (Call M)) → Moves ds (s .world) → Finished (after M C ds s)
+          (ds : List (CoreCall M)) → Moves ds (s .world) → Finished (after M C ds s)
           → wholeOf (after M C ds s) ≡ serial (s .seen .log) (wholeOf (begin M C w))

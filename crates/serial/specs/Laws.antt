@@ -3,12 +3,12 @@ use mathlib.Core.Path.{_≡_}
 use mathlib.Core.Bool.{false}
 use mathlib.Core.Option.{some}
 use mathlib.Core.List.{List, [], _∷_, _++_}
-use Rattle.serial.specs.Machine.{Port, Two, at, set, Out, goes, ends, more, full, Machine, finish}
+use Rattle.serial.specs.Machine.{PortName, Two, at, set, Becomes, goes, ends, more, full, Machine, finish}
 
 module _ (M : Machine) where
   open Machine M using (Byte, Local, Gather, Message, none-yet, feed, Group, Devs, Dev, get, put, clash, Run, need, start, move, fuel, alone, Key, console, hit, OkByte, Gathered, Spells, Fit, OkRun)
 
-  abbrev pub OkOut : (Run → Type 0) → Out Byte Run → Type 0
+  abbrev pub OkOut : (Run → Type 0) → Becomes Byte Run → Type 0
   OkOut Ok (goes k) = Ok k
   OkOut Ok (ends r) = Unit {0}
 
@@ -28,20 +28,20 @@ module _ (M : Machine) where
     pub decides : (bs : List Byte) (m n : Message) → Spells bs m → Spells bs n → m ≡ n
     pub prefix-free : (bs cs : List Byte) (m n : Message) → Spells bs m → Spells (bs ++ cs) n → cs ≡ []
     -- a start, a move and a key keep what is not damaged
-    pub start-fit : (p : Port) (m : Message) (t : Two Local) (d : Devs) → Fit t d
+    pub start-fit : (p : PortName) (m : Message) (t : Two Local) (d : Devs) → Fit t d
         → let g = need (at p t) m in
         let s = start g m (at p t) (get g d) in
         Fit (set p (s .local) t) (put g (s .dev) d) × OkOut (λ k. OkRun g k (s .local) (s .dev)) (s .out)
-    pub move-fit : (p : Port) (g : Group) (k : Run) (t : Two Local) (d : Devs) → Fit t d → OkRun g k (at p t) (get g d)
+    pub move-fit : (p : PortName) (g : Group) (k : Run) (t : Two Local) (d : Devs) → Fit t d → OkRun g k (at p t) (get g d)
         → let s = move g k (at p t) (get g d) in
         Fit (set p (s .local) t) (put g (s .dev) d) × OkOut (λ k. OkRun g k (s .local) (s .dev)) (s .out)
     pub hit-fit : (c : Key) (x : Dev console) (t : Two Local) (d : Devs) → Fit t d → hit c (get console d) ≡ some x → Fit t (put console x d)
     -- a request alone is its start and then at most `fuel` moves, and leaves every other group's device as it was
-    pub alone-is : (p : Port) (m : Message) (t : Two Local) (d : Devs) → Fit t d
+    pub alone-is : (p : PortName) (m : Message) (t : Two Local) (d : Devs) → Fit t d
         → let g = need (at p t) m in
         let a = alone m (at p t) d in
         finish M fuel g (start g m (at p t) (get g d)) ≡ record { local = a .local; dev = get g (a .devs); out = ends (a .reply) }
-    pub alone-else : (p : Port) (m : Message) (t : Two Local) (d : Devs) → Fit t d
+    pub alone-else : (p : PortName) (m : Message) (t : Two Local) (d : Devs) → Fit t d
         → let g = need (at p t) m in
         let a = alone m (at p t) d in
         a .devs ≡ put g (get g (a .devs)) d

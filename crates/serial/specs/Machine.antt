@@ -6,10 +6,10 @@ use mathlib.Core.List.{List}
 use Prim.Native.Nat.{ℕ, zero, suc}
 
 -- "Two ports, 0 and 1."
-pub data Port : Type 0 where
-  port-0 port-1 : Port
+pub data PortName : Type 0 where
+  port-0 port-1 : PortName
 
-abbrev pub other : Port → Port
+abbrev pub other : PortName → PortName
 other port-0 = port-1
 other port-1 = port-0
 
@@ -19,35 +19,35 @@ pub record Two (X : Type 0) : Type 0 where
   pub first : X
 
 module _ {X : Type 0} where
-  abbrev pub at : Port → Two X → X
+  abbrev pub at : PortName → Two X → X
   at port-0 t = t .zeroth
   at port-1 t = t .first
 
-  abbrev pub set : Port → X → Two X → Two X
+  abbrev pub set : PortName → X → Two X → Two X
   set port-0 x t = record { zeroth = x; first = t .first }
   set port-1 x t = record { zeroth = t .zeroth; first = x }
 
 -- a reply has a byte at least
-pub record Reply (Byte : Type 0) : Type 0 where
+pub record ReplyBytes (Byte : Type 0) : Type 0 where
   pub head : Byte
   pub rest : List Byte
 
 -- after its start, or a move, a request goes on or has ended with its reply
-pub data Out (Byte Run : Type 0) : Type 0 where
-  goes : Run → Out Byte Run
-  ends : Reply Byte → Out Byte Run
+pub data Becomes (Byte Run : Type 0) : Type 0 where
+  goes : Run → Becomes Byte Run
+  ends : ReplyBytes Byte → Becomes Byte Run
 
 -- what a start or a move leaves: its port's data, its group's device, and whether it goes on
 pub record Step (Byte Run Local Device : Type 0) : Type 0 where
   pub local : Local
   pub dev : Device
-  pub out : Out Byte Run
+  pub out : Becomes Byte Run
 
 -- what a request alone leaves: its port's data, the devices, and its reply
-pub record Alone (Byte Local Devs : Type 0) : Type 0 where
+pub record AloneLeaves (Byte Local Devs : Type 0) : Type 0 where
   pub local : Local
   pub devs : Devs
-  pub reply : Reply Byte
+  pub reply : ReplyBytes Byte
 
 -- a byte taken: more are to come, or it was the message's last
 pub data Fed (Gather Message : Type 0) : Type 0 where
@@ -80,7 +80,7 @@ pub record Machine : Type 1 where
   -- "ends within 61,441 further ticks of its port"
   pub fuel : ℕ
   -- demand 2's request alone
-  pub alone : Message → Local → Devs → Alone Byte Local Devs
+  pub alone : Message → Local → Devs → AloneLeaves Byte Local Devs
   -- keys; none where the console refuses one
   pub Key : Type 0
   pub console : Group
@@ -100,7 +100,7 @@ module _ (M : Machine) where
   StepOf g = Step Byte Run Local (Dev g)
 
   -- at most n moves more
-  unfoldable pub finishOut : ℕ → (g : Group) → Out Byte Run → Local → Dev g → StepOf g
+  unfoldable pub finishOut : ℕ → (g : Group) → Becomes Byte Run → Local → Dev g → StepOf g
   finishOut zero g (goes k) l x = record { local = l; dev = x; out = goes k }
   finishOut zero g (ends r) l x = record { local = l; dev = x; out = ends r }
   finishOut (suc n) g (goes k) l x = let s = move g k l x in finishOut n g (s .out) (s .local) (s .dev)

@@ -2,7 +2,7 @@
 use mathlib.Core.Path.{_≡_}
 use mathlib.Core.Bool.{false}
 use mathlib.Core.List.{List}
-use Rattle.serial.specs.Machine.{Port, port-0, port-1, Machine}
+use Rattle.serial.specs.Machine.{PortName, port-0, port-1, Machine}
 use Rattle.serial.specs.Core.{Phase, gathering, ready, running, replying, View, phaseAt, localAt, locals, Core}
 use Rattle.serial.specs.Run.{Reached}
 
@@ -28,7 +28,7 @@ module _ (M : Machine) where
 
   pub record Undamaged (v : View M) : Type 0 where
     pub fit : Fit (locals M v) (v .devs)
-    pub phases : (p : Port) → OkPhase (phaseAt M p v) (localAt M p v) (v .devs)
+    pub phases : (p : PortName) → OkPhase (phaseAt M p v) (localAt M p v) (v .devs)
     pub apart : Apart (phaseAt M port-0 v) (phaseAt M port-1 v)
 
   abbrev pub NeverDamaged : Core M → Type 0

@@ -38,8 +38,8 @@ use Rattle.alone.specs.Left.{leftE, leftK, consoleLeft}
 use Rattle.alone.specs.Alone.{Said, call, load, fetch, aloneOpening, aloneTransfer, aloneWork, loaded, aloneErrand, alonePlan, aloneOf}
 use Rattle.alone.specs.Moves.{mostMoves}
 use Rattle.alone.specs.Alone as request
-use Rattle.serial.specs.Machine.{Port, port-0, port-1, Reply}
-use Rattle.serial.specs.Core.{Phase, gathering, ready, running, replying, Runs, View, phaseAt, localAt, Call, take, tick, give, press, done, number, Effect, Core}
+use Rattle.serial.specs.Machine.{PortName, port-0, port-1, ReplyBytes}
+use Rattle.serial.specs.Core.{Phase, gathering, ready, running, replying, Runs, View, phaseAt, localAt, CoreCall, take, tick, give, press, done, number, Effect, Core}
 use Rattle.serial.specs.Calls.{startIf, tickAct, onPort, callOf}
 use Rattle.serial.specs.Run.{OkCalls, no-call, one-more, after}
 use Rattle.serial.specs.Reading.{Spelled}
@@ -48,7 +48,7 @@ use Rattle.serial.specs.Demand2.{WaitingRule, OneCharacter, Along, Bound, Alone
 use Rattle.serial.specs.Demand3.{Whole, serial, SerialRule, requestsOf, TakenRule, GivenRule, bytesOfAll, Demand3}
 use Rattle.serial.proofs.WrongCores.{Calls, with-call, replied, atRunning, whenTicked, whenReady, whenRunning, idles, pressesThrough, neverStarts, pretends, oneLock, movesNothing, allAtOnce, firstOnly, oneBuffer, crossed, wrongHost}
 use Rattle.serial.proofs.NeverStarting.{never-starting-serial, pretending-serial}
-use Rattle.machine.specs.Spells.{Gather, nothingYet, feed, fedOf, Gathered, none-taken, tag-taken, low-taken, value-taken}
+use Rattle.machine.specs.Spells.{SoFar, nothingYet, feed, fedOf, GatheredSoFar, none-taken, tag-taken, low-taken, value-taken}
 use Rattle.machine.specs.Real.{replyBy, needBy, errandStep, planStep, moveBy, real}
 use Rattle.machine.proofs.Lawful.{lawful}
 use Rattle.machine.proofs.Plugged.{first, led, begun, ok-by, leads, says, does, loads, calls, opens}
@@ -70,27 +70,27 @@ abbrev pub printed : View real → ℕ
 printed v = v .devs .printer .used
 
 -- a port whose tick leaves all as it is stays so
-pub stays : (C : Core real) (p : Port) (w : C .World) → C .call (tick p) w .world ≡ w → (n : ℕ) → ticked real C n p w ≡ w
+pub stays : (C : Core real) (p : PortName) (w : C .World) → C .call (tick p) w .world ≡ w → (n : ℕ) → ticked real C n p w ≡ w
 unfolding ticked
 stays C p w e zero = refl
 stays C p w e (suc n) = ap (ticked real C n p) e ∙ stays C p w e n
 
 -- so does a port that replies, where a core does another thing only with others
-quiet-tick : (v : View real) (r : Reply ℕ) → phaseAt real port-0 v ≡ replying r → callOf real (tick port-0) v .world ≡ v
+quiet-tick : (v : View real) (r : ReplyBytes ℕ) → phaseAt real port-0 v ≡ replying r → callOf real (tick port-0) v .world ≡ v
 quiet-tick v r e =
     ap (λ (x : Phase real). onPort real port-0 (tickAct real x (localAt real port-0 v) (phaseAt real port-1 v) (v .devs)) v .world) e
     ∙ ap (λ (x : Phase real). record { ports = record { zeroth = record { local = localAt real port-0 v; phase = x }; first = v .ports .first }; devs = v .devs }) (sym e)
 
-module _ (f : Phase real → Port → View real → Effect real (View real)) (same : (r : Reply ℕ) (v : View real) → f (replying r) port-0 v ≡ callOf real (tick port-0) v) where
+module _ (f : Phase real → PortName → View real → Effect real (View real)) (same : (r : ReplyBytes ℕ) (v : View real) → f (replying r) port-0 v ≡ callOf real (tick port-0) v) where
   abbrev byPhase : Core real
   byPhase = with-call real (whenTicked real (λ p v. f (phaseAt real p v) p v))
 
-  replied-stays : (v : View real) (r : Reply ℕ) → phaseAt real port-0 v ≡ replying r → (n : ℕ) → ticked real byPhase n port-0 v ≡ v
+  replied-stays : (v : View real) (r : ReplyBytes ℕ) → phaseAt real port-0 v ≡ replying r → (n : ℕ) → ticked real byPhase n port-0 v ≡ v
   replied-stays v r e n =
       stays byPhase port-0 v (ap (λ (x : Phase real). f x port-0 v .world) e ∙ ap (λ (y : Effect real (View real)). y .world) (same r v) ∙ quiet-tick v r e) n
 
 -- "Never starting a request: demand 2's waiting rule"
-abbrev pub asksLoad : List (Call real)
+abbrev pub asksLoad : List (CoreCall real)
 asksLoad = says port-0 (0x11 ∷ 5 ∷ 0 ∷ 0 ∷ 0 ∷ 0x45 ∷ 0x3A ∷ 0x9B ∷ [])
 
 abbrev pub loadE : Said
@@ -118,7 +118,7 @@ opensE = call (record { iocb = 0; command = 0x03; address = 0; length = 0; aux1 
 abbrev printsTwo : List ℕ
 printsTwo = calls 0 0x0B 0 2 0
 
-abbrev bothBusy : List (Call real)
+abbrev bothBusy : List (CoreCall real)
 bothBusy = loads port-1 4 (0x45 ∷ 0x3A ∷ []) ++ says port-1 (calls 0 0x03 0 0 0x0D) ++ opens port-0 0x50 0 8 ++ does port-0 printsTwo 1 0
 
 pub one-lock-wrong : WaitingRule real (with-call real (oneLock real)) → ⊥
@@ -126,7 +126,7 @@ unfolding after feed fedOf goodField senseOf badStatus messageOf errandStep plan
 one-lock-wrong w = true≢false (sym (w .waits (led (oneLock real) bothBusy) (leads (oneLock real) bothBusy tt) port-1 opensE refl .0 refl))
 
 -- "Always refusing, or always status 1: demand 2 and cases 2, 3": every CALL is answered so
-abbrev pub answersAt : ℕ → Phase real → Port → View real → Effect real (View real)
+abbrev pub answersAt : ℕ → Phase real → PortName → View real → Effect real (View real)
 answersAt s (gathering x) p v = callOf real (tick p) v
 answersAt s (ready (call c)) p v = record { world = replied real p (replyBy (callReply s 0 (c .a))) v; answer = done }
 answersAt s (ready (load address bytes)) p v = callOf real (tick p) v
@@ -138,7 +138,7 @@ answersAt s (replying r) p v = callOf real (tick p) v
 abbrev pub alwaysStatus : ℕ → Calls real
 alwaysStatus s = whenTicked real (λ p v. answersAt s (phaseAt real p v) p v)
 
-abbrev pub case-2 : List (Call real)
+abbrev pub case-2 : List (CoreCall real)
 case-2 = loads port-0 5 (0x45 ∷ 0x3A ∷ 0x9B ∷ []) ++ says port-0 (calls 0 0x03 0 0 0x0D)
 
 pub always-refusing-wrong : AloneRule real (with-call real (alwaysStatus 0x84)) → ⊥
@@ -149,7 +149,7 @@ always-refusing-wrong a =
     let e = sym (stays (with-call real f) port-0 (f (tick port-0) w .world) refl mostMoves) ∙ a w (leads f case-2 tt) port-0 opensE refl (λ h. h) in
     let z : _≡_ {A = ℕ} 0x84 0x01 = ap status e in omega arith
 
-abbrev pub case-3 : List (Call real)
+abbrev pub case-3 : List (CoreCall real)
 case-3 = says port-0 (calls 8 0x0C 0 0 0)
 
 abbrev pub closesEight : Said
@@ -164,13 +164,13 @@ always-one-wrong a =
     let z : _≡_ {A = ℕ} 0x01 0x86 = ap status e in omega arith
 
 -- "Doing the first character and claiming the rest: areas, screen and paper of demand 2": of two characters one is printed
-abbrev pub asksPrint : List (Call real)
+abbrev pub asksPrint : List (CoreCall real)
 asksPrint = opens port-0 0x50 0 8 ++ says port-0 printsTwo
 
 abbrev pub printTwo : Said
 printTwo = call (record { iocb = 0; command = 0x0B; address = 0; length = 2; aux1 = 0; aux2 = 0; a = 0 })
 
-abbrev claimed : Port → View real → Effect real (View real)
+abbrev claimed : PortName → View real → Effect real (View real)
 claimed p v = record { world = replied real p (replyBy (callReply 0x01 2 0)) (callOf real (tick p) v .world); answer = done }
 
 abbrev pub claims : Calls real
@@ -194,7 +194,7 @@ all-at-once-wrong o =
     let z : _≡_ {A = ℕ} 2 0 = ap printed e in omega arith
 
 -- a tick that moves nothing and answers 0
-abbrev pub prints : List (Call real)
+abbrev pub prints : List (CoreCall real)
 prints = opens port-0 0x50 0 8 ++ does port-0 printsTwo 1 0
 
 abbrev pub printing : Run
@@ -208,20 +208,20 @@ moving-nothing-wrong o =
     let z : _≡_ {A = ℕ} 0 1 = ap printed e in omega arith
 
 -- "A made-up count: case 7": one more than there were
-abbrev oneMore : Phase real → Port → Effect real (View real) → Effect real (View real)
+abbrev oneMore : Phase real → PortName → Effect real (View real) → Effect real (View real)
 oneMore (gathering x) p e = e
 oneMore (ready m) p e = e
 oneMore (running g k) p e = e
 oneMore (replying r) p e = record { world = replied real p (replyBy (callReply (getD (r .rest) 2 0) (getD (r .rest) 3 0 + 1) (getD (r .rest) 5 0))) (e .world); answer = e .answer }
 
-abbrev countsUp : Port → View real → Effect real (View real)
+abbrev countsUp : PortName → View real → Effect real (View real)
 countsUp p v = let e = callOf real (tick p) v in oneMore (phaseAt real p (e .world)) p e
 
 abbrev madeUp : Calls real
 madeUp = whenRunning real countsUp
 
 -- cases 2, 6 and 7: E is opened, "AB" is put as a record, $1C is put, and the record is asked for
-abbrev case-7 : List (Call real)
+abbrev case-7 : List (CoreCall real)
 case-7 =
     opens port-0 0x45 0 0x0D ++ loads port-0 5 (0x41 ∷ 0x42 ∷ 0x1C ∷ [])
     ++ does port-0 (calls 0 0x09 0 2 0) 4 7 ++ does port-0 (calls 0 0x0B 2 1 0) 2 7 ++ says port-0 (calls 0 0x05 32 10 0)
@@ -239,22 +239,22 @@ made-up-wrong a =
     let z : _≡_ {A = ℕ} 4 3 = ap count e in omega arith
 
 -- "Mixing two ports' bytes on the way in or out: the last sentence of demand 3"
-nothing-gathered : (bs : List ℕ) (x : Gather) → x .numbers .taken ≡ 0 → Gathered bs x → bs ≡ []
+nothing-gathered : (bs : List ℕ) (x : SoFar) → x .numbers .taken ≡ 0 → GatheredSoFar bs x → bs ≡ []
 nothing-gathered bs x z (none-taken e q) = e
-nothing-gathered bs x z (tag-taken tag e q) = let y : _≡_ {A = ℕ} 1 0 = sym (ap (λ (g : Gather). g .numbers .taken) q) ∙ z in absurd (omega (arith, y))
-nothing-gathered bs x z (low-taken tag low a e q) = let y : _≡_ {A = ℕ} 2 0 = sym (ap (λ (g : Gather). g .numbers .taken) q) ∙ z in absurd (omega (arith, y))
-nothing-gathered bs x z (value-taken tag low high value a b e l q) = let y : 3 + length value ≡ 0 = sym (ap (λ (g : Gather). g .numbers .taken) q) ∙ z in absurd (omega (arith, y))
+nothing-gathered bs x z (tag-taken tag e q) = let y : _≡_ {A = ℕ} 1 0 = sym (ap (λ (g : SoFar). g .numbers .taken) q) ∙ z in absurd (omega (arith, y))
+nothing-gathered bs x z (low-taken tag low a e q) = let y : _≡_ {A = ℕ} 2 0 = sym (ap (λ (g : SoFar). g .numbers .taken) q) ∙ z in absurd (omega (arith, y))
+nothing-gathered bs x z (value-taken tag low high value a b e l q) = let y : 3 + length value ≡ 0 = sym (ap (λ (g : SoFar). g .numbers .taken) q) ∙ z in absurd (omega (arith, y))
 
 pub mixed-in-wrong : TakenRule real (with-call real (oneBuffer real)) → ⊥
 unfolding after requestsOf Spelled feed goodField
 mixed-in-wrong r =
-    let cs : List (Call real) = take port-1 0x11 ∷ [] in
+    let cs : List (CoreCall real) = take port-1 0x11 ∷ [] in
     let t = r first (begun (oneBuffer real)) cs (ok-by cs tt) port-1 in
     let e : _≡_ {A = List ℕ} (0x11 ∷ []) [] = t .all ∙ ap (λ (z : List ℕ). z ++ t .behind) (t .spelled) ∙ nothing-gathered (t .behind) nothingYet refl (t .still) in
     let z : _≡_ {A = ℕ} 1 0 = ap length e in omega arith
 
 -- port 0's LOAD is done, and port 1 is asked for a byte
-abbrev givenAcross : List (Call real)
+abbrev givenAcross : List (CoreCall real)
 givenAcross = asksLoad ++ (tick port-0 ∷ give port-1 ∷ [])
 
 pub mixed-out-wrong : GivenRule real (with-call real (crossed real)) → ⊥
@@ -278,7 +278,7 @@ idling-wrong d =
     let z : _≡_ {A = ℕ} 4 0 = ap (number real) e in omega arith
 
 -- "Freeing a group before its last character": a ready port starts while the other still holds the group it needs
-abbrev startsAt : Phase real → Port → View real → Effect real (View real)
+abbrev startsAt : Phase real → PortName → View real → Effect real (View real)
 startsAt (gathering x) p v = callOf real (tick p) v
 startsAt (ready m) p v =
     let l = localAt real p v in
@@ -290,7 +290,7 @@ startsAt (replying r) p v = callOf real (tick p) v
 abbrev neverWaits : Calls real
 neverWaits = whenReady real (λ p v. startsAt (phaseAt real p v) p v)
 
-abbrev bothPrint : List (Call real)
+abbrev bothPrint : List (CoreCall real)
 bothPrint = opens port-0 0x50 0 8 ++ opens port-1 0x50 0 8 ++ does port-0 printsTwo 1 0 ++ says port-1 printsTwo
 
 pub never-waiting-wrong : WaitingRule real (with-call real neverWaits) → ⊥
@@ -300,10 +300,10 @@ never-waiting-wrong w =
     let z : _≡_ {A = ℕ} 0 8 = ap (number real) e in omega arith
 
 -- a key that is taken while a request holds the console: the serial run
-abbrev readsLate : List (Call real)
+abbrev readsLate : List (CoreCall real)
 readsLate = opens port-0 0x4B 0 4 ++ does port-0 (calls 0 0x07 0 0 0) 1 0 ++ (press 0x3F ∷ tick port-0 ∷ [])
 
-abbrev statuses : List (Reply ℕ) → ℕ
+abbrev statuses : List (ReplyBytes ℕ) → ℕ
 statuses [] = 0
 statuses (r ∷ []) = getD (r .rest) 2 0
 statuses (r ∷ q ∷ rs) = statuses (q ∷ rs)
@@ -340,6 +340,6 @@ never-ending-wrong b =
     let f = movesNothing real in
     let w = led f prints in
     let e : phaseAt real port-0 w ≡ running groups.Printer printing = refl in
-    let cs : List (Call real) = replicate mostMoves (tick port-0) in
+    let cs : List (CoreCall real) = replicate mostMoves (tick port-0) in
     let z = b w (leads f prints tt) port-0 cs (ok-ticks mostMoves) (along-still w (running-still w groups.Printer printing e) (runs-still w groups.Printer printing e) mostMoves) in
     let y = so-many mostMoves in omega (arith, y)

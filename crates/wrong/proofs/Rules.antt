@@ -38,7 +38,7 @@ use Rattle.alone.specs.Alone.{Said, call, load, fetch, aloneOpening, aloneTrans
 use Rattle.alone.specs.Moves.{mostMoves}
 use Rattle.alone.specs.Alone as request
 use Rattle.serial.specs.Machine.{port-0, port-1, finishOut}
-use Rattle.serial.specs.Core.{Phase, gathering, ready, running, replying, Quiet, View, phaseAt, localAt, Call, take, tick, give, press, done, number, Effect, Core}
+use Rattle.serial.specs.Core.{Phase, gathering, ready, running, replying, Quiet, View, phaseAt, localAt, CoreCall, take, tick, give, press, done, number, Effect, Core}
 use Rattle.serial.specs.Calls.{startIf, tickAct, onPort, callOf}
 use Rattle.serial.specs.Run.{OkCalls, no-call, one-more, after}
 use Rattle.serial.specs.Reading.{Spelled, Reads}
@@ -104,7 +104,7 @@ phaseNumber (running g k) = 2
 phaseNumber (replying r) = 3
 
 -- A is to be printed
-abbrev asksPrintA : List (Call real)
+abbrev asksPrintA : List (CoreCall real)
 asksPrintA = opens port-0 0x50 0 8 ++ says port-0 (calls 0 0x0B 0 0 0)
 
 abbrev printA : Said
@@ -134,7 +134,7 @@ never-stopping-wrong r =
     let f = movesNothing real in
     let w = led f prints in
     let e : phaseAt real port-0 w ≡ running groups.Printer printing = refl in
-    let cs : List (Call real) = replicate mostMoves (tick port-0) in
+    let cs : List (CoreCall real) = replicate mostMoves (tick port-0) in
     still-runs w (not-quiet w groups.Printer printing e) (runs-still w groups.Printer printing e) mostMoves
     (r w (leads f prints tt) port-0 cs (ok-ticks mostMoves) (omega (arith, so-many mostMoves)))
 
