@@ -22,14 +22,16 @@ enum {
 enum { R = FIXLOMAND_AUX1_READ, W = FIXLOMAND_AUX1_WRITE, FORCED = FIXLOMAND_AUX1_FORCED };
 enum { SUCCESS = FIXLOMAND_STATUS_SUCCESS, REPLY_LEN = FIXLOMAND_ROOM_LEN };
 /* where the specifications are in each port's area; buffers may lie over them once the blocks are open */
-enum { AT_E = 0, AT_S = 2, AT_K = 4, AT_P = 6 };
-/* the blocks: port 0 has E, S and K open, port 1 P */
-enum { BLOCK_E = 0, BLOCK_S = 1, BLOCK_K = 2, BLOCK_P = 0 };
+enum { AT_E = 0, AT_S = 2, AT_K = 4, AT_P = 6, AT_C = 8 };
+/* the blocks: port 0 has E, S and K open, port 1 P and C */
+enum { BLOCK_E = 0, BLOCK_S = 1, BLOCK_K = 2, BLOCK_P = 0, BLOCK_C = 1 };
+/* a tape's records, the bytes of each and its characters */
+enum { RECORDS = 250, RECORD_LEN = FIXLOMAND_TAPE_LEN / RECORDS, CHARACTERS = FIXLOMAND_PENDING_LEN };
 
 static uint8_t state[FIXLOMAND_STATE_LEN], area[FIXLOMAND_AREA_LEN];
-static uint8_t screen[FIXLOMAND_SCREEN_LEN], paper[FIXLOMAND_PAPER_LEN];
+static uint8_t screen[FIXLOMAND_SCREEN_LEN], paper[FIXLOMAND_PAPER_LEN], tape[FIXLOMAND_TAPE_LEN];
 
-#define LENT state, sizeof state, area, sizeof area, screen, sizeof screen, paper, sizeof paper
+#define LENT state, sizeof state, area, sizeof area, screen, sizeof screen, paper, sizeof paper, tape, sizeof tape
 
 static void want(int right, const char *what)
 {
@@ -111,8 +113,8 @@ static unsigned long call(uint8_t port, unsigned block, unsigned command, unsign
 
 static void specifications(void)
 {
-    memcpy(area, "E:S:K:P:", 8);
-    memcpy(area + FIXLOMAND_PORT_AREA_LEN, "E:S:K:P:", 8);
+    memcpy(area, "E:S:K:P:C:", 10);
+    memcpy(area + FIXLOMAND_PORT_AREA_LEN, "E:S:K:P:C:", 10);
 }
 
 static void open_screen(unsigned mode)
@@ -120,6 +122,29 @@ static void open_screen(unsigned mode)
     specifications();
     call(0, BLOCK_S, CLOSE, 0, 0, 0, 0, SUCCESS);
     call(0, BLOCK_S, OPEN, AT_S, 0, R | W, mode, SUCCESS);
+}
+
+/* A tape of full records, each character an A. No message makes one without an end. */
+static void fill_tape(void)
+{
+    unsigned sum = 0;
+    memset(tape, 'A', sizeof tape);
+    for (uint8_t *record = tape; record < tape + sizeof tape; record += RECORD_LEN) {
+        record[0] = record[1] = 0x55;
+        record[2] = 0xFC;
+    }
+    for (unsigned i = 0; i < RECORD_LEN - 1; i++)
+        sum += tape[i];
+    for (uint8_t *record = tape; record < tape + sizeof tape; record += RECORD_LEN)
+        record[RECORD_LEN - 1] = (uint8_t)((sum - 1) % 255 + 1);
+}
+
+static void open_tape(unsigned aux1)
+{
+    specifications();
+    call(1, BLOCK_C, CLOSE, 0, 0, 0, 0, SUCCESS);
+    fill_tape();
+    call(1, BLOCK_C, OPEN, AT_C, 0, aux1, 0, SUCCESS);
 }
 
 static void start(void)
@@ -131,8 +156,8 @@ static void start(void)
     call(1, BLOCK_P, OPEN, AT_P, 0, W, 0, SUCCESS);
 }
 
-/* A new paper, and the cursor home: no message does either alone, so the state is written between two calls, by its
- * layout. */
+/* A new paper, the cursor home, and a tape at its beginning: no message does one of them alone, so the state is written
+ * between two calls, by its layout. */
 static void new_paper(void)
 {
     state[FIXLOMAND_USED] = state[FIXLOMAND_USED + 1] = 0;
@@ -141,6 +166,11 @@ static void new_paper(void)
 static void home(void)
 {
     state[FIXLOMAND_ROW] = state[FIXLOMAND_COLUMN] = state[FIXLOMAND_COLUMN + 1] = 0;
+}
+
+static void rewind_tape(void)
+{
+    state[FIXLOMAND_RECORD] = state[FIXLOMAND_PLACE] = 0;
 }
 
 /* ---- calls a second ---- */
@@ -241,6 +271,27 @@ static unsigned long put_printer(void)
     return 12 + call(1, BLOCK_P, PUT_CHARACTERS, 0, length_now, 0, 0, SUCCESS) + 8;
 }
 
+static unsigned long put_tape(void)
+{
+    rewind_tape();
+    return 12 + call(1, BLOCK_C, PUT_CHARACTERS, 0, length_now, 0, 0, SUCCESS) + 8;
+}
+
+static unsigned long get_tape(void)
+{
+    rewind_tape();
+    return 12 + call(1, BLOCK_C, GET_CHARACTERS, 0, length_now, 0, 0, SUCCESS) + 8;
+}
+
+static unsigned long record_tape(void)
+{
+    unsigned long ticks;
+    rewind_tape();
+    ticks = call(1, BLOCK_C, GET_RECORD, 64, 1, 0, 0, FIXLOMAND_STATUS_END_OF_FILE);
+    want(ticks == RECORDS * CHARACTERS + 2, "GET RECORD of a tape (32,001 ticks after its start)");
+    return 12 + ticks + 8;
+}
+
 static unsigned long record_screen(void)
 {
     unsigned long ticks;
@@ -304,6 +355,14 @@ static void prepare(unsigned mode, unsigned length)
     length_now = length;
 }
 
+static void prepare_tape(unsigned aux1, unsigned length)
+{
+    start();
+    open_tape(aux1);
+    memset(area, 'A', sizeof area);
+    length_now = length;
+}
+
 static void say_kinds(void)
 {
     printf("%-48s%12s%16s\n", "kind of call", "ns a call", "calls a second");
@@ -335,16 +394,23 @@ static void say_requests(void)
     say_request("GET RECORD of a mode 8 screen, 61,441 ticks", record_screen);
     prepare(0, 4096);
     say_request("PUT CHARACTERS of 4,096 to P", put_printer);
+    prepare_tape(W, 16384);
+    say_request("PUT CHARACTERS of 16,384 to C", put_tape);
+    prepare_tape(R, 16384);
+    say_request("GET CHARACTERS of 16,384 from C", get_tape);
+    prepare_tape(R, 1);
+    say_request("GET RECORD of a tape, 32,001 ticks", record_tape);
     prepare(8, 0);
     say_request("CLOSE of S and OPEN in mode 8", open_once);
 }
 
-/* ns a tick for requests of four lengths, the longest last. */
-static void say_growth(const char *what, unsigned mode, unsigned longest, unsigned long (*work)(void))
+/* ns a tick for requests of four lengths, the longest last. The first number is what is prepared: the mode, or AUX1. */
+static void say_growth(const char *what, void (*prepared)(unsigned, unsigned), unsigned with, unsigned longest,
+                       unsigned long (*work)(void))
 {
     printf("%-36s", what);
     for (unsigned length = longest / 64; length <= longest; length *= 4) {
-        prepare(mode, length);
+        prepared(with, length);
         printf("%8u:%8.1f", length, measure(work, TICK) * 1e9);
         fflush(stdout);
     }
@@ -354,10 +420,12 @@ static void say_growth(const char *what, unsigned mode, unsigned longest, unsign
 static void say_lengths(void)
 {
     printf("\nns a tick, by the request's length: it does not grow with it\n");
-    say_growth("PUT CHARACTERS to S, mode 8", 8, 16384, put_screen);
-    say_growth("PUT CHARACTERS to E, scrolling", 0, 16384, put_editor);
-    say_growth("GET CHARACTERS from E", 0, 16384, get_editor);
-    say_growth("PUT CHARACTERS to P", 0, 4096, put_printer);
+    say_growth("PUT CHARACTERS to S, mode 8", prepare, 8, 16384, put_screen);
+    say_growth("PUT CHARACTERS to E, scrolling", prepare, 0, 16384, put_editor);
+    say_growth("GET CHARACTERS from E", prepare, 0, 16384, get_editor);
+    say_growth("PUT CHARACTERS to P", prepare, 0, 4096, put_printer);
+    say_growth("PUT CHARACTERS to C", prepare_tape, W, 16384, put_tape);
+    say_growth("GET CHARACTERS from C", prepare_tape, R, 16384, get_tape);
 }
 
 /* ---- stack ---- */
@@ -481,6 +549,12 @@ static void say_stack(void)
     say_depth("tick, GET from K, the character", work_tick0);
     receive(0);
     say_call("PUT to P", 1, BLOCK_P, PUT_CHARACTERS, 2, 0, 0);
+    open_tape(R);
+    say_call("GET from C", 1, BLOCK_C, GET_CHARACTERS, 2, 0, 0);
+    open_tape(W);
+    state[FIXLOMAND_PLACE] = CHARACTERS - 1; /* the next one makes a full record */
+    say_call("PUT to C, a full record", 1, BLOCK_C, PUT_CHARACTERS, 2, 0, 0);
+    say_call("CLOSE of C, two records", 1, BLOCK_C, CLOSE, 0, 0, 0);
     specifications();
     say_call("OPEN of S, mode 8", 0, BLOCK_S, OPEN, 0, R | W, 8);
     say_call("PUT to S", 0, BLOCK_S, PUT_CHARACTERS, 2, 0, 0);

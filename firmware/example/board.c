@@ -6,12 +6,12 @@
 
 enum { PORTS = FIXLOMAND_PORTS };
 
-/* In memory that starts as zeros. The fresh start below needs not even that. */
+/* In memory that starts as zeros. The fresh start below needs not even that; but it leaves the tape as it is. */
 struct board board;
 
 #define LENT                                                                                                           \
     board.state, sizeof board.state, board.area, sizeof board.area, board.screen, sizeof board.screen, board.paper,   \
-        sizeof board.paper
+        sizeof board.paper, board.tape, sizeof board.tape
 
 /* ---- when something is wrong ---- */
 

@@ -5,12 +5,21 @@
 
 #include "fixlomand.h"
 
-/* What the core is lent. The display and the printer read their parts of it between two calls; they write nothing. */
+/* What the core is lent. The display and the printer read their parts of it between two calls; they write nothing.
+ *
+ * The tape is as good as the memory that it stands in. A board that keeps it over a power-down has a copy where that does
+ * not reach, as in flash, and reads it into board.tape before the first call (in board_begin): a fresh start leaves the
+ * tape. Later, when there is nothing else to do (in board_idle), it compares a record after the other with the copy and
+ * writes those that differ, while board.state[FIXLOMAND_MARK] is not FIXLOMAND_TAPE_WRITING: until the host's CLOSE the
+ * tape has no end. The mark alone does not tell that there is something new: a request that opens and closes the tape in
+ * one tick writes an end too. Another cassette is put in, by writing board.tape between two calls, while the mark is
+ * FIXLOMAND_TAPE_CLOSED. A tape of zeros, as here, reads as bad until a host has written it. */
 struct board {
     uint8_t state[FIXLOMAND_STATE_LEN];
     uint8_t area[FIXLOMAND_AREA_LEN];
     uint8_t screen[FIXLOMAND_SCREEN_LEN];
     uint8_t paper[FIXLOMAND_PAPER_LEN];
+    uint8_t tape[FIXLOMAND_TAPE_LEN];
 };
 
 extern struct board board;

@@ -1,11 +1,11 @@
 /* fixlomand.h: the core of the Fixlomand stick, for the firmware of a board.
  *
  * The stick has two plugs, port 0 and port 1. At each a host sends messages and reads replies, byte by byte; the core
- * does what they ask with an area of memory for each port, and with a screen, a keyboard and a printer that both ports
- * share. The core is a library of six functions. It has no memory of its own, starts no thread, waits for nothing and
- * calls no function of your firmware, which lends it four buffers in every call, moves the bytes of the two links, scans
- * the keys and shows the screen and the paper. What the bytes of the links mean is in docs/HOSTS.md; the firmware need
- * not know it.
+ * does what they ask with an area of memory for each port, and with a screen, a keyboard, a printer and a cassette that
+ * both ports share. The core is a library of six functions. It has no memory of its own, starts no thread, waits for
+ * nothing and calls no function of your firmware, which lends it five buffers in every call, moves the bytes of the two
+ * links, scans the keys, shows the screen and the paper and keeps the tape. What the bytes of the links mean is in
+ * docs/HOSTS.md; the firmware need not know it.
  *
  * The answers, and every byte that a call leaves, are proved for every value of every argument; what is said of whole
  * requests is proved for calls after a fresh start; as long as the last section holds, "What the core cannot test". Times
@@ -34,13 +34,13 @@ extern "C" {
 
 /* The version of this header, and of the library that it was installed with; as a number it is 10,000 times the first
  * part, plus 100 times the second, plus the third. */
-#define FIXLOMAND_VERSION "1.0.0"
-#define FIXLOMAND_VERSION_NUMBER 10000
+#define FIXLOMAND_VERSION "2.0.0"
+#define FIXLOMAND_VERSION_NUMBER 20000
 
 /* ---- What you lend -------------------------------------------------------------------------------------------------
  *
- * Four buffers, the same ones in every call, with exactly these lengths. None needs an alignment. They stay yours: the
- * core keeps no pointer after it has returned. Several sticks, each with its own four buffers, are independent.
+ * Five buffers, the same ones in every call, with exactly these lengths. None needs an alignment. They stay yours: the
+ * core keeps no pointer after it has returned. Several sticks, each with its own five buffers, are independent.
  *
  *   state    what the core remembers between two calls. Its layout is at the end of this header; most firmware never
  *            looks into it.
@@ -52,11 +52,20 @@ extern "C" {
  *            not shown. You may read it between two calls, to show it; only a tick and a fresh start change it.
  *   paper    what was printed; FIXLOMAND_USED in the state says how many of its bytes. You may read it likewise. It
  *            only fills: at 4,096 the hosts are told that it is full, and only a fresh start empties it.
+ *   tape     250 records of 132 bytes: $55, $55, a control byte ($FC full, $FA partial, $FE end of file), 128 bytes of
+ *            data (of a partial record the last is the number of its characters), and a checksum: the sum of the 131
+ *            bytes before it, each carry out of eight bits added back. Any bytes are a tape: a record that is none is
+ *            told to the host that reads it. A tick that writes a record writes it whole; characters that do not fill
+ *            one yet are in the state. Only a tick changes the tape, and no fresh start: what you lend then is the tape
+ *            that is in. You may read it between two calls, to keep it where a power-down does not reach; while
+ *            FIXLOMAND_MARK in the state is FIXLOMAND_TAPE_WRITING it has no end yet. While the mark is
+ *            FIXLOMAND_TAPE_CLOSED no block of either port has it open, and you may put in another between two calls.
  */
-#define FIXLOMAND_STATE_LEN 602
+#define FIXLOMAND_STATE_LEN 733
 #define FIXLOMAND_AREA_LEN 32768
 #define FIXLOMAND_SCREEN_LEN 61440
 #define FIXLOMAND_PAPER_LEN 4096
+#define FIXLOMAND_TAPE_LEN 33000
 
 enum { FIXLOMAND_PORTS = 2, FIXLOMAND_PORT_AREA_LEN = 16384 };
 
@@ -119,22 +128,23 @@ enum {
  * that it sends when it is back are taken as the rest of that message (docs/HOSTS.md says how a host finds its place).
  *
  * Of the state a take changes the port's first 11 bytes and its room, a give these 11 bytes, a press the key code, a
- * tick the port's 35 bytes and room, and the console or the printer; a tick also the port's own half of the area, and
- * screen or paper.
+ * tick the port's 35 bytes and room, and the console, the printer or the cassette; a tick also the port's own half of the
+ * area, and screen, paper or tape.
  *
  * FIXLOMAND_BAD_LENGTH and FIXLOMAND_BAD_PORT tell of a mistake in the firmware, FIXLOMAND_DAMAGED of memory that lost
  * what it held, as in a brown-out: make a fresh start, drop the bytes and keys that you hold, and reset both links (on
- * USB: detach and attach), so that the hosts know. The test sees the state alone: area, screen and paper may be lost
- * without it. So after a reset that the hardware reports as a brown-out make a fresh start without asking. A forgotten
- * fresh start is found: a state of zeros is damaged.
+ * USB: detach and attach), so that the hosts know. The test sees the state alone: area, screen, paper and tape may be
+ * lost without it. So after a reset that the hardware reports as a brown-out make a fresh start without asking. A
+ * forgotten fresh start is found: a state of zeros is damaged.
  */
 #define FIXLOMAND_LENT                                                                                                 \
     uint8_t *state, size_t state_len, uint8_t *area, size_t area_len, uint8_t *screen, size_t screen_len,             \
-        uint8_t *paper, size_t paper_len
+        uint8_t *paper, size_t paper_len, uint8_t *tape, size_t tape_len
 
 /* Fresh start. Answers 0 or 2 only: what the state held before does not matter. Writes every byte of the state and the
- * area (both areas are zero then) and of the screen (960 cells $20, the rest zero), and none of the paper. The state is
- * then all zero but cursor column 2, read column and key code 255, and lock 1 (shift). */
+ * area (both areas are zero then) and of the screen (960 cells $20, the rest zero), and none of the paper and the tape:
+ * characters that were pending for it are lost. The state is then all zero but cursor column 2, read column and key code
+ * 255, and lock 1 (shift). */
 uint8_t fixlomand_fresh(FIXLOMAND_LENT);
 
 /* Takes a byte that the port's host sent. Answers 0, 1, 2, 3 or 4. */
@@ -227,17 +237,18 @@ enum {
 /* From $80 on a status is a refusal. */
 enum {
     FIXLOMAND_STATUS_SUCCESS = 0x01,
-    FIXLOMAND_STATUS_ALREADY_OPEN = 0x81,         /* OPEN on an open block */
+    FIXLOMAND_STATUS_ALREADY_OPEN = 0x81,         /* OPEN on an open block, or of C while any block has it open */
     FIXLOMAND_STATUS_UNKNOWN_DEVICE = 0x82,       /* or malformed specification */
     FIXLOMAND_STATUS_NOT_READABLE = 0x83,         /* reading without R */
     FIXLOMAND_STATUS_BAD_COMMAND = 0x84,          /* SPECIAL, AUX1 not offered, FETCH count, field length too */
     FIXLOMAND_STATUS_NOT_OPEN = 0x85,             /* transfer on a closed block */
     FIXLOMAND_STATUS_BAD_IOCB = 0x86,             /* control block above 7 */
     FIXLOMAND_STATUS_NOT_WRITABLE = 0x87,         /* writing without W */
-    FIXLOMAND_STATUS_END_OF_FILE = 0x88,          /* from K: no key pressed, or one that is no character */
+    FIXLOMAND_STATUS_END_OF_FILE = 0x88,          /* from K: no key, or one that is no character; from C: the end */
     FIXLOMAND_STATUS_RECORD_CUT = 0x89,           /* the buffer was full before the EOL */
     FIXLOMAND_STATUS_CURSOR_PAST_LAST_ROW = 0x8D, /* of S */
-    FIXLOMAND_STATUS_PAPER_FULL = 0x90,
+    FIXLOMAND_STATUS_CHECKSUM = 0x8F,             /* from C: a bad record; its checksum, control byte or count */
+    FIXLOMAND_STATUS_PAPER_FULL = 0x90,           /* or, of C, the tape: 249 full records are written */
     FIXLOMAND_STATUS_SCREEN_MODE = 0x91,          /* no mode of S, split screen, or the editor has the screen */
     FIXLOMAND_STATUS_UNKNOWN_TAG = 0x92,
     FIXLOMAND_STATUS_PAST_AREA = 0xB0             /* buffer or specification past the area */
@@ -250,8 +261,9 @@ enum {
  *     35      35    port 1
  *     70      10    the console: screen, editor and keyboard
  *     80       2    the printer
- *     82     260    port 0's room
- *    342     260    port 1's room
+ *     82     131    the cassette
+ *    213     260    port 0's room
+ *    473     260    port 1's room
  *
  * A port's 35 bytes, from its own offset:
  *
@@ -266,7 +278,7 @@ enum {
  *                                  4 to 10 are 0
  *                     running      1 kind: 0 GET of one character, 1 GET CHARACTERS, 2 GET RECORD,
  *                                          3 PUT of one character, 4 PUT CHARACTERS, 5 PUT RECORD
- *                                  2 device: 1 E, 2 S, 3 K, 4 P
+ *                                  2 device: 1 E, 2 S, 3 K, 4 P, 5 C
  *                                  3 control block, 0 to 7
  *                                  4 left (2): characters still to store or take, 0 to 16,384
  *                                  6 place (2): address of the next one, 0 to 16,384; of one character any number
@@ -276,7 +288,7 @@ enum {
  *                                  3 given (2): bytes given so far, 0 to 259
  *                                  5 to 10 are 0
  *     11      24    eight control blocks of three bytes:
- *                     0 device: 0 closed, 1 E (editor), 2 S (graphics), 3 K (keyboard), 4 P (printer)
+ *                     0 device: 0 closed, 1 E (editor), 2 S (graphics), 3 K (keyboard), 4 P (printer), 5 C (cassette)
  *                     1 number: 1 to 8; of a closed block 0
  *                     2 AUX1: 0 to 255; of a closed block 0
  *
@@ -296,7 +308,17 @@ enum {
  *
  * The printer's two bytes at 80 are the paper's used length, 0 to 4,096.
  *
- * A room has the value of the message that its port gathers, or its reply: any bytes. So the rooms are never damaged.
+ * The cassette's, from offset 82:
+ *
+ *      0       1    mark, how the tape is open: 0 closed, 1 reading, 2 writing, 3 with neither
+ *      1       1    record, that of the next character: reading 0 to 250 (then the tape has run out), writing 0 to 249
+ *                   (then it is full), else 0
+ *      2       1    place: reading that of the next character in its record, writing the number of pending characters;
+ *                   0 to 127, but writing at record 249 only 0; else 0
+ *      3     128    the pending characters from the first on, any bytes; the others mean nothing, and may be any too
+ *
+ * A room has the value of the message that its port gathers, or its reply: any bytes. So the rooms are never damaged, and
+ * neither are the pending characters.
  */
 enum {
     FIXLOMAND_PORT_LEN = 35, /* port 1 begins here */
@@ -317,13 +339,25 @@ enum {
     FIXLOMAND_LOCK = 78,
     FIXLOMAND_INVERSE = 79,
     FIXLOMAND_USED = 80,
+    FIXLOMAND_CASSETTE = 82,
+    FIXLOMAND_MARK = 82,
+    FIXLOMAND_RECORD = 83,
+    FIXLOMAND_PLACE = 84,
+    FIXLOMAND_PENDING = 85,
+    FIXLOMAND_PENDING_LEN = 128,
 
-    FIXLOMAND_ROOMS = 82, /* port 0's room, then port 1's */
+    FIXLOMAND_ROOMS = 213, /* port 0's room, then port 1's */
     FIXLOMAND_ROOM_LEN = 260
 };
 
 enum { FIXLOMAND_GATHERING = 0, FIXLOMAND_READY = 1, FIXLOMAND_RUNNING = 2, FIXLOMAND_REPLYING = 3 };
-enum { FIXLOMAND_CLOSED = 0, FIXLOMAND_E = 1, FIXLOMAND_S = 2, FIXLOMAND_K = 3, FIXLOMAND_P = 4 };
+enum { FIXLOMAND_CLOSED = 0, FIXLOMAND_E = 1, FIXLOMAND_S = 2, FIXLOMAND_K = 3, FIXLOMAND_P = 4, FIXLOMAND_C = 5 };
+enum {
+    FIXLOMAND_TAPE_CLOSED = 0,
+    FIXLOMAND_TAPE_READING = 1,
+    FIXLOMAND_TAPE_WRITING = 2,
+    FIXLOMAND_TAPE_NEITHER = 3
+};
 enum { FIXLOMAND_NO_COLUMN = 255, FIXLOMAND_NO_KEY = 255 };
 
 /* ---- Damage --------------------------------------------------------------------------------------------------------
@@ -332,20 +366,22 @@ enum { FIXLOMAND_NO_COLUMN = 255, FIXLOMAND_NO_KEY = 255 };
  * damaged if a byte or number is outside its range above, or if one of these holds:
  *
  * - An open block is one that no OPEN makes. In AUX1, 4 is R (reading), 8 is W (writing). K is never open with W, P never
- *   with R; E with R always has 1 (forced read), and S never has 16 (split screen).
+ *   with R, C never with both; E with R always has 1 (forced read), and S never has 16 (split screen).
+ * - The blocks and the cassette's mark are at odds. Where it is 0 no block has C open. Where it is not, one block of the
+ *   two ports has, and no second one: with R for 1, with W for 2, with neither for 3.
  * - A port gathers as many bytes as its message has, or more: taken is 3 + length or more, and 3 at least. Or a number of
  *   the header is there that is not taken yet: taken is 0 and tag or length is not 0; or it is 1 and length is not 0; or
  *   it is 2 and length is above 255.
  * - A port replies, and given is not below length.
  * - A running request does not fit
  *     its block: that is open, on the request's device, with R for a GET and W for a PUT;
- *     the mode: E runs in mode 0 alone, S in every other mode, K and P in any;
+ *     the mode: E runs in mode 0 alone, S in every other mode, K, P and C in any;
  *     its buffer: of one character left and count are 0. Otherwise place + left is at most 16,384 and count at most
  *     place; of CHARACTERS left is not 0; of a RECORD left and count are not both 0.
- * - Both ports run requests at one group. E, S and K are one group, the console; P is the other.
+ * - Both ports run requests at one group. E, S and K are one group, the console; P is the second, C the third.
  *
- * So two states that are not answered 3 and differ in some byte before the rooms are two different sticks. Cells, paper,
- * area and rooms are never damaged: all their values are in range.
+ * So two states that are not answered 3 and differ in some byte before the pending characters are two different sticks.
+ * Cells, paper, tape, area, pending characters and rooms are never damaged: all their values are in range.
  *
  * Every state that the calls leave after a fresh start passes the test. Some others pass too, such as a graphics cursor
  * below the last row in a column other than 0, and the core works on with them. It is no checksum: a damaged byte may
@@ -354,12 +390,13 @@ enum { FIXLOMAND_NO_COLUMN = 255, FIXLOMAND_NO_KEY = 255 };
  * ---- What the core cannot test -------------------------------------------------------------------------------------
  *
  * - Each pointer is good for reading and writing as many bytes as its length says. (With length 0 it may be NULL.)
- * - The four buffers do not overlap, and none overlaps the core's own code, or the stack below the caller's frame, which
+ * - The five buffers do not overlap, and none overlaps the core's own code, or the stack below the caller's frame, which
  *   the call uses (firmware/measure prints how much). Nothing writes into that stack during the call.
  * - Nobody else writes them during a call; no interrupt and no other thread calls the core with them meanwhile. Who reads
  *   them during a call, as a display's DMA, may see half a change.
- * - Between two calls nobody writes them either. If somebody does, the core still answers, and still reads and writes
- *   nothing outside them; but then it works on with what it finds, and what it finds may be another host's bytes.
+ * - Between two calls nobody writes them either, but for a tape that is not open. If somebody does, the core still
+ *   answers, and still reads and writes nothing outside them; but then it works on with what it finds, and what it finds
+ *   may be another host's bytes.
  */
 
 #ifdef __cplusplus

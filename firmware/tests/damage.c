@@ -27,7 +27,7 @@ static int unused(const uint8_t *port, unsigned from)
 static const char *block_damage(const uint8_t *block)
 {
     uint8_t device = block[0], number_of = block[1], aux1 = block[2];
-    if (device > FIXLOMAND_P)
+    if (device > FIXLOMAND_C)
         return "a block's device";
     if (device == FIXLOMAND_CLOSED)
         return number_of != 0 || aux1 != 0 ? "a closed block with numbers" : NULL;
@@ -41,6 +41,8 @@ static const char *block_damage(const uint8_t *block)
         return "K with W";
     if (device == FIXLOMAND_P && (aux1 & R) != 0)
         return "P with R";
+    if (device == FIXLOMAND_C && (aux1 & R) != 0 && (aux1 & W) != 0)
+        return "C with R and W";
     return NULL;
 }
 
@@ -65,7 +67,7 @@ static const char *running_damage(const uint8_t *port, uint8_t mode)
     const uint8_t *its = port + FIXLOMAND_BLOCKS + FIXLOMAND_BLOCK_LEN * block;
     if (kind > 5)
         return "a request's kind";
-    if (device < FIXLOMAND_E || device > FIXLOMAND_P)
+    if (device < FIXLOMAND_E || device > FIXLOMAND_C)
         return "a request's device";
     if (block >= FIXLOMAND_BLOCK_COUNT)
         return "a request's block";
@@ -128,19 +130,55 @@ static const char *console_damage(const uint8_t *state)
     return NULL;
 }
 
-static int runs(const uint8_t *state, unsigned port)
+static const char *cassette_damage(const uint8_t *state)
 {
-    return state[port * FIXLOMAND_PORT_LEN + FIXLOMAND_PHASE] == FIXLOMAND_RUNNING;
+    unsigned mark = state[FIXLOMAND_MARK], record = state[FIXLOMAND_RECORD], place = state[FIXLOMAND_PLACE];
+    switch (mark) {
+    case FIXLOMAND_TAPE_READING:
+        return record > 250 || place > 127 ? "a tape that is read" : NULL;
+    case FIXLOMAND_TAPE_WRITING:
+        if (record > 249 || place > 127)
+            return "a tape that is written";
+        return record == 249 && place != 0 ? "characters that are pending for a full tape" : NULL;
+    case FIXLOMAND_TAPE_CLOSED:
+    case FIXLOMAND_TAPE_NEITHER:
+        return record != 0 || place != 0 ? "a tape that is neither read nor written, with numbers" : NULL;
+    default:
+        return "a mark";
+    }
 }
 
-static int holds_printer(const uint8_t *state, unsigned port)
+/* "Where it is 0 no block has C open. Where it is not, one block of the two ports has, and no second one" */
+static const char *open_damage(const uint8_t *state)
 {
-    return runs(state, port) && state[port * FIXLOMAND_PORT_LEN + 2] == FIXLOMAND_P;
+    unsigned open = 0, mark = FIXLOMAND_TAPE_CLOSED;
+    for (unsigned i = 0; i < FIXLOMAND_PORTS * FIXLOMAND_BLOCK_COUNT; i++) {
+        const uint8_t *block = state + i / FIXLOMAND_BLOCK_COUNT * FIXLOMAND_PORT_LEN + FIXLOMAND_BLOCKS +
+                               i % FIXLOMAND_BLOCK_COUNT * FIXLOMAND_BLOCK_LEN;
+        if (block[0] != FIXLOMAND_C)
+            continue;
+        open++;
+        mark = (block[2] & R) != 0   ? FIXLOMAND_TAPE_READING
+               : (block[2] & W) != 0 ? FIXLOMAND_TAPE_WRITING
+                                     : FIXLOMAND_TAPE_NEITHER;
+    }
+    if (open > 1)
+        return "two blocks with C open";
+    return state[FIXLOMAND_MARK] != mark ? "a mark and blocks at odds" : NULL;
+}
+
+/* The group of a port's running request, by its first device; 0 for none. */
+static unsigned group(const uint8_t *state, unsigned port)
+{
+    const uint8_t *its = state + port * FIXLOMAND_PORT_LEN;
+    if (its[FIXLOMAND_PHASE] != FIXLOMAND_RUNNING)
+        return 0;
+    return its[2] == FIXLOMAND_S || its[2] == FIXLOMAND_K ? FIXLOMAND_E : its[2];
 }
 
 int holds_console(const uint8_t *state, unsigned port)
 {
-    return runs(state, port) && state[port * FIXLOMAND_PORT_LEN + 2] != FIXLOMAND_P;
+    return group(state, port) == FIXLOMAND_E;
 }
 
 const char *damage(const uint8_t *state)
@@ -150,8 +188,11 @@ const char *damage(const uint8_t *state)
         why = port_damage(state + port * FIXLOMAND_PORT_LEN, state[FIXLOMAND_MODE]);
     if (why == NULL && number(state + FIXLOMAND_USED, 2) > FIXLOMAND_PAPER_LEN)
         why = "the paper's used length";
-    if (why == NULL && ((holds_console(state, 0) && holds_console(state, 1)) ||
-                        (holds_printer(state, 0) && holds_printer(state, 1))))
+    if (why == NULL)
+        why = cassette_damage(state);
+    if (why == NULL)
+        why = open_damage(state);
+    if (why == NULL && group(state, 0) != 0 && group(state, 0) == group(state, 1))
         why = "both ports at one group";
     return why;
 }

@@ -11,22 +11,22 @@
 #include <string.h>
 #include <sys/mman.h>
 
-enum { STATE, AREA, SCREEN, PAPER, BUFFERS, CALLS = 5 };
+enum { STATE, AREA, SCREEN, PAPER, TAPE, BUFFERS, CALLS = 5 };
 
 struct buffer {
     uint8_t *bytes;
     size_t length;
 };
 
-static const char *const names[BUFFERS] = {"state", "area", "screen", "paper"};
+static const char *const names[BUFFERS] = {"state", "area", "screen", "paper", "tape"};
 static const char *const call_names[CALLS] = {"fresh", "take", "tick", "give", "press"};
 static const size_t whole[BUFFERS] = {FIXLOMAND_STATE_LEN, FIXLOMAND_AREA_LEN, FIXLOMAND_SCREEN_LEN,
-                                      FIXLOMAND_PAPER_LEN};
+                                      FIXLOMAND_PAPER_LEN, FIXLOMAND_TAPE_LEN};
 static unsigned long calls, refusals;
 
 #define LENT                                                                                                           \
     b[STATE].bytes, b[STATE].length, b[AREA].bytes, b[AREA].length, b[SCREEN].bytes, b[SCREEN].length,                \
-        b[PAPER].bytes, b[PAPER].length
+        b[PAPER].bytes, b[PAPER].length, b[TAPE].bytes, b[TAPE].length
 
 /* The answer of a call; give's byte is in the high half. */
 static unsigned call(unsigned which, const struct buffer b[BUFFERS], uint8_t port)
@@ -81,7 +81,7 @@ static void refused(const struct buffer b[BUFFERS], const char *what)
         }
 }
 
-/* The four whole buffers after a fresh start and some bytes of a message. */
+/* The five whole buffers after a fresh start and some bytes of a message. */
 static void started(struct buffer b[BUFFERS], enum side side)
 {
     for (unsigned i = 0; i < BUFFERS; i++) {

@@ -10,11 +10,11 @@ enum { R = FIXLOMAND_AUX1_READ, W = FIXLOMAND_AUX1_WRITE, FORCED = FIXLOMAND_AUX
 enum { SPECIFICATION = 0, BUFFER = 16, STATUS = FIXLOMAND_HEADER_LEN, COUNT, A = COUNT + 2 };
 
 static uint8_t state[FIXLOMAND_STATE_LEN], area[FIXLOMAND_AREA_LEN];
-static uint8_t screen[FIXLOMAND_SCREEN_LEN], paper[FIXLOMAND_PAPER_LEN];
+static uint8_t screen[FIXLOMAND_SCREEN_LEN], paper[FIXLOMAND_PAPER_LEN], tape[FIXLOMAND_TAPE_LEN];
 static uint8_t reply[FIXLOMAND_ROOM_LEN];
 static unsigned checks;
 
-#define LENT state, sizeof state, area, sizeof area, screen, sizeof screen, paper, sizeof paper
+#define LENT state, sizeof state, area, sizeof area, screen, sizeof screen, paper, sizeof paper, tape, sizeof tape
 
 static void want(unsigned got, unsigned right, const char *what)
 {
@@ -154,6 +154,43 @@ static void check_printer(void)
     want(put(FIXLOMAND_PAPER_LEN), FIXLOMAND_STATUS_PAPER_FULL, "PUT of more than the paper");
 }
 
+/* A record that is full with its last character, one that is bad, and the end; then a tape that is full. */
+static void check_cassette(void)
+{
+    want(opened("C:", R | W, 0), FIXLOMAND_STATUS_BAD_COMMAND, "OPEN of C: with R and W");
+    want(opened("C:", W, 0), FIXLOMAND_STATUS_SUCCESS, "OPEN of C:");
+    want(state[FIXLOMAND_BLOCKS], FIXLOMAND_C, "the block after it");
+    want(state[FIXLOMAND_MARK], FIXLOMAND_TAPE_WRITING, "the mark after it");
+    want(call(1, FIXLOMAND_COMMAND_OPEN, SPECIFICATION, 0, W, 0), FIXLOMAND_STATUS_ALREADY_OPEN, "OPEN at another block");
+    memset(area + BUFFER, 'a', FIXLOMAND_PENDING_LEN + 1);
+    want(put(FIXLOMAND_PENDING_LEN - 1), FIXLOMAND_STATUS_SUCCESS, "PUT of fewer than a record");
+    want(state[FIXLOMAND_PLACE], FIXLOMAND_PENDING_LEN - 1, "the place");
+    want(state[FIXLOMAND_PENDING + FIXLOMAND_PENDING_LEN - 2], 'a', "the last pending character");
+    want(tape[2], 0, "the tape meanwhile");
+    want(put(2), FIXLOMAND_STATUS_SUCCESS, "PUT of a full record and one more");
+    want(state[FIXLOMAND_RECORD], 1, "the record");
+    want(state[FIXLOMAND_PLACE], 1, "the place");
+    want(tape[2], 0xFC, "the control byte of a full record");
+    want(opened("C:", 0, 0), FIXLOMAND_STATUS_SUCCESS, "OPEN of C: with neither");
+    want(state[FIXLOMAND_MARK], FIXLOMAND_TAPE_NEITHER, "the mark after it");
+    want(tape[132 + 2], 0xFA, "the control byte of a partial record");
+    want(tape[264 + 2], 0xFE, "the control byte of the end");
+    want(opened("C:", R, 0), FIXLOMAND_STATUS_SUCCESS, "OPEN of C: with R");
+    want(state[FIXLOMAND_MARK], FIXLOMAND_TAPE_READING, "the mark after it");
+    want(call(0, FIXLOMAND_COMMAND_GET_CHARACTERS, BUFFER, 256, 0, 0), FIXLOMAND_STATUS_END_OF_FILE, "GET of more");
+    want(reply[COUNT], FIXLOMAND_PENDING_LEN + 1, "GET's count");
+    want(opened("C:", R, 0), FIXLOMAND_STATUS_SUCCESS, "OPEN of C: with R");
+    tape[131]++;
+    want(call(0, FIXLOMAND_COMMAND_GET_CHARACTERS, BUFFER, 1, 0, 0), FIXLOMAND_STATUS_CHECKSUM, "GET of a bad record");
+    want(opened("C:", W, 0), FIXLOMAND_STATUS_SUCCESS, "OPEN of C:");
+    want(put(16000), FIXLOMAND_STATUS_SUCCESS, "PUT of half a tape");
+    want(put(16000), FIXLOMAND_STATUS_PAPER_FULL, "PUT of more than the tape");
+    want(reply[COUNT] + 256u * reply[COUNT + 1], 249 * FIXLOMAND_PENDING_LEN - 16000, "PUT's count");
+    want(call(0, FIXLOMAND_COMMAND_CLOSE, 0, 0, 0, 0), FIXLOMAND_STATUS_SUCCESS, "CLOSE of a full tape");
+    want(tape[FIXLOMAND_TAPE_LEN - 1], 0xA9, "the checksum of an end record");
+    want(state[FIXLOMAND_MARK], FIXLOMAND_TAPE_CLOSED, "the mark of a closed tape");
+}
+
 static void check_editor(void)
 {
     want(opened("E:", R | W, 0), FIXLOMAND_STATUS_BAD_COMMAND, "OPEN of E: without forced read");
@@ -243,6 +280,7 @@ int main(void)
     check_messages();
     check_blocks();
     check_printer();
+    check_cassette();
     check_editor();
     check_keys();
     check_modes();

@@ -7,8 +7,10 @@
  *     G PORT               give: the answer, the byte
  *     P CODE               press: the answer
  *     X PORT N(2)          ticks while the port runs on, at most N: how many (2), the last answer
- *     L BUFFER LENGTH(3)   from now on lend so much of 0 area, 1 screen, 2 paper, 3 state: nothing is written
- *     D                    area, screen, paper, and the state as the header lays it out
+ *     L BUFFER LENGTH(3)   from now on lend so much of 0 area, 1 screen, 2 paper, 3 state, 4 tape: nothing is written
+ *     W BUFFER AT(3) N(2)  the N bytes behind it into the area, screen, paper or tape, from AT to its end: nothing is written
+ *     D                    area, screen, paper, and the state but for the cassette, as the header lays it out
+ *     C                    tape, mark, record (2), place, and the pending characters with zeros behind them
  *
  * Each op is answered before the next is read. The buffers stand between guard pages. */
 #include "fixlomand.h"
@@ -18,14 +20,14 @@
 #include <string.h>
 #include <unistd.h>
 
-enum { AREA, SCREEN, PAPER, STATE, BUFFERS };
+enum { AREA, SCREEN, PAPER, STATE, TAPE, BUFFERS };
 
 static const size_t whole[BUFFERS] = {FIXLOMAND_AREA_LEN, FIXLOMAND_SCREEN_LEN, FIXLOMAND_PAPER_LEN,
-                                      FIXLOMAND_STATE_LEN};
+                                      FIXLOMAND_STATE_LEN, FIXLOMAND_TAPE_LEN};
 static size_t lent[BUFFERS];
-static uint8_t *state, *area, *screen, *paper;
+static uint8_t *state, *area, *screen, *paper, *tape;
 
-#define LENT state, lent[STATE], area, lent[AREA], screen, lent[SCREEN], paper, lent[PAPER]
+#define LENT state, lent[STATE], area, lent[AREA], screen, lent[SCREEN], paper, lent[PAPER], tape, lent[TAPE]
 
 static void say(const uint8_t *bytes, size_t length)
 {
@@ -56,7 +58,7 @@ static int next(void)
 
 static void say_block(const uint8_t *block)
 {
-    static const uint8_t letters[] = {0, 'E', 'S', 'K', 'P'};
+    static const uint8_t letters[] = {0, 'E', 'S', 'K', 'P', 'C'};
     uint8_t device = block[0];
     if (device >= sizeof letters)
         fail("dump: %u is no device", device);
@@ -87,6 +89,38 @@ static void dump(void)
         say_byte(state[port * FIXLOMAND_PORT_LEN + FIXLOMAND_PHASE]);
 }
 
+static void dump_tape(void)
+{
+    static const uint8_t zeros[FIXLOMAND_PENDING_LEN];
+    unsigned pending = state[FIXLOMAND_MARK] == FIXLOMAND_TAPE_WRITING ? state[FIXLOMAND_PLACE] : 0;
+    if (pending > FIXLOMAND_PENDING_LEN)
+        fail("dump: %u characters are pending", pending);
+    say(tape, FIXLOMAND_TAPE_LEN);
+    say(state + FIXLOMAND_MARK, 1);
+    say(state + FIXLOMAND_RECORD, 1);
+    say_byte(0);
+    say(state + FIXLOMAND_PLACE, 1);
+    say(state + FIXLOMAND_PENDING, pending);
+    say(zeros, FIXLOMAND_PENDING_LEN - pending);
+}
+
+/* Writes the script's next bytes into a buffer, once all of them are there; 0 if the script ends before. */
+static int write_into(unsigned buffer, size_t at, unsigned length)
+{
+    static uint8_t some[65535];
+    uint8_t *const buffers[BUFFERS] = {area, screen, paper, NULL, tape};
+    for (unsigned i = 0; i < length; i++) {
+        int byte = next();
+        if (byte < 0)
+            return 0;
+        some[i] = (uint8_t)byte;
+    }
+    if (buffer < BUFFERS && buffers[buffer] != NULL)
+        for (unsigned i = 0; i < length && at + i < whole[buffer]; i++)
+            buffers[buffer][at + i] = some[i];
+    return 1;
+}
+
 static void ticks(uint8_t port, unsigned most)
 {
     unsigned done = 0;
@@ -105,10 +139,10 @@ static void ticks(uint8_t port, unsigned most)
 /* Plays an op; 0 if it is none, or is cut by the end of the script. */
 static int play(int op)
 {
-    static const char ops[] = "FTKGPXLD";
-    static const uint8_t operands[] = {0, 2, 1, 1, 1, 3, 4, 0};
+    static const char ops[] = "FTKGPXLWDC";
+    static const uint8_t operands[] = {0, 2, 1, 1, 1, 3, 4, 6, 0, 0};
     const char *found = op > 0 ? strchr(ops, op) : NULL;
-    uint8_t a[4] = {0};
+    uint8_t a[6] = {0};
     uint16_t given;
     if (found == NULL)
         return 0;
@@ -146,8 +180,13 @@ static int play(int op)
             lent[a[0]] = length < whole[a[0]] ? length : whole[a[0]];
         }
         break;
-    default:
+    case 'W':
+        return write_into(a[0], a[1] + 256u * a[2] + 65536u * a[3], a[4] + 256u * a[5]);
+    case 'D':
         dump();
+        break;
+    default:
+        dump_tape();
         break;
     }
     return 1;
@@ -160,6 +199,7 @@ int main(int words, char **word)
     area = guarded("area", FIXLOMAND_AREA_LEN, side);
     screen = guarded("screen", FIXLOMAND_SCREEN_LEN, side);
     paper = guarded("paper", FIXLOMAND_PAPER_LEN, side);
+    tape = guarded("tape", FIXLOMAND_TAPE_LEN, side);
     memcpy(lent, whole, sizeof lent);
     guard_doing = "play_c";
     guard_watch();

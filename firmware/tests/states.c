@@ -4,8 +4,8 @@
  * are on random bytes, on states in order, on such states with one wrong byte, and on what the calls make of them. Every
  * call must end in an answer of its own row of the table, answer 3 exactly when damage.c, which is
  * written from the header alone, finds the state damaged, change nothing unless it answers 0, and leave a state in
- * order. The buffers stand between guard pages; what of area, screen and paper a call may not write it is lent at a
- * place where it can only be read. */
+ * order. The buffers stand between guard pages; what of area, screen, paper and tape a call may not write it is lent at
+ * a place where it can only be read. */
 #include "damage.h"
 #include "fixlomand.h"
 #include "guard.h"
@@ -16,14 +16,15 @@
 #include <string.h>
 
 enum { FRESH, TAKE, TICK, GIVE, PRESS, CALLS, ANSWERS = 9, HALF = FIXLOMAND_PORT_AREA_LEN };
-enum { R = FIXLOMAND_AUX1_READ, W = FIXLOMAND_AUX1_WRITE, FORCED = FIXLOMAND_AUX1_FORCED };
+enum { R = FIXLOMAND_AUX1_READ, W = FIXLOMAND_AUX1_WRITE, FORCED = FIXLOMAND_AUX1_FORCED, SPECIFICATIONS = 10 };
 
 static const char *const names[CALLS] = {"fresh", "take", "tick", "give", "press"};
-static uint8_t *state, *area, *screen, *paper;
+static uint8_t *state, *area, *screen, *paper, *tape;
 /* where nothing can be written, and where one port's half of the area can */
-static uint8_t *area_view, *screen_view, *paper_view, *half_view[2];
+static uint8_t *area_view, *screen_view, *paper_view, *tape_view, *half_view[2];
 static uint8_t state_before[FIXLOMAND_STATE_LEN], area_before[FIXLOMAND_AREA_LEN];
 static uint8_t screen_before[FIXLOMAND_SCREEN_LEN], paper_before[FIXLOMAND_PAPER_LEN];
+static uint8_t tape_before[FIXLOMAND_TAPE_LEN];
 static unsigned long counts[CALLS][ANSWERS];
 static uint64_t seed;
 
@@ -84,7 +85,7 @@ static uint8_t random_aux1(uint8_t device)
         aux1 &= ~(unsigned)FIXLOMAND_AUX1_SPLIT;
     if (device == FIXLOMAND_K)
         aux1 &= ~(unsigned)W;
-    if (device == FIXLOMAND_P)
+    if (device == FIXLOMAND_P || (device == FIXLOMAND_C && (aux1 & W) != 0))
         aux1 &= ~(unsigned)R;
     return (uint8_t)aux1;
 }
@@ -114,14 +115,14 @@ static void random_ready(uint8_t *port, uint8_t *room)
         put(port + 2, FIXLOMAND_CALL_LEN);
         room[0] = (uint8_t)below(one_in(16) ? 256 : FIXLOMAND_BLOCK_COUNT);
         room[1] = commands[below(sizeof commands)];
-        put(room + 2, one_in(16) ? between(0, 65535) : 8 * below(8));
+        put(room + 2, one_in(16) ? between(0, 65535) : 8 * below(SPECIFICATIONS));
         put(room + 4, one_in(16) ? between(0, 65535) : between(0, 300));
         room[6] = (uint8_t)below(64);
         room[7] = (uint8_t)below(10);
         break;
     case FIXLOMAND_TAG_LOAD:
         put(port + 2, between(3, 2 + FIXLOMAND_PIECE_LEN));
-        put(room, one_in(2) ? between(HALF - 300, HALF) : between(64, 65535));
+        put(room, one_in(2) ? between(HALF - 300, HALF) : between(8 * SPECIFICATIONS, 65535));
         break;
     case FIXLOMAND_TAG_FETCH:
         put(port + 2, FIXLOMAND_FETCH_LEN);
@@ -136,12 +137,14 @@ static void random_ready(uint8_t *port, uint8_t *room)
         put(port + 2, between(0, 65535));
 }
 
-/* A request at a block that is opened for it. */
-static void random_running(uint8_t *port, uint8_t mode)
+/* A request at a block that is opened for it; it may be one at the tape, which may be open at one port alone. */
+static void random_running(uint8_t *port, uint8_t mode, int tape_too)
 {
     uint8_t kind = (uint8_t)below(6), *block;
     uint8_t device = kind < 3 ? (uint8_t)(1 + below(3)) : one_in(2) ? FIXLOMAND_P : (uint8_t)(1 + below(2));
     unsigned place = between(0, HALF), left = between(0, HALF - place);
+    if (tape_too && one_in(2))
+        device = FIXLOMAND_C;
     if (device == FIXLOMAND_E || device == FIXLOMAND_S)
         device = mode == 0 ? FIXLOMAND_E : FIXLOMAND_S;
     port[1] = kind;
@@ -149,6 +152,8 @@ static void random_running(uint8_t *port, uint8_t mode)
     port[3] = (uint8_t)below(FIXLOMAND_BLOCK_COUNT);
     block = port + FIXLOMAND_BLOCKS + FIXLOMAND_BLOCK_LEN * port[3];
     random_block(block, device);
+    if (device == FIXLOMAND_C)
+        block[2] &= (uint8_t)~(R | W);
     block[2] |= kind < 3 ? R : W;
     if (device == FIXLOMAND_E && (block[2] & R) != 0)
         block[2] |= FORCED;
@@ -164,12 +169,12 @@ static void random_running(uint8_t *port, uint8_t mode)
     port[10] = (uint8_t)below(256);
 }
 
-static void random_port(uint8_t *port, uint8_t *room, uint8_t mode)
+static void random_port(uint8_t *port, uint8_t *room, uint8_t mode, int tape_too)
 {
     unsigned length, taken;
     memset(port, 0, FIXLOMAND_PORT_LEN);
     for (unsigned i = 0; i < FIXLOMAND_BLOCK_COUNT; i++)
-        random_block(port + FIXLOMAND_BLOCKS + FIXLOMAND_BLOCK_LEN * i, (uint8_t)below(5));
+        random_block(port + FIXLOMAND_BLOCKS + FIXLOMAND_BLOCK_LEN * i, (uint8_t)below(FIXLOMAND_C));
     port[FIXLOMAND_PHASE] = (uint8_t)below(4);
     switch (port[FIXLOMAND_PHASE]) {
     case FIXLOMAND_GATHERING:
@@ -189,7 +194,7 @@ static void random_port(uint8_t *port, uint8_t *room, uint8_t mode)
         random_ready(port, room);
         break;
     case FIXLOMAND_RUNNING:
-        random_running(port, mode);
+        random_running(port, mode, tape_too);
         break;
     default:
         length = between(4, FIXLOMAND_ROOM_LEN);
@@ -197,6 +202,8 @@ static void random_port(uint8_t *port, uint8_t *room, uint8_t mode)
         put(port + 3, between(0, length - 1));
         break;
     }
+    if (tape_too && port[FIXLOMAND_PHASE] != FIXLOMAND_RUNNING)
+        random_block(port + FIXLOMAND_BLOCKS + FIXLOMAND_BLOCK_LEN * below(FIXLOMAND_BLOCK_COUNT), FIXLOMAND_C);
 }
 
 static void random_console(uint8_t *s)
@@ -215,13 +222,38 @@ static void random_console(uint8_t *s)
     put(s + FIXLOMAND_USED, between(0, FIXLOMAND_PAPER_LEN));
 }
 
+/* The cassette, as the blocks have it open. */
+static void random_cassette(uint8_t *s)
+{
+    unsigned mark = FIXLOMAND_TAPE_CLOSED, record = 0, at = 0;
+    for (unsigned i = 0; i < FIXLOMAND_PORTS * FIXLOMAND_BLOCK_COUNT; i++) {
+        const uint8_t *block = s + i / FIXLOMAND_BLOCK_COUNT * FIXLOMAND_PORT_LEN + FIXLOMAND_BLOCKS +
+                               i % FIXLOMAND_BLOCK_COUNT * FIXLOMAND_BLOCK_LEN;
+        if (block[0] == FIXLOMAND_C)
+            mark = (block[2] & R) != 0   ? FIXLOMAND_TAPE_READING
+                   : (block[2] & W) != 0 ? FIXLOMAND_TAPE_WRITING
+                                         : FIXLOMAND_TAPE_NEITHER;
+    }
+    if (mark == FIXLOMAND_TAPE_READING || mark == FIXLOMAND_TAPE_WRITING) {
+        record = between(0, mark == FIXLOMAND_TAPE_READING ? 250 : 249);
+        at = mark == FIXLOMAND_TAPE_WRITING && record == 249 ? 0 : between(0, 127);
+    }
+    s[FIXLOMAND_MARK] = (uint8_t)mark;
+    s[FIXLOMAND_RECORD] = (uint8_t)record;
+    s[FIXLOMAND_PLACE] = (uint8_t)at;
+    put_random(s + FIXLOMAND_PENDING, FIXLOMAND_PENDING_LEN);
+}
+
 /* A state in which each part is in order. */
 static void random_parts(uint8_t *s)
 {
+    unsigned with_tape = below(3);
     put_random(s + FIXLOMAND_ROOMS, FIXLOMAND_STATE_LEN - FIXLOMAND_ROOMS);
     random_console(s);
     for (unsigned side = 0; side < 2; side++)
-        random_port(s + side * FIXLOMAND_PORT_LEN, s + FIXLOMAND_ROOMS + side * FIXLOMAND_ROOM_LEN, s[FIXLOMAND_MODE]);
+        random_port(s + side * FIXLOMAND_PORT_LEN, s + FIXLOMAND_ROOMS + side * FIXLOMAND_ROOM_LEN, s[FIXLOMAND_MODE],
+                    side == with_tape);
+    random_cassette(s);
     if (damage(s) != NULL && strcmp(damage(s), "both ports at one group") != 0)
         fail("states: a state made to be in order is not: %s", damage(s));
 }
@@ -233,10 +265,10 @@ static void random_in_order(uint8_t *s)
     while (damage(s) != NULL);
 }
 
-/* One byte before the rooms becomes another. */
+/* One byte before the rooms becomes another; most are no pending characters, for these are never wrong. */
 static void one_wrong_byte(uint8_t *s)
 {
-    uint8_t *byte = s + below(FIXLOMAND_ROOMS);
+    uint8_t *byte = s + below(one_in(16) ? FIXLOMAND_ROOMS : FIXLOMAND_PENDING);
     uint8_t old = *byte;
     switch (below(4)) {
     case 0:
@@ -254,11 +286,28 @@ static void one_wrong_byte(uint8_t *s)
 /* Specifications where the random CALLs look for them. */
 static void prepare_area(void)
 {
-    static const char *const some[] = {"E:", "S:", "K:", "P:", "E1:", "S8:", "K9:", "X:"};
+    static const char *const some[SPECIFICATIONS] = {"E:", "S:", "K:", "P:", "C:", "E1:", "S8:", "K9:", "C8:", "X:"};
     put_random(area, FIXLOMAND_AREA_LEN);
     for (unsigned port = 0; port < 2; port++)
-        for (unsigned i = 0; i < 8; i++)
+        for (unsigned i = 0; i < SPECIFICATIONS; i++)
             memcpy(area + port * HALF + 8 * i, some[i], strlen(some[i]));
+}
+
+/* Records, most of them good: a count, a control byte, and a checksum of all before it. */
+static void prepare_tape(void)
+{
+    static const uint8_t controls[] = {0xFC, 0xFA, 0xFA, 0xFE};
+    put_random(tape, FIXLOMAND_TAPE_LEN);
+    for (uint8_t *record = tape; record < tape + FIXLOMAND_TAPE_LEN; record += 132) {
+        unsigned sum = 0;
+        if (!one_in(8))
+            record[2] = controls[below(sizeof controls)];
+        record[130] = (uint8_t)between(0, 128);
+        for (unsigned i = 0; i < 131; i++)
+            sum += record[i];
+        if (!one_in(8))
+            record[131] = (uint8_t)(sum == 0 ? 0 : (sum - 1) % 255 + 1);
+    }
 }
 
 /* ---- one call ---- */
@@ -271,7 +320,7 @@ static void trouble(const char *what)
 {
     fprintf(stderr, "state before the call:");
     for (unsigned i = 0; i < FIXLOMAND_ROOMS; i++)
-        fprintf(stderr, "%s%02X", i == 0 || i == 35 || i == 70 || i == 80 ? "\n  " : " ", state_before[i]);
+        fprintf(stderr, "%s%02X", i == 0 || i == 35 || i == 70 || i == 80 || i == 82 || i == 85 ? "\n  " : " ", state_before[i]);
     fputc('\n', stderr);
     fail("states: call %lu, %s at port %u with %u: %s", place, names[which], port, operand, what);
 }
@@ -302,7 +351,7 @@ static int expected(void)
 
 #define LENT                                                                                                           \
     state, FIXLOMAND_STATE_LEN, its_area, FIXLOMAND_AREA_LEN, its_screen, FIXLOMAND_SCREEN_LEN, its_paper,            \
-        FIXLOMAND_PAPER_LEN
+        FIXLOMAND_PAPER_LEN, its_tape, FIXLOMAND_TAPE_LEN
 
 /* Makes the call; a call that is to be refused can write nothing but the state. */
 static unsigned call(int refused)
@@ -311,6 +360,7 @@ static unsigned call(int refused)
     uint8_t *its_area = which == FRESH ? area : ticks ? half_view[port] : area_view;
     uint8_t *its_screen = which == FRESH || ticks ? screen : screen_view;
     uint8_t *its_paper = ticks ? paper : paper_view;
+    uint8_t *its_tape = ticks ? tape : tape_view;
     switch (which) {
     case FRESH:
         return fixlomand_fresh(LENT);
@@ -361,7 +411,7 @@ static void check_done(unsigned given)
         !same(state, state_before, other_room, other_room + FIXLOMAND_ROOM_LEN))
         trouble("changes the other port");
     if (which != TICK && !same(state, state_before, FIXLOMAND_CONSOLE, FIXLOMAND_ROOMS))
-        trouble("changes console or printer");
+        trouble("changes console, printer or cassette");
     if (which == GIVE) {
         const uint8_t *its = state_before + port * FIXLOMAND_PORT_LEN;
         if (given != state_before[FIXLOMAND_ROOMS + port * FIXLOMAND_ROOM_LEN + its[3] + 256u * its[4]])
@@ -397,6 +447,7 @@ static void make_call(void)
         keep(area_before, area, FIXLOMAND_AREA_LEN);
         keep(screen_before, screen, FIXLOMAND_SCREEN_LEN);
         keep(paper_before, paper, FIXLOMAND_PAPER_LEN);
+        keep(tape_before, tape, FIXLOMAND_TAPE_LEN);
     }
     guard_doing = names[which];
     guard_number = place;
@@ -420,14 +471,16 @@ static void make_call(void)
             trouble("is refused and changes the state");
         if (either && (!same(area, area_before, 0, FIXLOMAND_AREA_LEN) ||
                        !same(screen, screen_before, 0, FIXLOMAND_SCREEN_LEN) ||
-                       !same(paper, paper_before, 0, FIXLOMAND_PAPER_LEN)))
-            trouble("is refused and changes area, screen or paper");
+                       !same(paper, paper_before, 0, FIXLOMAND_PAPER_LEN) ||
+                       !same(tape, tape_before, 0, FIXLOMAND_TAPE_LEN)))
+            trouble("is refused and changes area, screen, paper or tape");
         return;
     }
     check_done(given);
     if (which == FRESH) {
         check_fresh();
         prepare_area();
+        prepare_tape();
     }
 }
 
@@ -495,12 +548,12 @@ static void make_next_call(void)
     }
 }
 
-/* Every value of every byte before the rooms, in turn, in a state that is in order else. The port is above 1, so that the
- * answer is 3 or 1 and nothing moves on. */
+/* Every value of every byte before the pending characters, in turn, in a state that is in order else. The port is above
+ * 1, so that the answer is 3 or 1 and nothing moves on. */
 static void every_byte(void)
 {
     random_in_order(state);
-    for (unsigned at = 0; at < FIXLOMAND_ROOMS; at++) {
+    for (unsigned at = 0; at < FIXLOMAND_PENDING; at++) {
         uint8_t right = state[at];
         for (unsigned value = 0; value < 256; value++) {
             state[at] = (uint8_t)value;
@@ -524,7 +577,7 @@ static void run(void)
 {
     unsigned long damaged = 0;
     state = guarded("state", FIXLOMAND_STATE_LEN, seed % 2 == 0 ? LEFT : RIGHT);
-    while (place + 256 * FIXLOMAND_ROOMS <= calls / 2)
+    while (place + 256 * FIXLOMAND_PENDING <= calls / 2)
         every_byte();
     random_in_order(state);
     while (place < calls)
@@ -549,10 +602,13 @@ int main(int words, char **word)
     screen_view = view_of_shared(0, 0);
     paper = shared("paper", FIXLOMAND_PAPER_LEN, RIGHT);
     paper_view = view_of_shared(0, 0);
+    tape = shared("tape", FIXLOMAND_TAPE_LEN, RIGHT);
+    tape_view = view_of_shared(0, 0);
     guard_watch();
     prepare_area();
     put_random(screen, FIXLOMAND_SCREEN_LEN);
     put_random(paper, FIXLOMAND_PAPER_LEN);
+    prepare_tape();
     run();
     guards_free();
     return 0;

@@ -20,10 +20,14 @@ For talking to ``play``:
 
 For people:
 
-- ``command``: the words of ``./stick``, and one line for what goes wrong.
-- ``demo``, ``live`` (drawn by ``view``, noted by ``log``), ``picture``: what
-  the words do; ``helps``: what ``live`` and ``play`` say of themselves.
+- ``command``: the words of ``./stick``, and one line for what goes wrong;
+  ``words``, ``files``: what is behind a word, and files written whole.
+- ``demo``, ``live`` (drawn by ``view``, noted by ``log``), ``picture``,
+  ``cassette`` (the words of ``./stick tape``): what the words do; ``helps``:
+  what ``live``, ``play`` and ``tape`` say of themselves.
 - ``screen``, ``letters``, ``keys``: cells, letters and key codes.
+- ``tape``, ``cas``, ``deck``: a tape's records, the CAS format, and tapes in
+  files.
 """
 
 from .cio import ByteStream, File, Stick
@@ -32,6 +36,7 @@ from .errors import (
     BadCommand,
     BadIocb,
     BadReply,
+    Checksum,
     CursorPastLastRow,
     EndOfFile,
     NotOpen,
@@ -65,7 +70,7 @@ from .wire import (
     Tag,
 )
 
-__version__ = "1.0.0"
+__version__ = "2.0.0"
 
 __all__ = [
     "AREA",
@@ -81,6 +86,7 @@ __all__ = [
     "BadReply",
     "ByteStream",
     "CallReply",
+    "Checksum",
     "Command",
     "CursorPastLastRow",
     "EndOfFile",

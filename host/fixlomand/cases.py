@@ -1,7 +1,9 @@
-"""The bench cases and the boundaries of 01-scope and the manual's section 5,
-each played on a fresh stick and compared with what the papers say.
+"""The bench cases and the boundaries of 01-scope, the manual's section 5 and
+what of 02-change-requests is built, each played on a fresh stick and compared
+with what the papers say.
 
-Where 01-scope decides over the manual, what is expected is 01-scope's.
+Where 01-scope decides over the manual, what is expected is 01-scope's; where
+02-change-requests decides over both, its.
 """
 
 from __future__ import annotations
@@ -12,7 +14,8 @@ from dataclasses import dataclass
 from . import keys, script, wire
 from .cio import BLOCKS, BUFFER, SPECIFICATION
 from .errors import BadReply
-from .play import Player
+from .play import GROUP_HELD, Player
+from .tape import CHARACTERS, END, FULL, PARTIAL, RECORD, RECORDS, checksum
 from .wire import AREA, EOL, FORCED, KEEP, PIECE, READ, WRITE, CallReply, Command, FetchReply, LoadReply
 
 OK = 0x01
@@ -78,10 +81,30 @@ class Bench:
         """Row and column."""
         return self.state.row, self.state.column
 
+    @property
+    def tape(self) -> bytes:
+        """What is written for a dump of the tape now: the tape, its mark,
+        record (2) and place, and what is pending."""
+        return self._player.do(script.DumpTape())[0]
+
+    def lend_tape(self, data: bytes = b"") -> None:
+        """From now on the tape is these bytes, and zeros: a fresh start leaves
+        its bytes as they are."""
+        self._player.do(script.Write(script.BUFFERS.index("tape"), 0, data.ljust(script.TAPE, b"\0")))
+
+    def begin(self, data: bytes, port: int = 0) -> int:
+        """Sends a message and ticks once; the tick's answer."""
+        *taken, ticked = self._player.do(*(script.Take(port, byte) for byte in data), script.Tick(port))
+        self.same(bytes(len(data)), b"".join(taken))
+        return ticked[0]
+
     def message(self, data: bytes, port: int = 0) -> bytes:
-        """Sends a message; its whole reply."""
-        taken = self._player.do(*(script.Take(port, byte) for byte in data), script.Tick(port))
-        self.same(bytes(len(data) + 1), b"".join(taken))
+        """Sends a message; its whole reply. It is not to wait."""
+        self.same(0, self.begin(data, port))
+        return self.reply(port)
+
+    def reply(self, port: int = 0) -> bytes:
+        """Ticks a message that has started to its end; its whole reply."""
         give = script.Give(port)
         self.ticks = 0
         answer, first = self._player.do(give)[0]
@@ -492,7 +515,7 @@ def _(bench: Bench) -> None:
     for iocb, specification in enumerate((b"P:", b"P8:")):
         bench.load(specification, AREA - len(specification))
         bench.same(CallReply(OK, 0, 0), bench.call(3, AREA - len(specification), aux1=WRITE, iocb=iocb))
-    for specification, status in ((b"P", 0xB0), (b"P8", 0xB0), (b"C", 0x82), (b"P9", 0x82)):
+    for specification, status in ((b"P", 0xB0), (b"P8", 0xB0), (b"R", 0x82), (b"P9", 0x82)):
         bench.load(specification, AREA - len(specification))
         bench.same(CallReply(status, 0, 0), bench.call(3, AREA - len(specification), aux1=WRITE, iocb=7))
     bench.same(CallReply(0xB0, 0, 0), bench.call(3, AREA, aux1=WRITE, iocb=7))
@@ -754,11 +777,12 @@ def _(bench: Bench) -> None:
         bench.open(malformed, WRITE, iocb=1, status=0x82)
 
 
-@case("manual, Device/Filename Specification", "of its examples K: opens; C:, D2:BDAT and D:HOLD are not built, $82")
+@case("manual, Device/Filename Specification", "of its examples K: and C: open; D2:BDAT and D:HOLD are not built, $82")
 def _(bench: Bench) -> None:
     bench.open(b"K:\x9b", READ)
-    for specification in (b"C:\x9b", b"D2:BDAT\x9b", b"D:HOLD\x9b"):
-        bench.open(specification, READ, iocb=1, status=0x82)
+    bench.open(b"C:\x9b", READ, iocb=1)
+    for specification in (b"D2:BDAT\x9b", b"D:HOLD\x9b"):
+        bench.open(specification, READ, iocb=2, status=0x82)
 
 
 @case("manual, I/O Example (Figure 5-3)", "its steps on IOCB #3, K: for D1:TESTER: records until end of file, CLOSE")
@@ -1244,3 +1268,350 @@ def _(bench: Bench) -> None:
         bench.put(b"A")
         bench.same(CallReply(OK, 0, 0), bench.call(Command.CLOSE))
     bench.paper(b"A" * 256)
+
+
+# 02-change-requests, Ask 1, and the manual: cassette handler
+
+TAPE = "02-change-requests, Ask 1"
+HEAD = script.TAPE
+"""Where in a dump of the tape its mark, record and place are."""
+END_RECORD = bytes.fromhex("55 55 FE") + bytes(128) + b"\xa9"
+AB_RECORD = bytes.fromhex("55 55 FA 41 42 9B") + bytes(124) + bytes.fromhex("03 C7")
+"""The partial record of AB and an EOL."""
+
+
+def _record(control: int, data: bytes = b"", count: int | None = None) -> bytes:
+    """A record with its checksum; a partial one with its count, right or not."""
+    body = bytes([0x55, 0x55, control]) + data.ljust(CHARACTERS, b"\0")
+    if control == PARTIAL:
+        body = body[: RECORD - 2] + bytes([len(data) if count is None else count])
+    return body + bytes([checksum(body)])
+
+
+def _ask(bench: Bench, port: int, message: str, reply: str, ticks: int = 1) -> None:
+    """A message, its reply, and how many ticks it takes."""
+    bench.same(bytes.fromhex(reply), bench.message(bytes.fromhex(message), port))
+    bench.same((message, ticks), (message, 1 + bench.ticks))
+
+
+def _open_tape(bench: Bench, port: int, iocb: int, aux1: int) -> None:
+    """LOAD of C: at 0 and OPEN, both $01."""
+    _ask(bench, port, "11 04 00 00 00 43 3A", "91 01 00 01")
+    _ask(bench, port, f"10 09 00 {iocb:02X} 03 00 00 00 00 {aux1:02X} 00 00", "90 04 00 01 00 00 00")
+
+
+def _write_ab(bench: Bench) -> None:
+    """Port 0 opens C with W and puts the record AB."""
+    bench.lend_tape()
+    _open_tape(bench, 0, 0, WRITE)
+    _ask(bench, 0, "11 04 00 10 00 41 42", "91 01 00 01")
+    _ask(bench, 0, "10 09 00 00 09 10 00 02 00 00 00 00", "90 04 00 01 02 00 00", 4)
+
+
+def _close_ab(bench: Bench) -> None:
+    """And closes it."""
+    _write_ab(bench)
+    _ask(bench, 0, "10 09 00 00 0C 00 00 00 00 00 00 00", "90 04 00 01 00 00 00")
+
+
+@case(TAPE, "OPEN with W, PUT RECORD AB: count 2, 41 42 9B are pending and the tape is untouched")
+def _(bench: Bench) -> None:
+    _write_ab(bench)
+    bench.same(bytes(33_000) + bytes.fromhex("02 00 00 03 41 42 9B") + bytes(125), bench.tape)
+
+
+@case(TAPE, "CLOSE after writing: a partial record with the count 3 and checksum $C7, then the end record")
+def _(bench: Bench) -> None:
+    _close_ab(bench)
+    bench.same(AB_RECORD + END_RECORD + bytes(32_736) + bytes(132), bench.tape)
+
+
+def _read_two(bench: Bench) -> None:
+    """Then port 1 opens C with R and gets two characters."""
+    _close_ab(bench)
+    _open_tape(bench, 1, 2, READ)
+    _ask(bench, 1, "10 09 00 02 07 10 00 02 00 00 00 00", "90 04 00 01 02 00 00", 3)
+
+
+@case(TAPE, "the other port reads it: after two characters the head is at record 0, place 2")
+def _(bench: Bench) -> None:
+    _read_two(bench)
+    bench.same(bytes.fromhex("01 00 00 02"), bench.tape[HEAD : HEAD + 4])
+    _ask(bench, 1, "12 04 00 10 00 02 00", "92 03 00 01 41 42")
+
+
+@case(TAPE, "while the other port has it open: OPEN with R and W is $84, with R alone $81, GET STATUS with W $81")
+def _(bench: Bench) -> None:
+    _read_two(bench)
+    _ask(bench, 0, "10 09 00 00 03 00 00 00 00 0C 00 00", "90 04 00 84 00 00 00")
+    _ask(bench, 0, "10 09 00 00 03 00 00 00 00 04 00 00", "90 04 00 81 00 00 00")
+    _ask(bench, 0, "10 09 00 00 0D 00 00 00 00 08 00 00", "90 04 00 81 00 00 00")
+    bench.same(AB_RECORD + END_RECORD, bench.tape[: 2 * RECORD])
+
+
+@case(TAPE, "closed by the other port: SPECIAL with W is $84, and record 0 is the end record")
+def _(bench: Bench) -> None:
+    _read_two(bench)
+    _ask(bench, 1, "10 09 00 02 0C 00 00 00 00 00 00 00", "90 04 00 01 00 00 00")
+    _ask(bench, 0, "10 09 00 00 0E 00 00 00 00 08 00 00", "90 04 00 84 00 00 00")
+    bench.same(END_RECORD, bench.tape[:RECORD])
+
+
+@case(TAPE, "a tape of zeros: the checksum is right, the control byte is not, $8F each time")
+def _(bench: Bench) -> None:
+    bench.lend_tape()
+    _open_tape(bench, 0, 0, READ)
+    for _ in range(2):
+        _ask(bench, 0, "10 09 00 00 07 00 00 01 00 00 00 00", "90 04 00 8F 00 00 00", 2)
+    bench.same(bytes(33_000) + bytes([1]) + bytes(131), bench.tape)
+
+
+@case(TAPE, "full: 31,872 characters fit, the next is $90; CLOSE writes the end record into the last place")
+def _(bench: Bench) -> None:
+    bench.lend_tape()
+    _open_tape(bench, 0, 0, WRITE)
+    _ask(bench, 0, "10 09 00 00 0B 00 00 00 40 00 00 00", "90 04 00 01 00 40 00", 16_385)
+    _ask(bench, 0, "10 09 00 00 0B 00 00 81 3C 00 00 00", "90 04 00 90 80 3C 00", 15_490)
+    bench.same(bytes.fromhex("02 F9 00 00"), bench.tape[HEAD : HEAD + 4])
+    _ask(bench, 0, "10 09 00 00 0C 00 00 00 00 00 00 00", "90 04 00 01 00 00 00")
+    bench.same(END_RECORD, bench.tape[32_868:33_000])
+
+
+@case(TAPE, "full: $90 also for a character by A and for a record's added EOL, and nothing changes")
+def _(bench: Bench) -> None:
+    bench.lend_tape()
+    bench.open(b"C:", WRITE)
+    data = bytes(place % 251 for place in range(AREA - BUFFER))
+    bench.put(data)
+    bench.put(data[: 31_872 - len(data) - 1])
+    bench.put(b"Z", 1, 0x90, command=Command.PUT_RECORD)
+    before = bench.tape
+    bench.put(b"Y", 0, 0x90)
+    bench.same(CallReply(0x90, 0, 0x59), bench.call(Command.PUT_CHARACTERS, a=0x59))
+    bench.same(before, bench.tape)
+
+
+@case(TAPE, "248 full records and a partial one: the end record is the last")
+def _(bench: Bench) -> None:
+    bench.lend_tape()
+    bench.open(b"C:", WRITE)
+    for _ in range(2):
+        bench.put(b"a" * 15_872)
+    bench.put(b"b")
+    bench.same(CallReply(OK, 0, 0), bench.call(Command.CLOSE))
+    full = _record(FULL, b"a" * CHARACTERS)
+    bench.same(248 * full + _record(PARTIAL, b"b") + END_RECORD + bytes(132), bench.tape)
+
+
+@case(TAPE, "GET STATUS or SPECIAL with W on a closed block overwrites record 0; with R or neither the tape stays")
+def _(bench: Bench) -> None:
+    for command, status in ((Command.GET_STATUS, OK), (0x0E, 0x84), (0xFF, 0x84)):
+        for aux1, first in ((WRITE, END_RECORD), (READ, AB_RECORD), (0, AB_RECORD), (READ | WRITE, AB_RECORD)):
+            bench.lend_tape(AB_RECORD + AB_RECORD)
+            bench.open(b"C:", aux1, status=0x84 if aux1 == READ | WRITE else status, command=command)
+            bench.same(first + AB_RECORD + bytes(32_736) + bytes(132), bench.tape)
+            bench.same(False, bench.state.blocks[0][0].is_open)
+
+
+def _at_once(bench: Bench, *devices: bytes) -> None:
+    """One port's PUT is at work at a device; the other's at another starts
+    and ends. Each of the two is the first once."""
+    bench.lend_tape()
+    for pair in (devices, devices[::-1]):
+        bench.fresh()
+        for port, device in enumerate(pair):
+            bench.same(bytes.fromhex("91 01 00 01"), bench.message(wire.load(SPECIFICATION, device), port))
+            opening = wire.call(0, Command.OPEN, SPECIFICATION, aux1=WRITE)
+            bench.same(bytes.fromhex("90 04 00 01 00 00 00"), bench.message(opening, port))
+        bench.same(0, bench.begin(wire.call(0, Command.PUT_CHARACTERS, BUFFER, 300), 0))
+        put = bench.message(wire.call(0, Command.PUT_CHARACTERS, BUFFER, 200), 1)
+        bench.same((bytes.fromhex("90 04 00 01 C8 00 00"), 200), (put, bench.ticks))
+        bench.same((2, 0), bench.state.phases)
+        bench.same(bytes.fromhex("90 04 00 01 2C 01 00"), bench.reply(0))
+
+
+@case(TAPE, "tape and console are two groups: neither port waits")
+def _(bench: Bench) -> None:
+    _at_once(bench, b"C:", b"E:")
+
+
+@case(TAPE, "tape and printer are two groups: neither port waits")
+def _(bench: Bench) -> None:
+    _at_once(bench, b"C:", b"P:")
+
+
+@case(TAPE, "console and printer are two groups: neither port waits")
+def _(bench: Bench) -> None:
+    _at_once(bench, b"E:", b"P:")
+
+
+@case(TAPE, "the tape is one group: an OPEN waits for the other port's PUT, and is $81 then")
+def _(bench: Bench) -> None:
+    bench.lend_tape()
+    for port, aux1 in ((0, READ), (1, READ | WRITE)):
+        bench.fresh()
+        _open_tape(bench, 0, 0, WRITE)
+        _ask(bench, 1, "11 04 00 00 00 43 3A", "91 01 00 01")
+        bench.same(0, bench.begin(wire.call(0, Command.PUT_CHARACTERS, BUFFER, 300), 0))
+        bench.same(GROUP_HELD, bench.begin(wire.call(0, Command.OPEN, SPECIFICATION, aux1=aux1), 1))
+        bench.same(bytes.fromhex("90 04 00 01 2C 01 00"), bench.reply(0))
+        bench.same(bytes([0x90, 4, 0, 0x84 if port else 0x81, 0, 0, 0]), bench.reply(1))
+
+
+@case(TAPE, "the same port's other block: $81 as well; C, C1 to C8 are one tape, C9 is $82")
+def _(bench: Bench) -> None:
+    bench.lend_tape()
+    bench.open(b"C:", READ)
+    for number in range(1, 9):
+        bench.open(b"C%d:" % number, READ, iocb=1, status=0x81)
+        bench.open(b"C%d:" % number, READ, iocb=0, status=0x81)
+    bench.open(b"C9:", READ, iocb=1, status=0x82)
+    bench.same(CallReply(OK, 0, 0), bench.call(Command.CLOSE))
+    bench.open(b"C8:NAME\x9b", READ, iocb=1)
+    block = bench.state.blocks[0][1]
+    bench.same((True, "C", 8, READ), (block.is_open, block.device, block.number, block.aux1))
+
+
+@case(TAPE, "AUX1, all 256 values: R and W at once are $84, the others open; with neither CLOSE writes nothing")
+def _(bench: Bench) -> None:
+    bench.lend_tape(AB_RECORD)
+    for aux1 in range(256):
+        both = aux1 & (READ | WRITE) == READ | WRITE
+        bench.open(b"C:", aux1, status=0x84 if both else OK)
+        mark = 0 if both else {READ: 1, WRITE: 2, 0: 3}[aux1 & (READ | WRITE)]
+        bench.same(bytes([mark, 0, 0, 0]) + bytes(128), bench.tape[HEAD:])
+        bench.same(AB_RECORD, bench.tape[:RECORD])
+        if not aux1 & WRITE:
+            bench.same(CallReply(OK, 0, 0), bench.call(Command.CLOSE))
+        bench.same(AB_RECORD + bytes(32_868), bench.tape[:HEAD])
+        bench.fresh()
+
+
+@case(TAPE, "reading without R is $83, writing without W is $87: reading, writing, and open with neither")
+def _(bench: Bench) -> None:
+    bench.lend_tape(AB_RECORD + END_RECORD)
+    for aux1 in (READ, WRITE, 0):
+        bench.fresh()
+        bench.open(b"C:", aux1)
+        if not aux1 & READ:
+            bench.get(1, b"", 0x83)
+        if not aux1 & WRITE:
+            bench.put(b"A", 0, 0x87)
+        bench.same(AB_RECORD + END_RECORD, bench.tape[: 2 * RECORD])
+
+
+@case(TAPE, "a full record is written with its 128th character, and the next begins")
+def _(bench: Bench) -> None:
+    data = bytes(range(0x40, 0x40 + 127))
+    bench.lend_tape()
+    bench.open(b"C:", WRITE)
+    bench.put(data)
+    bench.same(bytes(33_000) + bytes([2, 0, 0, 127]) + data + b"\0", bench.tape)
+    bench.put(b"Z")
+    bench.same(_record(FULL, data + b"Z") + bytes(32_868) + bytes([2, 1, 0, 0]) + bytes(128), bench.tape)
+
+
+@case(TAPE, "CLOSE of what is opened for writing and not written: the end record alone; what is behind it stays")
+def _(bench: Bench) -> None:
+    bench.lend_tape(AB_RECORD + AB_RECORD)
+    bench.open(b"C:", WRITE)
+    bench.same(CallReply(OK, 0, 0), bench.call(Command.CLOSE))
+    bench.same(END_RECORD + AB_RECORD + bytes(32_736 + 132), bench.tape)
+
+
+@case(TAPE, "the checksum: 128 characters $FF make $A7, each carry out of eight bits added back")
+def _(bench: Bench) -> None:
+    bench.lend_tape()
+    bench.open(b"C:", WRITE)
+    bench.put(b"\xff" * 128)
+    bench.same(bytes.fromhex("55 55 FC") + b"\xff" * 128 + b"\xa7", bench.tape[:RECORD])
+
+
+@case(TAPE, "a bad checksum, control byte or partial count (0, above 127) reads as $8F each time, and nothing moves")
+def _(bench: Bench) -> None:
+    good = _record(FULL, b"A" * CHARACTERS)
+    wrong = [record[:-1] + bytes([record[-1] ^ 0xFF]) for record in (good, AB_RECORD, END_RECORD)]
+    controls = [_record(control, b"A") for control in (0x00, 0x55, 0x7C, 0xF8, 0xF9, 0xFB, 0xFD, 0xFF)]
+    counts = [_record(PARTIAL, b"A", count) for count in (0, 128, 129, 255)]
+    for bad in (*wrong, *controls, *counts):
+        bench.fresh()
+        bench.lend_tape(good + bad + END_RECORD)
+        bench.open(b"C:", READ)
+        bench.get(200, b"A" * CHARACTERS, 0x8F)
+        before = bench.tape
+        bench.same(bytes([1, 1, 0, 0]), before[HEAD : HEAD + 4])
+        bench.same(CallReply(0x8F, 0, 0x5A), bench.call(Command.GET_CHARACTERS, a=0x5A))
+        bench.same(before, bench.tape)
+
+
+@case(TAPE, "counts 1 and 127; the two $55 and an end record's data are not judged; $88 again and again")
+def _(bench: Bench) -> None:
+    last = bytearray(_record(END, b"not zero"))
+    other = bytearray(_record(FULL, b"B" * CHARACTERS))
+    for record in (last, other):
+        record[0] = record[1] = 0xAA
+        record[131] = checksum(bytes(record))
+    bench.lend_tape(_record(PARTIAL, b"A") + bytes(other) + _record(PARTIAL, b"C" * 127) + bytes(last))
+    bench.open(b"C:", READ)
+    bench.get(300, b"A" + b"B" * 128 + b"C" * 127, 0x88)
+    bench.get(300, b"", 0x88)
+    bench.same(bytes([1, 3, 0, 0]), bench.tape[HEAD : HEAD + 4])
+
+
+@case(TAPE, "a tape that runs out is $88: GET RECORD over 250 full records without EOL, 32,001 ticks after the start")
+def _(bench: Bench) -> None:
+    bench.lend_tape(RECORDS * _record(FULL, b"A" * CHARACTERS))
+    bench.open(b"C:", READ)
+    reply = bench.call(Command.GET_RECORD, length=1)
+    bench.same((CallReply(0x88, 1, 0), 32_001), (reply, bench.ticks))
+    bench.same(bytes([1, 250, 0, 0]), bench.tape[HEAD : HEAD + 4])
+
+
+@case(TAPE, "a record is judged at each character, as it lies: it goes bad, is good again, and has fewer than were read")
+def _(bench: Bench) -> None:
+    bench.lend_tape(AB_RECORD + END_RECORD)
+    bench.open(b"C:", READ)
+    bench.get(2, b"AB")
+    bench.lend_tape(AB_RECORD[:-1] + b"\0" + END_RECORD)
+    bench.get(1, b"", 0x8F)
+    bench.same(bytes([1, 0, 0, 2]), bench.tape[HEAD : HEAD + 4])
+    bench.lend_tape(_record(PARTIAL, b"xyzw") + END_RECORD)
+    bench.get(1, b"z")
+    bench.lend_tape(_record(PARTIAL, b"AB\x9b") + _record(PARTIAL, b"C") + END_RECORD)
+    bench.get(2, b"C", 0x88)
+    bench.same(bytes([1, 2, 0, 0]), bench.tape[HEAD : HEAD + 4])
+
+
+@case(TAPE, "fresh start in the middle of writing: closed, nothing pending, no end record; the tape's bytes stay")
+def _(bench: Bench) -> None:
+    bench.lend_tape(AB_RECORD + END_RECORD)
+    bench.open(b"C:", WRITE)
+    bench.put(b"A" * 130)
+    bench.fresh()
+    bench.same(_record(FULL, b"A" * CHARACTERS) + END_RECORD + bytes(32_736) + bytes(132), bench.tape)
+
+
+@case("manual, Cassette Handler", "EOL causes no special action; CIO's records begin and end in any of the tape's")
+def _(bench: Bench) -> None:
+    data = b"A" * 126 + b"\x9bBC\x9b\x9bD"
+    bench.lend_tape()
+    bench.open(b"C:", WRITE)
+    bench.put(data)
+    bench.same(CallReply(OK, 0, 0), bench.call(Command.CLOSE))
+    bench.open(b"C:", READ)
+    bench.get_record(200, b"A" * 126 + b"\x9b")
+    bench.get_record(200, b"BC\x9b")
+    bench.get_record(200, b"\x9b")
+    bench.get_record(200, b"D", 0x88)
+
+
+@case("manual, Cassette Handler", "number and filename are ignored; GET STATUS only sets $01; SPECIAL is $84")
+def _(bench: Bench) -> None:
+    for aux1 in (READ, WRITE, 0):
+        bench.lend_tape(AB_RECORD + END_RECORD)
+        bench.fresh()
+        bench.open(b"C3:NAME\x9b", aux1)
+        before = bench.tape
+        bench.same(CallReply(OK, 0, 0), bench.call(Command.GET_STATUS, aux1=WRITE))
+        bench.same(CallReply(0x84, 0, 0), bench.call(0x0E, aux1=WRITE))
+        bench.same(before, bench.tape)

@@ -165,7 +165,7 @@ class Stick:
     # files
 
     def open(self, specification: str | bytes, aux1: int, aux2: int = 0) -> File:
-        """Opens a device ("E:", "P2:") on the first block that is free here.
+        """Opens a device ("E:", "P2:", "C:") on the first block that is free here.
 
         ``aux1`` is made of READ, WRITE, FORCED and KEEP; ``aux2`` is the mode
         of S. A block that an earlier host left open raises ``AlreadyOpen``:
@@ -185,7 +185,8 @@ class Stick:
 
     def status(self, specification: str | bytes, aux1: int = 0, aux2: int = 0) -> int:
         """GET STATUS of a device that is not open: it is opened for it, with
-        all that an open does, and closed. The status is $01 or raised."""
+        all that an open does, and closed: of C with WRITE that overwrites the
+        tape's first record. The status is $01 or raised."""
         iocb = self._free_block()
         self._load_specification(specification)
         return self.call(iocb, Command.GET_STATUS, SPECIFICATION, 0, aux1, aux2).status

@@ -8,12 +8,14 @@ import sys
 from collections.abc import Callable
 from pathlib import Path
 
-from . import __version__, cases, demo, picture, screen, script, toolchain
+from . import __version__, cases, cassette, demo, files, picture, screen, script, tape, toolchain
+from .deck import Deck
 from .errors import StickError
 from .helps import HELPS
 from .log import Log
 from .play import Player
 from .toolchain import Missing
+from .words import Usage, operands, option
 
 HELP = f"""\
 stick: the I/O half of an Atari 400/800 between a laptop and a phone
@@ -21,30 +23,29 @@ stick: the I/O half of an Atari 400/800 between a laptop and a phone
   stick [demo]         two hosts at work at once, then one that waits
   stick live           the stick in this terminal, with a pseudo-terminal for
                        each host; --speed N ticks each port N times a second,
-                       --log FILE writes what each port does (stick live
-                       --help tells the keys)
+                       --log FILE writes what each port does, --tape FILE
+                       is the tape (stick live --help tells the keys)
   stick play SCRIPT    plays a call script in readable form and shows the
                        answers; - is standard input
   stick picture FILE   writes the screen as a PNG: of a drawing, or after the
                        call script of --script SCRIPT; - is standard output
   stick cases          plays the papers' cases and compares each
+  stick tape ..        tapes in files: import, export, list, check, read, make
+                       (stick tape --help)
   stick --unproved ..  the same words without the wait for a proof: the sources
                        are compiled without it, and every screen says so
   stick --help         this text; stick --version
 
 A call script has one op a line; # begins a comment (more: stick play --help):
   fresh | take PORT BYTES | tick PORT [x N] | give PORT [x N] | press CODE
-  lend BUFFER N | dump | raw BYTES         (BYTES and CODE are hexadecimal)
+  lend BUFFER N | write BUFFER AT BYTES | dump [tape] | raw BYTES
+                                           (BYTES and CODE are hexadecimal)
 
 What is needed is proved and built first; {toolchain.OVERRIDE} names another
 program in its place. The end status is 0; 1 if a run went wrong; 2 for a bad
 word or something missing.
 """
 UNPROVED = "--unproved"
-
-
-class Usage(StickError):
-    """Words that make no sense."""
 
 
 def main(words: list[str]) -> int:
@@ -113,26 +114,28 @@ def _run(words: list[str]) -> int:
         "play": _play,
         "picture": _picture,
         "cases": _cases,
+        "tape": _tape,
     }
     if word not in commands:
         raise Usage(f"unknown word '{word}' (try ./stick --help)")
     if "--help" in rest or "-h" in rest:
-        print(HELPS.get(word, HELP), end="")
+        print(HELPS.get(" ".join([word, *rest[:1]]), HELPS.get(word, HELP)), end="")
         return 0
     return commands[word](rest)
 
 
 def _demo(words: list[str]) -> int:
-    _operands("demo", words, 0)
+    operands("demo", words, 0)
     with Player(toolchain.play_command(say)) as player:
         demo.show(player)
     return 0
 
 
 def _live(words: list[str]) -> int:
-    words, speed = _option(words, "--speed")
-    words, log_name = _option(words, "--log")
-    _operands("live", words, 0)
+    words, speed = option(words, "--speed")
+    words, log_name = option(words, "--log")
+    words, tape_name = option(words, "--tape")
+    operands("live", words, 0)
     if speed is not None and not (speed.isascii() and speed.isdigit() and 0 < int(speed) <= 1_000_000):
         raise Usage(f"--speed takes a number from 1 to 1000000, not '{speed}'")
     if not (sys.stdin.isatty() and sys.stdout.isatty()):
@@ -143,11 +146,17 @@ def _live(words: list[str]) -> int:
         from . import live
     except ImportError as error:
         raise Missing(f"live needs Python's curses module: {error}") from error
+    if tape_name is not None and tape_name.startswith("-"):
+        raise Usage(f"--tape takes a file, not '{tape_name}'")
+    deck = Deck(tape_name)
     log = None if log_name is None else _open_log(log_name)
     with Player(toolchain.play_command(say)) as player:
         player.listener = log
+        if deck.is_new:
+            say(f"{tape_name} is new: the tape is blank")
         try:
-            saved = live.run(player, int(speed) if speed else live.SPEED, lambda text: print(text, flush=True))
+            deck.put_in(player)
+            saved = live.run(player, int(speed) if speed else live.SPEED, deck, lambda text: print(text, flush=True))
         except curses.error as error:
             raise Missing(f"live cannot use this terminal: {error}") from error
         finally:
@@ -158,70 +167,64 @@ def _live(words: list[str]) -> int:
         print(line)
     for file in saved:
         say(f"saved {file}")
+    for line in deck.words():
+        say(line)
     say(f"the stick is unplugged; its paper has {state.used} bytes")
-    if log is not None:
-        if log.fault:
-            raise StickError(f"{log_name}: {log.fault}; the log ends before the run did")
+    if log is not None and not log.fault:
         say(f"the log is {log_name}; ./stick play plays it again")
+    if deck.fault:
+        raise StickError(f"{deck.fault}; the tape is not saved")
+    if log is not None and log.fault:
+        raise StickError(f"{log_name}: {log.fault}; the log ends before the run did")
     return 0
 
 
 def _play(words: list[str]) -> int:
-    _operands("play", words, 1, "a SCRIPT")
+    operands("play", words, 1, "a SCRIPT")
     ops = _read_script(words[0])
     # Not a conversation: what is written before an early end is kept.
     done = subprocess.run(
         toolchain.play_command(say), input=script.to_bytes(ops), stdout=subprocess.PIPE, check=False
     )
-    for line in script.format_answers(ops, done.stdout, screen.shown):
+    for line in script.format_answers(ops, done.stdout, _shown):
         print(line)
     if len(done.stdout) < sum(op.output for op in ops):
         raise StickError("play ended before the script did")
     return 0
 
 
+def _shown(dump: script.State | script.Tape) -> list[str]:
+    return tape.shown(dump) if isinstance(dump, script.Tape) else screen.shown(dump)
+
+
 def _picture(words: list[str]) -> int:
-    words, script_name = _option(words, "--script")
-    _operands("picture", words, 1, "a FILE")
+    words, script_name = option(words, "--script")
+    operands("picture", words, 1, "a FILE")
     ops = None if script_name is None else _read_script(script_name)
     if ops and isinstance(ops[-1], script.Raw):
         raise Usage(f"{script_name}: the script ends the run, so that there is no picture after it")
-    _check_directory(words[0])
+    files.check_directory(words[0])
     with Player(toolchain.play_command(say)) as player:
         if ops is None:
             picture.draw(player)
         else:
             player.do(*ops)
         state = player.state()
-    _write(words[0], picture.png(state))
+    files.write(words[0], picture.png(state))
     return 0
 
 
 def _cases(words: list[str]) -> int:
-    _operands("cases", words, 0)
+    operands("cases", words, 0)
     with Player(toolchain.play_command(say)) as player:
         return 1 if cases.run(player, cases.CASES) else 0
 
 
-# words and files
+def _tape(words: list[str]) -> int:
+    return cassette.run(words, say)
 
 
-def _operands(word: str, words: list[str], count: int, what: str = "no more words") -> None:
-    wrong = [each for each in words if each.startswith("-") and each != "-"]
-    if wrong:
-        raise Usage(f"{word} has no option '{wrong[0]}' (try ./stick --help)")
-    if len(words) != count:
-        raise Usage(f"{word} takes {what}{' and no more words' if count else ''} (try ./stick --help)")
-
-
-def _option(words: list[str], name: str) -> tuple[list[str], str | None]:
-    """The words without an option, and its operand."""
-    if name not in words:
-        return words, None
-    at = words.index(name)
-    if at + 1 == len(words):
-        raise Usage(f"{name} needs a word after it")
-    return words[:at] + words[at + 2 :], words[at + 1]
+# files
 
 
 def _read_script(file: str) -> list[script.Op]:
@@ -244,27 +247,3 @@ def _open_log(file: str) -> Log:
         return Log(open(file, "w", encoding="utf-8"))
     except OSError as error:
         raise Missing(f"{file}: {error.strerror}") from error
-
-
-def _check_directory(file: str) -> None:
-    """Before anything runs: can the file be written where it is to be?"""
-    if file != "-" and (Path(file).is_dir() or not Path(file).absolute().parent.is_dir()):
-        raise Missing(f"{file}: no file can be written there")
-
-
-def _write(file: str, data: bytes) -> None:
-    """Writes a file whole or not at all: an older one stays until then."""
-    if file == "-":
-        sys.stdout.buffer.write(data)
-        return
-    path = Path(file)
-    if path.exists() and not path.is_file():
-        path.write_bytes(data)  # a device or a pipe
-        return
-    part = path.with_name(f".{path.name}.part")
-    try:
-        part.write_bytes(data)
-        part.replace(path)
-    except OSError as error:
-        part.unlink(missing_ok=True)
-        raise StickError(f"{file}: {error.strerror}") from error

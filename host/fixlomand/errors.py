@@ -48,7 +48,7 @@ class StatusError(StickError):
 
 class AlreadyOpen(StatusError):
     number = 0x81
-    meaning = "OPEN on an open block"
+    meaning = "OPEN on an open block, or of C while any block has it open"
 
 
 class UnknownDevice(StatusError):
@@ -83,7 +83,7 @@ class NotWritable(StatusError):
 
 class EndOfFile(StatusError):
     number = 0x88
-    meaning = "end of file from K"
+    meaning = "end of file from K or C"
 
 
 class RecordCut(StatusError):
@@ -96,9 +96,14 @@ class CursorPastLastRow(StatusError):
     meaning = "S cursor past the last row"
 
 
+class Checksum(StatusError):
+    number = 0x8F
+    meaning = "data frame checksum error: a bad record on the tape"
+
+
 class PaperFull(StatusError):
     number = 0x90
-    meaning = "paper full"
+    meaning = "paper or tape full"
 
 
 class ScreenMode(StatusError):

@@ -1,15 +1,22 @@
-"""What the words ``live`` and ``play`` of the command say of themselves."""
+"""What the words ``live``, ``play`` and ``tape`` of the command say of
+themselves."""
 
 LIVE_HELP = """\
-stick live [--speed N] [--log FILE]: the stick in this terminal
+stick live [--speed N] [--log FILE] [--tape FILE]: the stick in this terminal
 
 Each port has a pseudo-terminal, named in the first line: a host opens it as it
-would a serial port. Below are the screen, what each port does, and the paper.
+would a serial port. Below are the screen, what each port does, the tape and
+the paper.
 
   --speed N    ticks of each port in a second, 1 to 1000000; 20000 if not given
   --log FILE   writes what each port does. A line that begins with # has the
                seconds, the port, and the message in words or its status by
                name; under it are the calls. stick play FILE plays it again.
+  --tape FILE  the tape of C: a TAPE of 33000 bytes or, by its name, a .cas
+               file; if there is none it begins blank. After each CLOSE that
+               wrote on the tape, and at the end, it is written as a new file
+               that is then renamed. Without --tape the tape begins blank, and
+               is not kept.
 
 Keys are those of the stick's keyboard, with Shift and Ctrl as typed. The stick
 keeps one key: what is typed faster than a host reads waits here, in order.
@@ -34,12 +41,16 @@ SCRIPT is a file, or - for standard input: one op a line; # begins a comment.
   give PORT [x N]     takes the next byte of a port's reply; with x, N times
   press CODE          presses a key
   lend BUFFER LENGTH  from now on a buffer is lent with its first LENGTH bytes
-  dump                shows all numbers, and screen and paper as text
+  write BUFFER AT BYTES
+                      writes bytes into a buffer from byte AT on: no call
+  dump [tape]         shows all numbers, and screen and paper as text; with
+                      tape, the tape's records and where its head stands
   raw BYTES           bytes of the script as they are: no op, or a part of one
 
 PORT is 0 or 1 (2 to 255 can be tried: the stick refuses them). BYTES and CODE
-are hexadecimal, 00 to FF. N is 0 to 65535, LENGTH 0 to 16777215. BUFFER is 0 or
-area, 1 or screen, 2 or paper, 3 or state.
+are hexadecimal, 00 to FF. N is 0 to 65535, LENGTH and AT 0 to 16777215. BUFFER
+is 0 or area, 1 or screen, 2 or paper, 3 or state, 4 or tape; state cannot be
+written.
 
 To LOAD "E:" and an EOL at 0:
   take 0 11 05 00 00 00 45 3A 9B
@@ -49,4 +60,99 @@ To LOAD "E:" and an EOL at 0:
 stick live --log FILE writes such a script.
 """
 
-HELPS = {"live": LIVE_HELP, "play": PLAY_HELP}
+TAPE_HELP = """\
+stick tape WORD ..: tapes in files
+
+  stick tape import FILE.cas TAPE [--file N]     a CAS file becomes a tape
+  stick tape export TAPE FILE.cas                a tape becomes a CAS file
+  stick tape list TAPE                           shows each record
+  stick tape check TAPE                          looks for bad records
+  stick tape read TAPE OUT [--file N] [--text]   what a host reads
+  stick tape make TAPE FILE                      what a host writes
+
+A TAPE is a file of 33000 bytes, 250 records of 132: $55, $55, a control byte
+($FC full, $FA partial, $FE end), 128 data bytes, a checksum. Wherever a TAPE is
+read it may be a .cas file, a cassette image in the CAS format. Files are
+written as new ones that are then renamed: an older one stays until then.
+Import, export, list and check look at the files alone; read and make are hosts
+at the stick, which is proved and built first.
+
+stick tape WORD --help tells more. stick live --tape FILE puts a tape in.
+"""
+
+IMPORT_HELP = """\
+stick tape import FILE.cas TAPE [--file N]: a CAS file becomes a tape
+
+Each data chunk, of 132 bytes, is a record; what is behind the last record of
+the TAPE becomes zero. Any gap and any baud number is taken, and the text of
+FUJI is skipped. Refused are a data chunk of another length, the chunks fsk and
+pwm?, which are signals and not records, unknown types, a chunk that is cut
+short, and more than 250 records. Records that would read as $8F are taken, and
+named; so is a tape without an end record.
+
+  --file N   takes the Nth file alone, from 1 on: OPEN always begins at record
+             0, so that of several files a host reads only the first
+"""
+
+EXPORT_HELP = """\
+stick tape export TAPE FILE.cas: a tape becomes a CAS file
+
+Written are the records through the last end record, at 600 baud, after a gap
+of 20000 ms before the first and 3000 ms before each other. A tape without an
+end record is written through its last record, and you are told. FILE.cas may
+be -, for standard output.
+"""
+
+LIST_HELP = """\
+stick tape list TAPE: shows each record of a TAPE or .cas file
+
+Of each record its kind, how many characters it has, whether its checksum is
+right, and its text; where each file begins and ends; of a .cas file also the
+gap before the record in ms, and the baud number. A record that says "reads as
+$8F" is bad, and why is told. In the text an EOL ends a line, and characters
+in inverse video are shown plain.
+"""
+
+CHECK_HELP = """\
+stick tape check TAPE: looks for bad records in a TAPE or .cas file
+
+Names each record that reads as $8F, a file without an end record, and more
+records than a tape has. The end status is 0 if there is nothing to name, else
+1. What nothing reads is not judged: the two $55, an end record's data, and the
+unused bytes of a partial record; only the checksum covers them.
+"""
+
+READ_HELP = """\
+stick tape read TAPE OUT [--file N] [--text]: what a host reads of a tape
+
+Opens C on the stick, reads to the end of the file, and writes what came to
+OUT, or - for standard output. At a bad record ($8F) it ends: OUT has what was
+read before, the place is told, and the end status is 1.
+
+  --file N   reads the Nth file, from 1 on, as if it were alone on the tape
+  --text     EOLs become newlines; other bytes above $7F, which are characters
+             in inverse video, are written without the high bit, and you are
+             told how many; bytes up to $7F stay as they are
+"""
+
+MAKE_HELP = """\
+stick tape make TAPE FILE: what a host writes to a tape
+
+Opens C on the stick, writes the bytes of FILE, or - for standard input, and
+closes it. The TAPE (or .cas file) is new: behind the end record it is blank.
+FILE has at most 31872 bytes: for more the stick answers $90, and no TAPE is
+written. For a text whose lines are to end with EOL:
+  tr '\\n' '\\233' <FILE | stick tape make TAPE -
+"""
+
+HELPS = {
+    "live": LIVE_HELP,
+    "play": PLAY_HELP,
+    "tape": TAPE_HELP,
+    "tape import": IMPORT_HELP,
+    "tape export": EXPORT_HELP,
+    "tape list": LIST_HELP,
+    "tape check": CHECK_HELP,
+    "tape read": READ_HELP,
+    "tape make": MAKE_HELP,
+}

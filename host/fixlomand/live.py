@@ -17,6 +17,8 @@ from pathlib import Path
 from types import FrameType
 
 from . import keys, picture, screen, script
+from .deck import Deck
+from .errors import StickError
 from .play import CONSOLE_HELD, Player
 from .ports import Port
 from .view import View
@@ -91,11 +93,13 @@ class Plug:
 
 
 class Live:
-    """What goes on between the terminal, the two plugs and the stick."""
+    """What goes on between the terminal, the two plugs, the stick and its
+    tape."""
 
-    def __init__(self, player: Player, speed: int) -> None:
+    def __init__(self, player: Player, speed: int, deck: Deck) -> None:
         self._player = player
         self._speed = speed
+        self._deck = deck
         self.plugs = [Plug(Port(player, number)) for number in (0, 1)]
         self._typed: deque[int] = deque()
         """Keys that are not pressed yet, the oldest first."""
@@ -126,7 +130,7 @@ class Live:
                 self._notice, changed = "", True
             # A dump may be slow; most of the time is for the hosts.
             if changed and now - drawn >= max(FRESH, 3 * cost):
-                view.draw(self._player.state(), ports, len(self._typed), self._notice)
+                view.draw(self._player.state(), self._player.tape(), ports, len(self._typed), self._notice)
                 drawn, changed = now, any(port.under_way for port in ports)
                 cost = time.monotonic() - now
             self._rest(changed)
@@ -134,6 +138,13 @@ class Live:
     def stop(self) -> None:
         """Ends ``run``."""
         self._stopped = True
+
+    def take_out(self) -> None:
+        """Writes the tape's file, if that is due."""
+        try:
+            self._deck.take_out(self._player)
+        except StickError:
+            pass  # play has ended, which is told already, and its tape with it
 
     def close(self) -> None:
         """Takes the plugs away."""
@@ -147,10 +158,20 @@ class Live:
         moved = False
         end = time.monotonic() + FRESH / 2  # a slow play must not hold up the keys
         for done in range(0, ticks, SLICE):
-            busy = [plug.move() | plug.port.step(min(SLICE, ticks - done)) for plug in self.plugs]
+            busy = [self._step(plug, min(SLICE, ticks - done)) for plug in self.plugs]
             moved |= any(busy)
             if not any(busy) or time.monotonic() > end:
                 break
+        return moved
+
+    def _step(self, plug: Plug, ticks: int) -> bool:
+        """Moves bytes and ticks the port; false if there was nothing to do. A
+        tape that was written is kept at once, before anything else can open
+        it again."""
+        before = plug.port.closes
+        moved = plug.move() | plug.port.step(ticks)
+        if plug.port.closes != before and self._deck.keep(self._player):
+            self._say(self._deck.fault or f"the tape is saved in {self._deck.file}")
         return moved
 
     def _keys(self, window: curses.window) -> bool:
@@ -235,10 +256,10 @@ class Live:
                 self.stop()
 
 
-def run(player: Player, speed: int, say: Callable[[str], None]) -> list[str]:
+def run(player: Player, speed: int, deck: Deck, say: Callable[[str], None]) -> list[str]:
     """Runs the stick in this terminal until somebody quits; the files that
-    were saved meanwhile."""
-    live = Live(player, speed)
+    were saved meanwhile, beside the tape's."""
+    live = Live(player, speed, deck)
 
     def stop(number: int, frame: FrameType | None) -> None:
         live.stop()
@@ -251,6 +272,7 @@ def run(player: Player, speed: int, say: Callable[[str], None]) -> list[str]:
         os.environ.setdefault("ESCDELAY", "25")
         curses.wrapper(_in_window, live)
     finally:
+        live.take_out()  # while a signal that ends the program does not
         live.close()
         for number, handler in before.items():
             signal.signal(number, handler)

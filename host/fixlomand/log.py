@@ -12,7 +12,7 @@ from collections.abc import Callable, Sequence
 from datetime import datetime
 from typing import TextIO
 
-from . import errors, keys, ports, script, wire
+from . import errors, keys, ports, script, tape, wire
 from .play import CONSOLE_HELD, GROUP_HELD
 
 NO_REPLY = 5
@@ -36,6 +36,8 @@ class Log:
         self._messages = (bytearray(), bytearray())
         self._replies = (bytearray(), bytearray())
         self._waits = [False, False]
+        self._tape = b""
+        """What the last dump of the tape wrote."""
         self.fault = ""
         """Why nothing more is written, if so."""
         self._write(f"# ./stick live, {datetime.now():%Y-%m-%d %H:%M:%S}: seconds, port, what it did\nfresh\n")
@@ -54,18 +56,24 @@ class Log:
                 if output[0] == 0:
                     self._put(op)
                     self._flush(f"key {key_words(op.code)}")
+            elif isinstance(op, script.Write):
+                self._put(op)
+            elif isinstance(op, script.DumpTape):
+                self._tape = output
             elif not isinstance(op, script.Dump):
                 self._put(op)
                 self._flush(f"answered {script.describe(op, output)}")
 
     def close(self) -> None:
-        """Writes what is left, and a dump of all."""
+        """Writes what is left, and dumps of all."""
         self._flush()
         for port, message in enumerate(self._messages):
             if message and _missing(message):
                 self._note(f"port {port}: {len(message)} bytes of a message that did not come whole")
+        if self._tape:
+            self._note(f"tape, {tape.words(script.read_tape(self._tape))}")
         self._note("unplugged")
-        self._write("dump\n")
+        self._write("dump\ndump tape\n")
         try:
             self._file.close()
         except OSError as error:

@@ -56,6 +56,10 @@ class Player:
         """What a dump tells."""
         return script.read_dump(self.do(script.Dump())[0])
 
+    def tape(self) -> script.Tape:
+        """What a dump of the tape tells."""
+        return script.read_tape(self.do(script.DumpTape())[0])
+
     def close(self) -> None:
         """Ends the program."""
         try:
@@ -91,14 +95,12 @@ class PlayPort:
 
     def read(self, size: int) -> bytes:
         """Up to ``size`` bytes of the reply; none if nothing is under way."""
-        data = b""
-        while len(data) < size:
-            answer, byte = self._player.do(script.Give(self._port))[0]
-            if answer == 0:
-                data += bytes([byte])
-            elif data or not self._tick():
-                break
-        return data
+        while True:
+            # All at once: those behind the reply's last byte are refused and change nothing.
+            given = self._player.do(*[script.Give(self._port)] * size)
+            data = bytes(byte for answer, byte in given if answer == 0)
+            if data or not self._tick():
+                return data
 
     def _tick(self) -> bool:
         """Moves on what is under way; false if nothing is."""

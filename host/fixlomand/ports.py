@@ -9,6 +9,7 @@ from __future__ import annotations
 from . import script
 from .errors import StickError
 from .play import GROUP_HELD, Player
+from .wire import closes
 from .wire import name as name
 
 
@@ -27,6 +28,8 @@ class Port:
         """What was taken of the message that is gathered or under way."""
         self.requests = 0
         """Replies given."""
+        self.closes = 0
+        """Replies given to CALLs that may have closed a block."""
         self.refused = 0
         """Ticks answered 8: the other port holds the group."""
         self.waits = False
@@ -74,6 +77,7 @@ class Port:
             reply = bytes(byte for _, byte in header)
             length = int.from_bytes(reply[1:], "little")
             self.outbox += reply + bytes(byte for _, byte in self._player.do(*[give] * length))
+            self.closes += closes(self.message)
             self.message.clear()
             self.requests += 1
 
@@ -98,4 +102,4 @@ def describe(port: Port, state: script.State) -> str:
 
 def group(device: str) -> str:
     """The group of a device."""
-    return "printer" if device == "P" else "console"
+    return {"P": "printer", "C": "tape"}.get(device, "console")

@@ -9,8 +9,11 @@ The readable form has one op a line; ``#`` begins a comment::
     give 0                   G
     give 0 x 4               G, four times
     press 3F                 P (hexadecimal)
-    lend area 100            L: area, screen, paper, state, or 0 to 3
+    lend area 100            L: area, screen, paper, state, tape, or 0 to 4
+    write tape 132 55 55     W: area, screen, paper, tape, from a place on
+                             (the bytes hexadecimal)
     dump                     D
+    dump tape                C: the tape, and where its head stands
     raw 54 00                bytes as they are (no op, or one that is cut)
 """
 
@@ -24,7 +27,14 @@ from typing import Union
 AREA = 16_384
 SCREEN = 61_440
 PAPER = 4_096
-BUFFERS = ("area", "screen", "paper", "state")
+TAPE = 33_000
+PENDING = 128
+"""The bytes of a tape's dump for pending characters."""
+BUFFERS = ("area", "screen", "paper", "state", "tape")
+WRITTEN = (0, 1, 2, 4)
+"""The buffers that W writes into; into another it writes nothing."""
+MARKS = ("closed", "reading", "writing", "open with neither R nor W")
+"""How the tape is open, by its mark."""
 PHASES = ("gathering", "ready", "running", "replying")
 ANSWERS = (
     "done",
@@ -52,6 +62,9 @@ NUMBERS = (
 """The numbers of a dump after area, screen and paper: name, bytes."""
 DUMP = 2 * AREA + SCREEN + PAPER + sum(length for _, length in NUMBERS) + 2 * 8 * 4 + 2
 """The bytes of a dump."""
+TAPE_DUMP = TAPE + 4 + PENDING
+"""The bytes of a tape's dump: the tape, its mark, record (2) and place, and
+the pending characters."""
 TAKES = 16
 """The most bytes of a take on one line."""
 
@@ -140,13 +153,37 @@ class Lend:
 
 
 @dataclass(frozen=True)
+class Write:
+    """Write bytes into a buffer from ``at`` on, cut at its end: no call."""
+
+    buffer: int
+    at: int
+    data: bytes
+    output = 0
+
+    def encode(self) -> bytes:
+        numbers = self.at.to_bytes(3, "little") + len(self.data).to_bytes(2, "little")
+        return bytes([ord("W"), self.buffer]) + numbers + self.data
+
+
+@dataclass(frozen=True)
 class Dump:
-    """Dump all."""
+    """Dump all but the tape."""
 
     output = DUMP
 
     def encode(self) -> bytes:
         return b"D"
+
+
+@dataclass(frozen=True)
+class DumpTape:
+    """Dump the tape."""
+
+    output = TAPE_DUMP
+
+    def encode(self) -> bytes:
+        return b"C"
 
 
 @dataclass(frozen=True)
@@ -160,7 +197,7 @@ class Raw:
         return self.data
 
 
-Op = Union[Fresh, Take, Tick, Give, Press, Ticks, Lend, Dump, Raw]
+Op = Union[Fresh, Take, Tick, Give, Press, Ticks, Lend, Write, Dump, DumpTape, Raw]
 
 
 def to_bytes(ops: Sequence[Op]) -> bytes:
@@ -170,12 +207,14 @@ def to_bytes(ops: Sequence[Op]) -> bytes:
 
 def from_bytes(script: bytes) -> list[Op]:
     """The ops of a script; what ends its run is the last, as ``Raw``."""
-    lengths = {b"F": 1, b"T": 3, b"K": 2, b"G": 2, b"P": 2, b"X": 4, b"L": 5, b"D": 1}
+    lengths = {b"F": 1, b"T": 3, b"K": 2, b"G": 2, b"P": 2, b"X": 4, b"L": 5, b"W": 7, b"D": 1, b"C": 1}
     ops: list[Op] = []
     at = 0
     while at < len(script):
         letter = script[at : at + 1]
         length = lengths.get(letter, 0)
+        if letter == b"W":
+            length += int.from_bytes(script[at + 5 : at + 7], "little")
         if length == 0 or at + length > len(script):
             ops.append(Raw(script[at:]))
             break
@@ -189,6 +228,10 @@ def _op(letter: bytes, operands: bytes) -> Op:
         return Fresh()
     if letter == b"D":
         return Dump()
+    if letter == b"C":
+        return DumpTape()
+    if letter == b"W":
+        return Write(operands[0], int.from_bytes(operands[1:4], "little"), operands[6:])
     first, rest = operands[0], int.from_bytes(operands[1:], "little")
     if letter == b"T":
         return Take(first, rest)
@@ -227,7 +270,8 @@ FORMS = {
     "give": "give PORT [x N]",
     "press": "press CODE",
     "lend": "lend BUFFER LENGTH",
-    "dump": "dump",
+    "write": "write BUFFER AT BYTES",
+    "dump": "dump [tape]",
     "raw": "raw BYTES",
 }
 """The form of each op's line."""
@@ -249,12 +293,11 @@ def _byte(field: str, word: str) -> int:
     return int(word, 16)
 
 
-def _buffer(word: str) -> int:
-    names = ", ".join(f"{number} {name}" for number, name in enumerate(BUFFERS))
-    if word in BUFFERS:
-        return BUFFERS.index(word)
-    if word.isascii() and word.isdigit() and int(word) < len(BUFFERS):
-        return int(word)
+def _buffer(word: str, among: Sequence[int] = range(len(BUFFERS))) -> int:
+    for number in among:
+        if word in (BUFFERS[number], str(number)):
+            return number
+    names = ", ".join(f"{number} {BUFFERS[number]}" for number in among)
     raise ScriptError(f"buffer {word}: there is none; the buffers are {names}")
 
 
@@ -266,6 +309,8 @@ def _line_ops(words: list[str]) -> list[Op]:
         return [Fresh()]
     if name == "dump" and not operands:
         return [Dump()]
+    if name == "dump" and operands == ["tape"]:
+        return [DumpTape()]
     if name == "take" and len(operands) > 1:
         port = _number("port", operands[0], 255)
         return [Take(port, _byte("byte", word)) for word in operands[1:]]
@@ -279,6 +324,11 @@ def _line_ops(words: list[str]) -> list[Op]:
         return [Press(_byte("code", operands[0]))]
     if name == "lend" and len(operands) == 2:
         return [Lend(_buffer(operands[0]), _number("length", operands[1], 0xFFFFFF))]
+    if name == "write" and len(operands) > 1:
+        buffer, at = _buffer(operands[0], WRITTEN), _number("place", operands[1], 0xFFFFFF)
+        if len(operands) - 2 > 0xFFFF:
+            raise ScriptError(f"{len(operands) - 2} bytes: at most {0xFFFF}")
+        return [Write(buffer, at, bytes(_byte("byte", word) for word in operands[2:]))]
     if name == "raw" and operands:
         return [Raw(bytes(_byte("byte", word) for word in operands))]
     raise ScriptError(f"{' '.join(words)}: not of the form {FORMS[name]}")
@@ -329,8 +379,12 @@ def _line(op: Op) -> str:
         return f"tick {op.port} x {op.count}"
     if isinstance(op, Lend) and op.buffer < len(BUFFERS):
         return f"lend {BUFFERS[op.buffer]} {op.length}"
+    if isinstance(op, Write) and op.buffer in WRITTEN:
+        return f"write {BUFFERS[op.buffer]} {op.at} {_hexadecimal(op.data)}".rstrip()
     if isinstance(op, Dump):
         return "dump"
+    if isinstance(op, DumpTape):
+        return "dump tape"
     return f"raw {_hexadecimal(op.encode())}"
 
 
@@ -371,6 +425,30 @@ class State:
     inverse: int
     blocks: tuple[tuple[Block, ...], tuple[Block, ...]]
     phases: tuple[int, int]
+
+
+@dataclass(frozen=True)
+class Tape:
+    """What a dump of the tape tells."""
+
+    data: bytes
+    mark: int
+    """0 closed, 1 reading, 2 writing, 3 open with neither R nor W."""
+    record: int
+    """The record that holds or takes the next character."""
+    place: int
+    """The next character's place in it; in writing, the number pending."""
+    pending: bytes
+    """The characters put that are not on the tape."""
+
+
+def read_tape(output: bytes) -> Tape:
+    """Reads what ``dump tape`` wrote."""
+    if len(output) != TAPE_DUMP:
+        raise ValueError(f"a tape's dump has {TAPE_DUMP} bytes, not {len(output)}")
+    mark, record, place = output[TAPE], int.from_bytes(output[TAPE + 1 : TAPE + 3], "little"), output[TAPE + 3]
+    pending = output[TAPE + 4 : TAPE + 4 + place] if mark == MARKS.index("writing") else b""
+    return Tape(output[:TAPE], mark, record, place, pending)
 
 
 def read_dump(output: bytes) -> State:
@@ -423,10 +501,12 @@ def describe(op: Op, output: bytes) -> str:
         return f"{answer_text(output[0])}, byte {output[1]:02X}"
     if isinstance(op, Ticks):
         return f"ticks {int.from_bytes(output[:2], 'little')}, last {answer_text(output[2])}"
-    if isinstance(op, (Lend, Raw)):
+    if isinstance(op, (Lend, Write, Raw)):
         return "nothing"
     if isinstance(op, Dump):
         return _describe_dump(output)
+    if isinstance(op, DumpTape):
+        return _describe_tape(read_tape(output))
     return answer_text(output[0])
 
 
@@ -444,8 +524,14 @@ def _describe_dump(output: bytes) -> str:
     return ", ".join(parts)
 
 
+def _describe_tape(tape: Tape) -> str:
+    """The numbers of a tape's dump on one line."""
+    mark = MARKS[tape.mark] if tape.mark < len(MARKS) else "no such mark"
+    return f"mark {tape.mark} {mark}, record {tape.record}, place {tape.place}"
+
+
 def format_answers(
-    ops: Sequence[Op], output: bytes, shown: Callable[[State], list[str]] = lambda state: []
+    ops: Sequence[Op], output: bytes, shown: Callable[[Union[State, Tape]], list[str]] = lambda dump: []
 ) -> list[str]:
     """The lines of a script, each with what was written for it; after a dump
     the lines that show it."""
@@ -459,6 +545,8 @@ def format_answers(
         lines.append(f"{line}: {_together(pieces)}" if of_line[0].output else line)
         if isinstance(of_line[0], Dump) and len(pieces[0][1]) == DUMP:
             lines += shown(read_dump(pieces[0][1]))
+        if isinstance(of_line[0], DumpTape) and len(pieces[0][1]) == TAPE_DUMP:
+            lines += shown(read_tape(pieces[0][1]))
     return lines
 
 

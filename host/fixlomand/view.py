@@ -1,4 +1,4 @@
-"""The console, the paper and the ports, drawn with curses."""
+"""The console, the paper, the tape and the ports, drawn with curses."""
 
 from __future__ import annotations
 
@@ -7,9 +7,9 @@ import locale
 import textwrap
 from collections.abc import Sequence
 
-from . import ports, screen, toolchain
+from . import ports, screen, tape, toolchain
 from .keys import LOCKS
-from .script import State
+from .script import State, Tape
 
 FOOT = (
     ("F1 inverse", "F1 inv"),
@@ -73,7 +73,7 @@ class View:
                 curses.init_pair(1 + 4 * upper + lower, colours[upper], colours[lower])
         return True
 
-    def draw(self, state: State, both: Sequence[ports.Port], waiting: int = 0, notice: str = "") -> None:
+    def draw(self, state: State, reel: Tape, both: Sequence[ports.Port], waiting: int = 0, notice: str = "") -> None:
         """Draws all; so many keys wait to be pressed, and a notice is at the
         foot in place of the keys."""
         self._window.erase()
@@ -87,7 +87,7 @@ class View:
             self._text(state, rows)
         else:
             self._graphics(state, room, rows)
-        self._panel(state, both, waiting, room + 2, rows)
+        self._panel(state, reel, both, waiting, room + 2, rows)
         for place, line in enumerate([notice] if notice else last):
             self._put(1 + rows + place, 0, line, curses.A_REVERSE)
         self._window.refresh()
@@ -130,9 +130,11 @@ class View:
                 pair = curses.color_pair(1 + 4 * (above % 4) + below % 4)
                 self._put(1 + place, column, UPPER_HALF, pair)
 
-    def _panel(self, state: State, both: Sequence[ports.Port], waiting: int, column: int, height: int) -> None:
-        """The ports, the keyboard and the end of the paper. What is too long
-        for a narrow window goes on in the next line."""
+    def _panel(
+        self, state: State, reel: Tape, both: Sequence[ports.Port], waiting: int, column: int, height: int
+    ) -> None:
+        """The ports, the keyboard, the tape and the end of the paper. What is
+        too long for a narrow window goes on in the next line."""
         lines: list[tuple[str, int]] = []
         for port, name in zip(both, ("laptop", "phone")):
             lines.append((f"port {port.number}, {name}: {port.requests} requests", curses.A_BOLD))
@@ -144,6 +146,8 @@ class View:
         lines.append((f"key {key}, {LOCKS[state.lock]}{inverse}", 0))
         if waiting:
             lines.append((f"  {waiting} more {'keys wait' if waiting > 1 else 'key waits'}", 0))
+        lines.append((f"tape, {tape.summary(tape.records_of(reel.data))}", curses.A_BOLD))
+        lines.append((f"  {tape.head_words(reel)}", 0))
         lines.append((f"paper, {state.used} of 4096 bytes", curses.A_BOLD))
         width = max(MARGIN, self._window.getmaxyx()[1] - 1 - column)
         lines = [(part, attribute) for text, attribute in lines for part in _wrapped(text, width)]

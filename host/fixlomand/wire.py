@@ -100,6 +100,12 @@ def name(message: bytes) -> str:
     return Tag(tag).name if tag in list(Tag) else f"tag ${tag:02X}"
 
 
+def closes(message: bytes) -> bool:
+    """Whether a whole message may close a block: GET STATUS and SPECIAL close
+    what they have opened."""
+    return message[0] == Tag.CALL and len(message) == 12 and message[4] >= Command.CLOSE
+
+
 # what finds a port's place, whatever it has taken before
 
 ZEROS = tuple(1 << power for power in range(9))

@@ -188,6 +188,22 @@ class Board(unittest.TestCase):
         self.assertEqual(read_keys(keyboard, 11), b"bandages 8\x9b")
         self.assertRaises(errors.EndOfFile, keyboard.get_character)
 
+    def test_the_tape(self) -> None:
+        """Both hosts have the one tape; it is bad before it is written, and outlasts a fresh start."""
+        with self.assertRaises(errors.Checksum):
+            self.phone.open("C:", READ).get_character()
+        self.assertRaises(errors.AlreadyOpen, self.laptop.open, "C:", WRITE)
+        self.phone.close_all()
+        tape = self.laptop.open("C:", WRITE)
+        for number in range(20):
+            tape.put_record(b"item %d" % number)
+        self.laptop.close_all()
+        self.tell("damage")
+        self.wait_for(lambda: RESTARTED in self.says(), "the fresh start")
+        tape = self.phone.open("C:", READ)
+        self.assertEqual([tape.get_record(40) for _ in range(20)], [b"item %d\x9b" % number for number in range(20)])
+        self.assertRaises(errors.EndOfFile, tape.get_record, 40)
+
     def test_what_is_no_key(self) -> None:
         keyboard = self.phone.open("K:", READ)
         for line in ("15 3G", "100", "", "15,3F", "shout"):

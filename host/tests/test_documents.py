@@ -37,7 +37,7 @@ class Hosts(unittest.TestCase):
 
     @unittest.skipUnless(PLAY, NO_PLAY)
     def test_the_examples(self) -> None:
-        for document, length in ((HOSTS, 9), (README, 4)):
+        for document, length in ((HOSTS, 19), (README, 4)):
             text = document.read_text(encoding="utf-8")
             rows = re.findall(r"^\| `([0-9A-F ]+)` \| `([0-9A-F ]+)` \|", text, re.MULTILINE)
             self.assertEqual(len(rows), length)
@@ -168,7 +168,7 @@ class Crates(unittest.TestCase):
 
 class Changing(unittest.TestCase):
     def test_all_is_there(self) -> None:
-        """Each path, and each name but those of the tape, which is an example."""
+        """Each path, and each name but those of the diskette drive, which is an example."""
         files = [
             file
             for folder in ("crates", "host", "model/src", "model/tests", "firmware", "docs")
@@ -179,7 +179,7 @@ class Changing(unittest.TestCase):
         for file in files:
             names |= set(re.findall(r"[\w-]+", file.read_text(encoding="utf-8")))
         for word in re.findall(r"`([^`]+)`", CHANGING.read_text(encoding="utf-8")):
-            if "tape" in word.lower():
+            if "disk" in word.lower():
                 continue
             if "/" in word or word.endswith(".txt"):
                 self.assertTrue((REPOSITORY / "crates" / word).exists() or (REPOSITORY / word).exists(), word)

@@ -38,9 +38,9 @@ PROGRAM = r"""
 #endif
 
 static uint8_t state[FIXLOMAND_STATE_LEN], area[FIXLOMAND_AREA_LEN];
-static uint8_t screen[FIXLOMAND_SCREEN_LEN], paper[FIXLOMAND_PAPER_LEN];
+static uint8_t screen[FIXLOMAND_SCREEN_LEN], paper[FIXLOMAND_PAPER_LEN], tape[FIXLOMAND_TAPE_LEN];
 
-#define LENT state, sizeof state, area, sizeof area, screen, sizeof screen, paper, sizeof paper
+#define LENT state, sizeof state, area, sizeof area, screen, sizeof screen, paper, sizeof paper, tape, sizeof tape
 
 static void request(const uint8_t *message, size_t length)
 {

@@ -4,69 +4,25 @@ from __future__ import annotations
 
 import os
 import re
-import select
 import shutil
 import signal
-import tempfile
 import threading
 import time
 import unittest
-from pathlib import Path
 
 from fixlomand import errors, view
-from fixlomand.cio import EOL, FORCED, READ, WRITE, File, Stick
+from fixlomand.cio import EOL, FORCED, READ, WRITE, File
 from fixlomand.picture import drawing
 
+from .living import Living
 from .running import NO_PLAY, PLAY, STICK, run
 from .terminal import PATIENCE, Terminal
 
 F7, F8 = b"\x1b[18~", b"\x1b[19~"
 
 
-class Line:
-    """A host's end of a pseudo-terminal; a reply that is late is an end."""
-
-    def __init__(self, path: str) -> None:
-        self._file = os.open(path, os.O_RDWR | os.O_NOCTTY)
-
-    def read(self, size: int) -> bytes:
-        return os.read(self._file, size) if select.select([self._file], [], [], PATIENCE)[0] else b""
-
-    def write(self, data: bytes) -> int:
-        return os.write(self._file, data)
-
-    def close(self) -> None:
-        os.close(self._file)
-
-
 @unittest.skipUnless(PLAY, NO_PLAY)
-class Live(unittest.TestCase):
-    def start(
-        self, *words: str, rows: int = 30, columns: int = 120, kind: str = "xterm", language: str = "C.UTF-8"
-    ) -> tuple[Terminal, Stick, Stick]:
-        folder = tempfile.TemporaryDirectory()
-        self.addCleanup(folder.cleanup)
-        self.folder = Path(folder.name)
-        inside = ["sh", "-c", 'cd "$0" && exec "$@"', folder.name, "env", f"LC_ALL={language}"]
-        terminal = Terminal([*inside, STICK, "live", *words], rows, columns, kind)
-        self.addCleanup(terminal.close)
-        terminal.wait_for_text("phone: 0")
-        found = [re.search(rf"{name}: (\S+)", terminal.written.decode()) for name in ("laptop", "phone")]
-        lines = [Line(match[1]) for match in found if match]
-        for line in lines:
-            self.addCleanup(line.close)
-        laptop, phone = map(Stick, lines)
-        return terminal, laptop, phone
-
-    def end(self, terminal: Terminal, key: bytes = b"\x03") -> bytes:
-        """Quits; what is written after the window is gone."""
-        terminal.type(key)
-        self.assertEqual(terminal.wait_for_end(), 0)
-        self.assertEqual(terminal.settings(), terminal.before)
-        window, after = terminal.written.split(b"\x1b[?1049l")
-        self.assertIn(b"\x1b[?1049h", window)
-        return after
-
+class Live(Living):
     def test_screen_and_paper(self) -> None:
         terminal, laptop, phone = self.start()
         laptop.open("P2:", WRITE).put_record(b"ten boxes of lint")
@@ -208,7 +164,7 @@ class Live(unittest.TestCase):
             'port 0: LOAD 21 bytes at 16: "ten boxes # 9 of lint"',
             "port 0: PUT RECORD replied $01 success, count 21",
             'key $3F: "a"',
-            "port 1: GET CHARACTERS replied $88 EndOfFile, end of file from K",
+            "port 1: GET CHARACTERS replied $88 EndOfFile, end of file from K or C",
         ):
             self.assertRegex(text, rf"\n# \d+\.\d\d\d {re.escape(words)}\n")
         again = run("play", str(self.folder / "a log"))

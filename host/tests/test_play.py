@@ -101,13 +101,13 @@ class Logged(unittest.TestCase):
                 "port 0: OPEN block 2, specification at 0, AUX1 $04 (R), AUX2 0",
                 "port 0: OPEN replied $01 success",
                 "port 0: GET CHARACTERS block 2, one by A",
-                "port 0: GET CHARACTERS replied $88 EndOfFile, end of file from K",
+                "port 0: GET CHARACTERS replied $88 EndOfFile, end of file from K or C",
                 'key $3F: "a"',
                 "key $0C: return",
                 "port 0: GET CHARACTERS block 2, one by A",
                 "port 0: GET CHARACTERS replied $01 success, A EOL",
                 "port 0: GET CHARACTERS block 2, 5 bytes at 0",
-                "port 0: GET CHARACTERS replied $88 EndOfFile, end of file from K, count 0",
+                "port 0: GET CHARACTERS replied $88 EndOfFile, end of file from K or C, count 0",
                 "port 0: FETCH 1 byte at 0",
                 'port 0: FETCH replied $01 success: "K"',
                 "port 0: CLOSE block 2",
@@ -142,16 +142,17 @@ class Logged(unittest.TestCase):
         self.assertEqual(words.count("port 1: PUT CHARACTERS waits for the other port"), 1)
         self.assertNotIn('key $3F: "a"', words)
         ops = script.parse(self.file.text)
-        self.assertEqual((ops[0], ops[-1]), (script.Fresh(), script.Dump()))
+        self.assertEqual((ops[0], *ops[-2:]), (script.Fresh(), script.Dump(), script.DumpTape()))
         counts = [[op.count for op in ops if isinstance(op, script.Ticks) and op.port == port] for port in (0, 1)]
         self.assertEqual(counts, [[14, 237], [151]])
         with Player(shlex.split(PLAY)) as other:
             outputs = other.do(*ops)
-            self.assertEqual(script.read_dump(outputs[-1]), self.player.state())
+            self.assertEqual(script.read_dump(outputs[-2]), self.player.state())
+            self.assertEqual(script.read_tape(outputs[-1]), self.player.tape())
             for op, output in zip(ops, outputs):
                 if isinstance(op, script.Ticks):
                     self.assertEqual(output, op.count.to_bytes(2, "little") + b"\0")
-                elif not isinstance(op, script.Dump):
+                elif not isinstance(op, (script.Dump, script.DumpTape)):
                     self.assertEqual(output[0], 0)
             self.assertEqual(other.do(script.Take(0, ord("c")), script.Tick(0)), [b"\0", b"\0"])
             self.assertEqual(other.state().areas[0][500:503], b"abc")
@@ -159,7 +160,7 @@ class Logged(unittest.TestCase):
 
 class Help(unittest.TestCase):
     def test_of_the_words(self) -> None:
-        for word, parts in (("play", [*script.FORMS.values()]), ("live", ["--speed N", "--log FILE", "F7", "F8"])):
+        for word, parts in (("play", [*script.FORMS.values()]), ("live", ["--speed N", "--log FILE", "--tape FILE", "F7", "F8"])):
             for words in ((word, "--help"), (word, "-h")):
                 done = run(*words, FIXLOMAND_PLAY="/nowhere")
                 self.assertEqual((done.returncode, done.stderr), (0, b""))
@@ -169,9 +170,9 @@ class Help(unittest.TestCase):
                 self.assertLessEqual(max(map(len, shown.splitlines())), 80)
 
     def test_a_field_that_is_wrong(self) -> None:
-        done = run("play", "-", give=b"fresh\nlend 4 0\n", FIXLOMAND_PLAY="/nowhere")
+        done = run("play", "-", give=b"fresh\nlend 5 0\n", FIXLOMAND_PLAY="/nowhere")
         self.assertEqual((done.returncode, done.stdout), (2, b""))
-        self.assertIn("standard input: line 2: buffer 4: there is none", last_line(done))
+        self.assertIn("standard input: line 2: buffer 5: there is none", last_line(done))
 
     @unittest.skipUnless(PLAY, "FIXLOMAND_PLAY names no play")
     def test_a_dump(self) -> None:

@@ -4,7 +4,7 @@ import unittest
 from pathlib import Path
 
 from fixlomand import script
-from fixlomand.script import Dump, Fresh, Give, Lend, Press, Raw, Take, Tick, Ticks
+from fixlomand.script import Dump, DumpTape, Fresh, Give, Lend, Press, Raw, Take, Tape, Tick, Ticks, Write
 
 # The same bytes are tested in the model.
 TEXT = """\
@@ -20,12 +20,17 @@ press 3F
 lend area 100
 lend state 602
 raw 4C 07 70 11 01
+lend tape 33000
+write tape 132 55 55 FA
+raw 57 09 FF FF FF 00 00
 dump
+dump tape
 raw 54 00
 """
 BYTES = bytes.fromhex(
     "46 540011 540005 540000 540000 540000 540045 54003A 54009B 4B00 4700 4700 4700 4700 4700"
-    "540110 54FFFF 58012C01 503F 4C00640000 4C035A0200 4C07701101 44 5400"
+    "540110 54FFFF 58012C01 503F 4C00640000 4C035A0200 4C07701101 4C04E88000 57048400000300 5555FA 5709FFFFFF0000"
+    "44 43 5400"
 )
 
 
@@ -49,8 +54,20 @@ class Forms(unittest.TestCase):
         self.assertEqual(script.parse(script.to_text(ops)), ops)
 
     def test_ops(self) -> None:
-        ops = [Fresh(), Take(1, 2), Tick(3), Give(4), Press(5), Ticks(6, 7), Lend(2, 9), Dump(), Raw(b"T\0")]
+        ops = [Fresh(), Take(1, 2), Tick(3), Give(4), Press(5), Ticks(6, 7), Lend(2, 9), Dump(), DumpTape(), Raw(b"T\0")]
         self.assertEqual(script.from_bytes(script.to_bytes(ops)), ops)
+
+    def test_writes(self) -> None:
+        """Their length is their own, and one that is cut is no op."""
+        for data in (b"", b"F", b"W" * 700, bytes(33_000)):
+            ops = [Write(4, 0x030201, data), Write(9, 0, data), Fresh()]
+            written = script.to_bytes(ops)
+            self.assertEqual(script.from_bytes(written), ops)
+            self.assertEqual(script.parse(script.to_text(ops)), ops)
+            for cut in (1, 6, 6 + len(data)):
+                self.assertEqual(script.from_bytes(written[:cut]), [Raw(written[:cut])])
+        self.assertEqual(script.parse("write 4 7 41"), [Write(4, 7, b"A")])
+        self.assertEqual(script.parse("write tape 16777215 " + "00 " * 65_535), [Write(4, 0xFFFFFF, bytes(65_535))])
 
     def test_long_takes_are_split(self) -> None:
         text = script.to_text([Take(0, 7)] * 20)
@@ -74,8 +91,14 @@ class Forms(unittest.TestCase):
             "press 1FF": "code 1FF: at most FF",
             "lend area": "lend area: not of the form lend BUFFER LENGTH",
             "lend area 16777216": "length 16777216: at most 16777215",
-            "lend 4 0": "buffer 4: there is none; the buffers are 0 area, 1 screen, 2 paper, 3 state",
-            "lend disk 0": "buffer disk: there is none; the buffers are 0 area, 1 screen, 2 paper, 3 state",
+            "lend 5 0": "buffer 5: there is none; the buffers are 0 area, 1 screen, 2 paper, 3 state, 4 tape",
+            "lend disk 0": "buffer disk: there is none; the buffers are 0 area, 1 screen, 2 paper, 3 state, 4 tape",
+            "write state 0 00": "buffer state: there is none; the buffers are 0 area, 1 screen, 2 paper, 4 tape",
+            "write tape": "write tape: not of the form write BUFFER AT BYTES",
+            "write tape 16777216 00": "place 16777216: at most 16777215",
+            "write tape 0 100": "byte 100: at most FF",
+            "write tape 0 " + "00 " * 65_536: "65536 bytes: at most 65535",
+            "dump disk": "dump disk: not of the form dump [tape]",
             "raw": "raw: not of the form raw BYTES",
         }.items():
             with self.assertRaises(script.ScriptError) as caught:
@@ -88,8 +111,9 @@ class Forms(unittest.TestCase):
 
     def test_a_buffer_that_is_not_there(self) -> None:
         """It can be had as bytes alone, as in a script that is no text."""
-        self.assertEqual(script.to_text([Lend(4, 1)]), "raw 4C 04 01 00 00\n")
-        self.assertEqual(script.parse("raw 4C 04 01 00 00\nfresh"), [Lend(4, 1), Fresh()])
+        self.assertEqual(script.to_text([Lend(5, 1)]), "raw 4C 05 01 00 00\n")
+        self.assertEqual(script.parse("raw 4C 05 01 00 00\nfresh"), [Lend(5, 1), Fresh()])
+        self.assertEqual(script.to_text([Write(3, 1, b"A")]), "raw 57 03 01 00 00 01 00 41\n")
 
 
 class Answers(unittest.TestCase):
@@ -98,6 +122,7 @@ class Answers(unittest.TestCase):
         self.assertEqual(script.describe(Give(0), b"\x00\x91"), "0 done, byte 91")
         self.assertEqual(script.describe(Ticks(0, 300), b"\x2c\x01\x00"), "ticks 300, last 0 done")
         self.assertEqual(script.describe(Lend(0, 1), b""), "nothing")
+        self.assertEqual(script.describe(Write(4, 0, b"A"), b""), "nothing")
         self.assertEqual(script.describe(Tick(0), b""), "the output ends")
         self.assertEqual(script.describe(Give(0), b"\x05"), "the output ends after 05")
         self.assertEqual(script.describe(Tick(0), b"\x09"), "9 no such answer")
@@ -132,6 +157,22 @@ class Answers(unittest.TestCase):
         )
         self.assertRaises(ValueError, script.read_dump, output[1:])
 
+    def test_dump_of_the_tape(self) -> None:
+        self.assertEqual(script.TAPE_DUMP, 33_132)
+        data = bytes(range(250)) * 132
+        for numbers, pending, tape, words in (
+            ("02 F8 00 03", b"ABC", Tape(data, 2, 248, 3, b"ABC"), "mark 2 writing, record 248, place 3"),
+            ("01 01 00 05", b"", Tape(data, 1, 1, 5, b""), "mark 1 reading, record 1, place 5"),
+            ("03 00 00 00", b"", Tape(data, 3, 0, 0, b""), "mark 3 open with neither R nor W, record 0, place 0"),
+            ("00 00 00 00", b"", Tape(data, 0, 0, 0, b""), "mark 0 closed, record 0, place 0"),
+        ):
+            output = data + bytes.fromhex(numbers) + pending.ljust(128, b"\0")
+            self.assertEqual(script.read_tape(output), tape)
+            self.assertEqual(script.describe(DumpTape(), output), words)
+            self.assertRaises(ValueError, script.read_tape, output[1:])
+        lines = script.format_answers([DumpTape()], output, lambda tape: [f"mark {tape.mark}"])
+        self.assertEqual(lines, ["dump tape: mark 0 closed, record 0, place 0", "mark 0"])
+
     def test_a_dump_is_shown_under_its_line(self) -> None:
         lines = script.format_answers([Dump(), Fresh()], dump(p0=7) + b"\0", lambda state: [f"paper {state.used}"])
         self.assertEqual((lines[0][:12], lines[1:]), ("dump: used 7", ["paper 7", "fresh: 0 done"]))
@@ -143,8 +184,7 @@ class Gate(unittest.TestCase):
     """The script that the gate plays: what stands behind an op of it is what must be written."""
 
     def setUp(self) -> None:
-        text = (GATE / "script.txt").read_text(encoding="utf-8")
-        self.text = text.replace("\nlend 4 0\n", "\nraw 4C 04 00 00 00\n")
+        self.text = (GATE / "script.txt").read_text(encoding="utf-8")
         self.output = (GATE / "stdout").read_bytes()
 
     def test_bytes(self) -> None:
@@ -152,7 +192,7 @@ class Gate(unittest.TestCase):
 
     def test_notes(self) -> None:
         at = 0
-        dumps = []
+        dumps, tapes = [], []
         for line in self.text.splitlines():
             words, _, note = line.partition("#")
             for op in (ops := script.parse(words)):
@@ -160,15 +200,25 @@ class Gate(unittest.TestCase):
                 at += op.output
                 if isinstance(op, Dump):
                     dumps.append(script.read_dump(written))
+                if isinstance(op, DumpTape):
+                    tapes.append(script.read_tape(written))
                 if isinstance(op, Ticks) and note:
                     self.assertEqual(written, int(note).to_bytes(2, "little") + b"\0", line)
             if ops and isinstance(ops[0], Give) and note:
                 given = b"".join(bytes([0, byte]) for byte in bytes.fromhex(note))
                 self.assertEqual(self.output[at - len(given) : at], given, line)
         self.assertEqual(at, len(self.output))
-        record, cell = dumps
+        record, cell, ends = dumps
         self.assertEqual((record.screen[2:4], record.row, record.column), (b"\x41\x42", 1, 2))
         self.assertEqual(cell.screen[0], 1)
+        self.assertEqual((ends.areas[1][-1], ends.screen[-1], ends.paper[-1]), (0x7A, 0x7B, 0x7C))
+        self.assertEqual(ends.blocks[1][2], script.Block(True, "C", 1, 0x04))
+        pending, reading, closed = tapes
+        self.assertEqual(pending, Tape(bytes(33_000), 2, 0, 3, b"AB\x9b"))
+        partial = bytes.fromhex("55 55 FA 41 42 9B") + bytes(124) + bytes.fromhex("15 D9")
+        end = bytes.fromhex("55 55 FE") + bytes(128) + b"\xa9"
+        self.assertEqual(reading, Tape((partial + end).ljust(33_000, b"\0"), 1, 0, 2, b""))
+        self.assertEqual(closed, Tape((end + end).ljust(33_000, b"\0"), 0, 0, 0, b""))
 
 
 if __name__ == "__main__":

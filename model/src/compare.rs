@@ -1,7 +1,7 @@
 //! Plays a script on the model and on the real thing, finds the first op
 //! whose output differs, and shortens a script that differs.
 
-use crate::script::{bytes_of, describe, dump_place, Figures, Op, Player};
+use crate::script::{bytes_of, describe, dump_place, tape_place, Figures, Op, Player};
 use crate::stick::Phase;
 use std::io::{Read, Write};
 use std::process::{Command, Stdio};
@@ -128,14 +128,19 @@ pub fn compare(ops: &[Op], real: &mut dyn Real) -> Result<(Option<Difference>, F
 
 /// Two outputs of one op in words; of two dumps, the places that differ.
 fn in_words(op: &Op, expected: &[u8], written: &[u8]) -> (String, String) {
-    if !matches!(op, Op::Dump) || written.len() != expected.len() {
+    let name = match op {
+        Op::Dump => dump_place,
+        Op::DumpTape => tape_place,
+        _ => return (describe(op, expected), describe(op, written)),
+    };
+    if written.len() != expected.len() {
         return (describe(op, expected), describe(op, written));
     }
     const SHOWN: usize = 8;
     let places: Vec<usize> = (0..expected.len()).filter(|&at| expected[at] != written[at]).collect();
     let list = |bytes: &[u8]| {
         let shown = places.iter().take(SHOWN);
-        let mut words: Vec<String> = shown.map(|&at| format!("{} {:02X}", dump_place(at), bytes[at])).collect();
+        let mut words: Vec<String> = shown.map(|&at| format!("{} {:02X}", name(at), bytes[at])).collect();
         if places.len() > SHOWN {
             words.push(format!("and {} places more", places.len() - SHOWN));
         }
@@ -250,19 +255,29 @@ fn by_parts(best: &mut Vec<Op>, real: &mut dyn Real, budget: &mut Budget) {
     }
 }
 
-/// Tries each byte as 0 and many ticks as one.
+/// Tries each byte as 0, many ticks as one, and of bytes written each half.
 fn by_values(best: &mut Vec<Op>, real: &mut dyn Real, budget: &mut Budget) {
     let mut place = 0;
     while place < best.len() {
         let smaller = match best[place] {
-            Op::Take { port, byte: 1.. } => Some(Op::Take { port, byte: 0 }),
-            Op::Ticks { port, count: 2.. } => Some(Op::Tick { port }),
-            _ => None,
+            Op::Take { port, byte: 1.. } => vec![Op::Take { port, byte: 0 }],
+            Op::Ticks { port, count: 2.. } => vec![Op::Tick { port }],
+            Op::Write { buffer, at, ref bytes } if bytes.len() > 1 => {
+                let (first, second) = bytes.split_at(bytes.len() / 2);
+                let behind = at.saturating_add(first.len() as u32).min(0xFF_FFFF);
+                vec![
+                    Op::Write { buffer, at, bytes: first.to_vec() },
+                    Op::Write { buffer, at: behind, bytes: second.to_vec() },
+                ]
+            }
+            _ => Vec::new(),
         };
-        if let Some(op) = smaller {
+        for op in smaller {
             let mut trial = best.clone();
             trial[place] = op;
-            keep_if_differs(best, trial, real, budget);
+            if keep_if_differs(best, trial, real, budget) {
+                break;
+            }
         }
         place += 1;
     }

@@ -3,7 +3,7 @@
 
 use model::compare::{compare, shorten, Budget, Difference, Itself, Program, Real};
 use model::random::conversation;
-use model::script::{bytes_of, from_text, ops_of, to_text, Figures, Op, Player};
+use model::script::{bytes_of, from_text, ops_of, to_text, Figures, Op, Player, TAPE_STATUSES};
 use std::io::{IsTerminal, Read, Write};
 use std::process::ExitCode;
 use std::sync::atomic::{AtomicBool, AtomicU64, Ordering};
@@ -30,7 +30,8 @@ options
   --help           this text
 
 A script has one op a line: fresh, take PORT BYTES, tick PORT, tick PORT x N,
-give PORT, give PORT x N, press CODE, lend BUFFER N, dump, raw BYTES.
+give PORT, give PORT x N, press CODE, lend BUFFER N, write BUFFER AT BYTES,
+dump, dump tape, raw BYTES.
 The end status is 0 for no difference, 1 for a difference, 2 for trouble.";
 
 struct Options {
@@ -163,7 +164,7 @@ fn serve() -> ExitCode {
 
 /// Whether the bytes begin an op.
 fn is_cut(bytes: &[u8]) -> bool {
-    matches!(bytes[0], b'T' | b'K' | b'G' | b'P' | b'X' | b'L')
+    matches!(bytes[0], b'T' | b'K' | b'G' | b'P' | b'X' | b'L' | b'W')
 }
 
 // ---- comparing ----
@@ -357,7 +358,12 @@ fn in_figures(figures: &Figures) -> String {
         text.push_str(&format!(" {tag:02X}/{status:02X}: {},", commas(*count)));
     }
     text.pop();
-    text.push('\n');
+    text.push_str("\nof C:");
+    for status in TAPE_STATUSES {
+        let count = figures.tape.get(&status).copied().unwrap_or(0);
+        text.push_str(&format!(" {status:02X}: {},", commas(count)));
+    }
+    text.push_str(&format!(" answered 8: {}\n", commas(figures.tape_waits)));
     text
 }
 

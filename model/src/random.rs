@@ -6,6 +6,8 @@
 //! in between. A model plays along, so that most calls come when they make
 //! sense and long conversations succeed. Numbers, lengths and cursors are
 //! drawn to the paper's boundaries: `tests/reach.rs` says which are reached.
+//! Tapes are laid by `W`, record by record with right checksums, and then a
+//! few bytes of them are damaged: bytes at random would be no records at all.
 
 use crate::script::{Op, Player};
 use crate::stick::*;
@@ -60,8 +62,8 @@ impl Random {
 
 /// One end of the stick: what it likes to do, and what it is about to send.
 struct Host {
-    /// Weights of E, S, K and P.
-    taste: [usize; 4],
+    /// Weights of E, S, K, P and C.
+    taste: [usize; 5],
     messages: VecDeque<Vec<u8>>,
     sending: VecDeque<u8>,
 }
@@ -76,7 +78,7 @@ struct Maker {
 }
 
 /// The devices in the order of a taste.
-const DEVICES: [Device; 4] = [Device::E, Device::S, Device::K, Device::P];
+const DEVICES: [Device; 5] = [Device::E, Device::S, Device::K, Device::P, Device::C];
 /// The commands that are no SPECIAL and not bad.
 const COMMANDS: [u8; 7] = [OPEN, GET_RECORD, GET_CHARACTERS, PUT_RECORD, PUT_CHARACTERS, CLOSE, GET_STATUS];
 /// The sixteen control codes of E.
@@ -85,6 +87,9 @@ const CONTROLS: [u8; 16] =
 /// Keys that do something of their own: locks, inverse, end of file, RETURN,
 /// none, the edges of the table.
 const KEYS: [u8; 16] = [0x3C, 0x7C, 0xBC, 0x27, 0x67, 0xA7, 0x9A, 0x0C, 0xFF, 0x00, 0x3F, 0x40, 0x7F, 0x80, 0xBF, 0xC0];
+
+/// SPECIAL commands, DRAW and FILL among them.
+const SPECIALS: [u8; 9] = [0x0E, 0x0F, 0x11, 0x12, 0x20, 0x26, 0x7F, 0x80, 0xFF];
 
 /// Lengths around those of a piece, a full reply and a full LOAD.
 const PIECES: [usize; 5] = [255, 256, 257, 258, 259];
@@ -118,10 +123,13 @@ impl Maker {
         random = Random::new(random.number());
         // E and S clear each other's screen, so mostly only one of them is liked.
         let screen = random.pick(&[[1, 0], [1, 0], [0, 1], [1, 1]]);
+        // There is one tape: mostly both like it, or neither.
+        let tape = random.pick(&[0, 0, 0, 1, 40]);
         let mut host = || {
             let taste = random.pick(&[[6, 6, 2, 2], [20, 1, 1, 1], [1, 20, 1, 0], [2, 2, 20, 1], [1, 1, 1, 20]]);
             let [e, s, k, p] = taste;
-            Host { taste: [e * screen[0], s * screen[1], k, p], messages: VecDeque::new(), sending: VecDeque::new() }
+            let taste = [e * screen[0], s * screen[1], k, p, tape];
+            Host { taste, messages: VecDeque::new(), sending: VecDeque::new() }
         };
         let hosts = [host(), host()];
         Maker { random, player: Player::new(), ops: Vec::new(), hosts, dumps: 0, messages: 0 }
@@ -129,7 +137,7 @@ impl Maker {
 
     /// Adds an op; the model plays along. A dump changes nothing.
     fn play(&mut self, op: Op) {
-        if op != Op::Dump {
+        if !matches!(op, Op::Dump | Op::DumpTape) {
             self.player.play(&op, &mut Vec::new());
         }
         self.ops.push(op);
@@ -160,6 +168,10 @@ impl Maker {
     }
 
     fn tick(&mut self, port: u8) {
+        let reads = self.player.stick.cassette.place > 0 && self.player.stick.holds(usize::from(port), Group::Tape);
+        if reads && self.random.chance(150) {
+            self.meddle_with_record();
+        }
         if self.random.chance(400) {
             for _ in 0..=self.random.below(2) {
                 self.play(Op::Tick { port });
@@ -234,7 +246,7 @@ impl Maker {
     /// Something beside the conversations.
     fn noise(&mut self) {
         let port = self.random.below(2) as u8;
-        match self.random.weigh(&[30, 8, 8, 8, 8, 10, 2, 8]) {
+        match self.random.weigh(&[30, 8, 8, 8, 8, 10, 2, 8, 8]) {
             0 => self.press(),
             1 => {
                 let port = self.random.pick(&[2, 3, 127, 128, 255]);
@@ -260,7 +272,8 @@ impl Maker {
             4 => self.play(Op::Give { port }),
             5 => self.cut(),
             6 => self.fresh(),
-            _ => self.dump(),
+            7 => self.dump(),
+            _ => self.meddle(),
         }
     }
 
@@ -275,12 +288,15 @@ impl Maker {
 
     /// Calls while a buffer is lent cut, then whole again.
     fn cut(&mut self) {
-        let buffer = self.random.below(4);
+        let buffer = self.random.below(WHOLE.len());
         let whole = WHOLE[buffer];
         let length = self.random.pick(&[0, 1, whole / 2, whole - 1, whole - 1, whole]) as u32;
         self.play(Op::Lend { buffer: buffer as u8, length });
         if self.random.chance(100) {
-            self.play(Op::Lend { buffer: self.ops.len() as u8 | 4, length: 0 });
+            self.play(Op::Lend { buffer: self.ops.len() as u8 | 8, length: 0 });
+        }
+        if self.random.chance(100) {
+            self.meddle();
         }
         for _ in 0..=self.random.below(5) {
             let port = self.random.pick(&[0, 1, 0, 1, 0, 1, 2, 255]);
@@ -303,8 +319,46 @@ impl Maker {
     fn dump(&mut self) {
         if self.dumps < 2 {
             self.dumps += 1;
-            self.play(Op::Dump);
+            let tape = self.player.stick.cassette.mark != Mark::Closed || self.random.chance(200);
+            self.play(if tape { Op::DumpTape } else { Op::Dump });
         }
+    }
+
+    /// Bytes of a lent buffer written from outside: mostly of the tape, at
+    /// times past its end or into no buffer at all.
+    fn meddle(&mut self) {
+        if self.player.stick.cassette.mark != Mark::Closed && self.random.chance(700) {
+            return self.meddle_with_record();
+        }
+        let buffer = self.random.pick(&[0, 1, 2, 3, 4, 4, 4, 9, 255]);
+        let end = *WHOLE.get(usize::from(buffer)).unwrap_or(&AREA);
+        let length = self.random.pick(&[0, 1, 1, 1, 2, 3, 40]);
+        let any = self.random.below(end);
+        let at = self.random.pick(&[0, any, any, end - length, end - length / 2, end, 0xFF_FFFF]) as u32;
+        let bytes = (0..length).map(|_| self.random.byte()).collect();
+        self.play(Op::Write { buffer, at, bytes });
+    }
+
+    /// Another record where the tape is, or a byte of it spoilt; in the middle
+    /// of a record that is read mostly one whose count is about the place.
+    fn meddle_with_record(&mut self) {
+        let Cassette { mark, record, place, .. } = self.player.stick.cassette;
+        if record == RECORDS {
+            return;
+        }
+        if self.random.chance(400) {
+            return self.spoil(record);
+        }
+        let bytes = match self.random.weigh(&[60, 15, 25]) {
+            0 if mark == Mark::Reading && place > 0 => {
+                let count = (place + self.random.below(3)).saturating_sub(1).clamp(1, 127);
+                let characters: Vec<u8> = (0..count).map(|_| self.random.byte()).collect();
+                partial_record(&characters)
+            }
+            1 => end_record(),
+            _ => self.record(),
+        };
+        self.play(Op::Write { buffer: 4, at: (RECORD * record) as u32, bytes: bytes.to_vec() });
     }
 
     /// Mostly both ports finish; then all is dumped.
@@ -320,9 +374,22 @@ impl Maker {
             }
         }
         self.play(Op::Dump);
+        self.play(Op::DumpTape);
         // Another op, or one that is cut, ends the run.
         if self.random.chance(30) {
-            let tails: [&[u8]; 8] = [b"T", b"T\0", b"K", b"X\0\0", b"L\0\0\0", b"?", b"f", b"\0D"];
+            let tails: [&[u8]; 11] = [
+                b"T",
+                b"T\0",
+                b"K",
+                b"X\0\0",
+                b"L\0\0\0",
+                b"W\x04\0\0\0\0",
+                b"W\x04\0\0\0\x04\0CCC",
+                b"?",
+                b"c",
+                b"f",
+                b"\0D",
+            ];
             let tail = tails[self.random.below(tails.len())].to_vec();
             self.play(Op::Raw(tail));
         }
@@ -374,12 +441,13 @@ impl Maker {
             return (self.random.byte(), self.random.byte() % 16);
         }
         // One bit alone, or one bit off what the device offers.
-        if self.random.chance(80) {
+        if self.random.chance(if device == Device::C { 300 } else { 80 }) {
             let offered = match device {
                 Device::E => R | W | FORCED,
                 Device::S => R | W,
                 Device::K => R,
                 Device::P => W,
+                Device::C => self.random.pick(&[R, W]),
             };
             let aux1 = self.random.pick(&[0, offered]) ^ (1 << self.random.below(8));
             return (aux1, 3 + self.random.below(6) as u8);
@@ -391,6 +459,7 @@ impl Maker {
             Device::S => self.random.pick(&[0x0C, 0x0C, 0x2C, 0x2C, 0x0D, 0x08, 0x04, 0x24, 0x1C, 0xEC]),
             Device::K => self.random.pick(&[0x04, 0x04, 0x04, 0x05, 0xF4, 0x0C, 0x00]),
             Device::P => self.random.pick(&[0x08, 0x08, 0x08, 0x09, 0xF8, 0x0C, 0x00]),
+            Device::C => self.random.pick(&[0x04, 0x04, 0x04, 0x08, 0x08, 0x08, 0xF4, 0xF8, 0x0C, 0x00]),
         };
         let aux2 = if self.random.chance(950) { 3 + self.random.below(6) as u8 } else { self.random.byte() };
         (aux1, aux2)
@@ -400,7 +469,7 @@ impl Maker {
     fn specification(&mut self, device: Device) -> Vec<u8> {
         let mut bytes = vec![device.letter()];
         if self.random.chance(40) {
-            bytes[0] = self.random.pick(b"CDRe:\x9B\x00Q");
+            bytes[0] = self.random.pick(b"DRce:\x9B\x00Q");
         }
         if self.random.chance(300) {
             bytes.push(b'1' + self.random.below(8) as u8);
@@ -437,6 +506,9 @@ impl Maker {
         } else {
             self.random.pick(closed)
         };
+        if device == Device::C && self.random.chance(700) {
+            return self.tape_errand(iocb);
+        }
         self.with_specification(device, iocb, OPEN)
     }
 
@@ -444,7 +516,7 @@ impl Maker {
     fn status_errand(&mut self, port: u8) -> Vec<Vec<u8>> {
         let device = self.liked(port);
         let iocb = self.random.below(8) as u8;
-        let special = self.random.pick(&[0x0E, 0x0F, 0x11, 0x12, 0x20, 0x26, 0x7F, 0x80, 0xFF]);
+        let special = self.random.pick(&SPECIALS);
         let command = if self.random.chance(500) { GET_STATUS } else { special };
         self.with_specification(device, iocb, command)
     }
@@ -464,6 +536,9 @@ impl Maker {
 
     /// Reading or writing an open block.
     fn transfer_errand(&mut self, iocb: u8, file: File) -> Vec<Vec<u8>> {
+        if file.device == Device::C {
+            return self.on_tape(iocb, file);
+        }
         if file.device == Device::E && file.aux1 & (R | W) == R | W && self.random.chance(300) {
             return if self.random.chance(500) { self.echo_errand(iocb) } else { self.edit_errand(iocb) };
         }
@@ -474,8 +549,8 @@ impl Maker {
             _ => self.random.chance(450),
         };
         let console = &self.player.stick.console;
-        if file.device == Device::S && console.mode != 0 && file.aux1 & W != 0 && self.random.chance(100) {
-            return if self.random.chance(200) { self.smaller_errand(iocb) } else { self.corner_errand(iocb) };
+        if file.device == Device::S && console.mode != 0 && file.aux1 & W != 0 && self.random.chance(140) {
+            return if self.random.chance(250) { self.smaller_errand(iocb) } else { self.corner_errand(iocb) };
         }
         if file.device == Device::S && console.mode != 0 && console.row == shape(console.mode).1 {
             // Past the last row: mostly back to the first.
@@ -604,6 +679,262 @@ impl Maker {
             });
         }
         messages
+    }
+
+    // ---- the tape ----
+
+    /// C from OPEN to CLOSE: a tape laid and read, one written and read again,
+    /// or one written full. Or C asked for, whoever has it open.
+    fn tape_errand(&mut self, iocb: u8) -> Vec<Vec<u8>> {
+        let mut messages = Vec::new();
+        let open = self.player.stick.cassette.mark != Mark::Closed;
+        match self.random.weigh(&[50, 40, 9, 10, if open { 150 } else { 15 }]) {
+            0 => self.lay_tape(),
+            1 => {
+                messages.extend(self.open_tape(iocb, W));
+                for _ in 0..self.random.below(5) {
+                    messages.extend(self.write_tape(iocb));
+                }
+                messages.push(self.call(iocb, CLOSE, 0, 0));
+            }
+            2 => messages.extend(self.full_tape(iocb)),
+            3 => messages.extend(self.last_record(iocb)),
+            _ => {
+                let (special, aux1) = (self.random.pick(&SPECIALS), self.random.pick(&[0, R, W, R | W]));
+                let command = self.random.pick(&[OPEN, GET_STATUS, special]);
+                return self.ask_for_tape(iocb, command, aux1);
+            }
+        }
+        if messages.is_empty() || self.random.chance(800) {
+            messages.extend(self.open_tape(iocb, R));
+            for _ in 0..1 + self.random.below(4) {
+                messages.extend(self.read_tape(iocb));
+            }
+            // Mostly closed: as long as it is open, no other block gets it.
+            if self.random.chance(700) {
+                messages.push(self.call(iocb, CLOSE, 0, 0));
+            }
+        }
+        messages
+    }
+
+    /// At times with one bit of AUX1 off.
+    fn open_tape(&mut self, iocb: u8, aux1: u8) -> Vec<Vec<u8>> {
+        let bit = if self.random.chance(250) { 1 << self.random.below(8) } else { 0 };
+        self.ask_for_tape(iocb, OPEN, aux1 ^ bit)
+    }
+
+    fn ask_for_tape(&mut self, iocb: u8, command: u8, aux1: u8) -> Vec<Vec<u8>> {
+        let specification: &[u8] = self.random.pick(&[b"C:", b"C:", b"C1:", b"C8:"]);
+        let address = self.inside(specification.len());
+        let aux = [aux1, self.random.byte(), self.random.byte()];
+        vec![load(address, specification), call(iocb, command, address, 0, aux)]
+    }
+
+    /// Something with an open block of C.
+    fn on_tape(&mut self, iocb: u8, file: File) -> Vec<Vec<u8>> {
+        match (self.random.weigh(&[60, 25, 10, 5]), file.aux1 & (R | W)) {
+            (0, R) => {
+                if self.random.chance(350) {
+                    self.meddle_with_record();
+                }
+                self.read_tape(iocb)
+            }
+            (0, W) => self.write_tape(iocb),
+            (1, _) => vec![self.call(iocb, CLOSE, 0, 0)],
+            (2, _) => {
+                let special = self.random.pick(&SPECIALS);
+                let command = self.random.pick(&[GET_STATUS, special, OPEN]);
+                vec![self.call(iocb, command, 0, 0)]
+            }
+            // The wrong way, or as it is open.
+            _ => {
+                let command = self.random.pick(&[GET_RECORD, GET_CHARACTERS, PUT_RECORD, PUT_CHARACTERS]);
+                let n = self.random.below(3);
+                vec![self.call(iocb, command, 0, n)]
+            }
+        }
+    }
+
+    /// A transfer from an open tape: to the end of its record or about it, a
+    /// few characters, or many.
+    fn read_tape(&mut self, iocb: u8) -> Vec<Vec<u8>> {
+        let Cassette { record, place, .. } = self.player.stick.cassette;
+        let left = match self.player.stick.tape.chunks(RECORD).nth(record).map(characters) {
+            Some(Ok(characters)) => characters.len().saturating_sub(place).max(1),
+            _ => 1,
+        };
+        let piece = self.random.pick(&PIECES);
+        let n = self.random.pick(&[0, 1, 2, 3, 10, left, left, left + 1, 126, 127, 128, 129, piece, 600, 2_000]);
+        let address = self.inside(n);
+        let command = self.random.pick(&[GET_CHARACTERS, GET_CHARACTERS, GET_RECORD]);
+        let mut messages = vec![self.call(iocb, command, address, n)];
+        if n > 0 && self.random.chance(300) {
+            messages.push(fetch(address, n.min(256)));
+        }
+        messages
+    }
+
+    /// A transfer to an open tape: up to a full record or about it, a few
+    /// characters, or many.
+    fn write_tape(&mut self, iocb: u8) -> Vec<Vec<u8>> {
+        let left = DATA - self.player.stick.cassette.pending.len();
+        let piece = self.random.pick(&PIECES);
+        let n = self.random.pick(&[0, 1, 2, 3, 10, left - 1, left, left, left + 1, 126, 127, 128, 129, piece, 600]);
+        let command = self.random.pick(&[PUT_CHARACTERS, PUT_CHARACTERS, PUT_RECORD]);
+        if n > 0 && self.random.chance(500) {
+            let data: Vec<u8> = match self.random.below(3) {
+                0 => vec![self.random.pick(&[0x00, 0x55, 0xFE, 0xFF]); n],
+                1 => (0..n).map(|_| self.random.pick(b"ABCabc 0123 xyz")).collect(),
+                _ => (0..n).map(|_| self.random.byte()).collect(),
+            };
+            return self.put(iocb, command, &data);
+        }
+        // What the area holds; or all but the last two of a record, and then one by one.
+        if n == 0 && left > 2 {
+            let address = self.inside(left - 2);
+            let mut messages = vec![self.call(iocb, PUT_CHARACTERS, address, left - 2)];
+            messages.extend((0..1 + self.random.below(3)).map(|_| self.call(iocb, command, 65_535, 0)));
+            return messages;
+        }
+        let address = self.inside(n);
+        vec![self.call(iocb, command, address, n)]
+    }
+
+    /// 249 full records but for a few characters, then some more one by one.
+    fn full_tape(&mut self, iocb: u8) -> Vec<Vec<u8>> {
+        if self.random.chance(500) {
+            let bytes: Vec<u8> = (0..AREA).map(|_| self.random.byte()).collect();
+            let at = self.random.pick(&[0, AREA]) as u32;
+            self.play(Op::Write { buffer: 0, at, bytes });
+        }
+        let mut messages = self.ask_for_tape(iocb, OPEN, W);
+        messages.push(self.call(iocb, PUT_CHARACTERS, 0, AREA));
+        let n = DATA * (RECORDS - 1) - AREA - self.random.below(5);
+        messages.push(self.call(iocb, PUT_CHARACTERS, AREA - n, n));
+        for _ in 0..self.random.below(6) {
+            let command = self.random.pick(&[PUT_CHARACTERS, PUT_RECORD]);
+            let byte = self.random.byte();
+            messages.extend(match self.random.below(4) {
+                0 => self.put(iocb, PUT_RECORD, &[byte]),
+                1 => self.put(iocb, command, &[byte]),
+                2 => self.put(iocb, command, &[byte, byte]),
+                _ => vec![call(iocb, command, 65_535, 0, [0, 0, byte])],
+            });
+        }
+        if self.random.chance(800) {
+            messages.push(self.call(iocb, CLOSE, 0, 0));
+        }
+        // Rarely all of it is read: as a record, or to its end.
+        if self.random.chance(300) {
+            messages.extend(self.open_tape(iocb, R));
+            let command = self.random.pick(&[GET_RECORD, GET_CHARACTERS]);
+            for _ in 0..2 {
+                messages.push(self.call(iocb, command, 0, AREA));
+            }
+            messages.push(self.call(iocb, CLOSE, 0, 0));
+        }
+        messages
+    }
+
+    /// Some good records from the tape's beginning on, mostly with an end, and
+    /// often a few bytes of them spoilt.
+    fn lay_tape(&mut self) {
+        let records = match self.random.weigh(&[85, 10, 5]) {
+            0 => {
+                let mut records: Vec<[u8; RECORD]> = (0..self.random.below(6)).map(|_| self.record()).collect();
+                if self.random.chance(800) {
+                    records.push(end_record());
+                }
+                records
+            }
+            1 => self.up_to_the_last(),
+            _ => vec![record(FULL, [self.random.pick(b"AB\x9B\xFF"); DATA]); self.random.pick(&[249, 250])],
+        };
+        self.play(Op::Write { buffer: 4, at: 0, bytes: records.concat() });
+        if !records.is_empty() && self.random.chance(400) {
+            for _ in 0..1 + self.random.below(3) {
+                let record = self.random.below(records.len().min(8));
+                self.spoil(record);
+            }
+        }
+    }
+
+    /// Records to the tape's last, a character each; the last mostly of any kind.
+    fn up_to_the_last(&mut self) -> Vec<[u8; RECORD]> {
+        let mut records = vec![partial_record(&[self.random.byte()]); RECORDS];
+        if self.random.chance(800) {
+            records[RECORDS - 1] = self.record();
+        }
+        records
+    }
+
+    /// Such a tape, read up to its last record and through it.
+    fn last_record(&mut self, iocb: u8) -> Vec<Vec<u8>> {
+        let records = self.up_to_the_last();
+        self.play(Op::Write { buffer: 4, at: 0, bytes: records.concat() });
+        if self.random.chance(200) {
+            self.spoil(RECORDS - 1);
+        }
+        let mut messages = self.ask_for_tape(iocb, OPEN, R);
+        for n in [RECORDS - 1, self.random.pick(&[1, DATA - 1, DATA, DATA + 1]), 1 + self.random.below(2)] {
+            let address = self.inside(n);
+            messages.push(self.call(iocb, GET_CHARACTERS, address, n));
+        }
+        messages.push(self.call(iocb, CLOSE, 0, 0));
+        messages
+    }
+
+    /// A record, mostly good, its checksum right.
+    fn record(&mut self) -> [u8; RECORD] {
+        let mut data = [0; DATA];
+        match self.random.below(3) {
+            0 => data.fill(self.random.pick(&[0x00, 0x41, EOL, 0xFF])),
+            1 => data.fill_with(|| self.random.pick(b"ABCabc\x9B0123 xyz")),
+            _ => data.fill_with(|| self.random.byte()),
+        }
+        let any = 1 + self.random.below(127);
+        let count = self.random.pick(&[1, 2, 3, 126, 127, any]);
+        let mut bytes = match self.random.weigh(&[35, 35, 10, 3, 3, 4]) {
+            0 => record(FULL, data),
+            1 => partial_record(&data[..count]),
+            2 => end_record(),
+            3 => record(END, data),
+            4 => record(self.random.pick(&[0x00, 0xF9, 0xFB, 0xFD, 0xFF]), data),
+            _ => {
+                data[DATA - 1] = self.random.pick(&[0, 128, 255]);
+                record(PARTIAL, data)
+            }
+        };
+        if self.random.chance(100) {
+            // A sum of $FF, which is no 0.
+            bytes[DATA_AT] = 0;
+            bytes[DATA_AT] = 255 - checksum(&bytes[..CHECKSUM_AT]);
+        }
+        if self.random.chance(50) {
+            bytes[self.random.below(CONTROL_AT)] = self.random.byte();
+        }
+        bytes[CHECKSUM_AT] = checksum(&bytes[..CHECKSUM_AT]);
+        bytes
+    }
+
+    /// A byte of a record changed, or its checksum made another sum.
+    fn spoil(&mut self, record: usize) {
+        let from = RECORD * record;
+        let bytes = &self.player.stick.tape[from..from + RECORD];
+        let old = bytes[CHECKSUM_AT];
+        let modulo_256 = bytes[..CHECKSUM_AT].iter().fold(0, |sum: u8, byte| sum.wrapping_add(*byte));
+        let any = self.random.below(RECORD);
+        let place = match old {
+            255 => CHECKSUM_AT,
+            _ => self.random.pick(&[0, CONTROL_AT, COUNT_AT, CHECKSUM_AT, CHECKSUM_AT, any]),
+        };
+        let byte = if place == CHECKSUM_AT {
+            self.random.pick(&[modulo_256, !old, old.wrapping_add(1)])
+        } else {
+            self.random.byte()
+        };
+        self.play(Op::Write { buffer: 4, at: (from + place) as u32, bytes: vec![byte] });
     }
 
     /// In mode 8 a row and a byte up to and past the end of a smaller mode;

@@ -11,12 +11,15 @@
 //! give 0                   G
 //! give 0 x 4               G, four times
 //! press 3F                 P (hexadecimal)
-//! lend area 100            L: area, screen, paper, state, or a number
+//! lend area 100            L: area, screen, paper, state, tape, or a number
+//! write tape 132 55 55     W: these bytes into the buffer from there on
 //! dump                     D
+//! dump tape                C
 //! raw 54 00                bytes as they are (no op, or one that is cut)
 //! ```
 
-use crate::stick::{Phase, Stick, AREA, PAPER, SCREEN, WHOLE};
+use crate::stick::*;
+use std::collections::BTreeMap;
 
 #[derive(Clone, Debug, PartialEq, Eq)]
 pub enum Op {
@@ -44,13 +47,20 @@ pub enum Op {
         buffer: u8,
         length: u32,
     },
+    /// Write bytes into a buffer from `at` (three bytes in a script) on.
+    Write {
+        buffer: u8,
+        at: u32,
+        bytes: Vec<u8>,
+    },
     Dump,
+    DumpTape,
     /// Bytes that are no op, or a cut one: the run ends here.
     Raw(Vec<u8>),
 }
 
-/// The names of the lent buffers 0 to 3.
-const BUFFERS: [&str; 4] = ["area", "screen", "paper", "state"];
+/// The names of the lent buffers 0 to 4.
+const BUFFERS: [&str; 5] = ["area", "screen", "paper", "state", "tape"];
 
 /// What the answers 0 to 8 mean.
 pub const ANSWERS: [&str; 9] = [
@@ -82,6 +92,10 @@ const NUMBERS: [(&str, usize); 10] = [
 /// The bytes of a dump.
 pub const DUMP: usize = 2 * AREA + SCREEN + PAPER + 12 + 2 * 8 * 4 + 2;
 
+/// The bytes of a dump of the tape: its bytes, mark, record, place or number
+/// pending, and the pending characters with zeros behind them.
+pub const TAPE_DUMP: usize = TAPE + 1 + 2 + 1 + DATA;
+
 impl Op {
     /// The op as bytes of a script.
     pub fn bytes(&self) -> Vec<u8> {
@@ -95,7 +109,14 @@ impl Op {
             Op::Lend { buffer, length } => {
                 vec![b'L', *buffer, *length as u8, (*length >> 8) as u8, (*length >> 16) as u8]
             }
+            Op::Write { buffer, at, bytes } => {
+                let mut op = vec![b'W', *buffer, *at as u8, (*at >> 8) as u8, (*at >> 16) as u8];
+                op.extend((bytes.len() as u16).to_le_bytes());
+                op.extend(bytes);
+                op
+            }
             Op::Dump => vec![b'D'],
+            Op::DumpTape => vec![b'C'],
             Op::Raw(bytes) => bytes.clone(),
         }
     }
@@ -106,8 +127,9 @@ impl Op {
             Op::Fresh | Op::Take { .. } | Op::Tick { .. } | Op::Press { .. } => 1,
             Op::Give { .. } => 2,
             Op::Ticks { .. } => 3,
-            Op::Lend { .. } | Op::Raw(_) => 0,
+            Op::Lend { .. } | Op::Write { .. } | Op::Raw(_) => 0,
             Op::Dump => DUMP,
+            Op::DumpTape => TAPE_DUMP,
         }
     }
 
@@ -138,7 +160,15 @@ pub fn ops_of(script: &[u8]) -> Vec<Op> {
             [b'P', code, ..] => (Op::Press { code }, 2),
             [b'X', port, low, high, ..] => (Op::Ticks { port, count: u16::from_le_bytes([low, high]) }, 4),
             [b'L', buffer, a, b, c, ..] => (Op::Lend { buffer, length: u32::from_le_bytes([a, b, c, 0]) }, 5),
+            [b'W', buffer, a, b, c, low, high, ref rest @ ..]
+                if rest.len() >= usize::from(u16::from_le_bytes([low, high])) =>
+            {
+                let length = usize::from(u16::from_le_bytes([low, high]));
+                let at = u32::from_le_bytes([a, b, c, 0]);
+                (Op::Write { buffer, at, bytes: rest[..length].to_vec() }, 7 + length)
+            }
             [b'D', ..] => (Op::Dump, 1),
+            [b'C', ..] => (Op::DumpTape, 1),
             _ => (Op::Raw(rest.to_vec()), rest.len()),
         };
         ops.push(op);
@@ -156,8 +186,26 @@ pub struct Figures {
     /// Calls by answer.
     pub answers: [u64; 9],
     /// Replies made, by tag and status.
-    pub replies: std::collections::BTreeMap<(u8, u8), u64>,
+    pub replies: BTreeMap<(u8, u8), u64>,
+    /// Replies of CALLs about C, by status.
+    pub tape: BTreeMap<u8, u64>,
+    /// Ticks answered 8 because the other port holds the tape.
+    pub tape_waits: u64,
 }
+
+/// The statuses that a CALL about C can have.
+pub const TAPE_STATUSES: [u8; 10] = [
+    SUCCESS,
+    ALREADY_OPEN,
+    NOT_READABLE,
+    BAD_COMMAND,
+    NOT_WRITABLE,
+    END_OF_FILE,
+    RECORD_CUT,
+    BAD_RECORD,
+    DEVICE_FULL,
+    PAST_AREA,
+];
 
 impl Figures {
     pub fn add(&mut self, other: &Figures) {
@@ -170,6 +218,10 @@ impl Figures {
         for (reply, count) in &other.replies {
             *self.replies.entry(*reply).or_default() += count;
         }
+        for (status, count) in &other.tape {
+            *self.tape.entry(*status).or_default() += count;
+        }
+        self.tape_waits += other.tape_waits;
     }
 }
 
@@ -222,14 +274,31 @@ impl Player {
             }
             Op::Lend { buffer, length } => {
                 let buffer = usize::from(buffer);
-                if buffer < 4 {
+                if buffer < WHOLE.len() {
                     self.stick.lent[buffer] = WHOLE[buffer].min(length as usize);
                 }
             }
+            Op::Write { buffer, at, ref bytes } => self.write(buffer, at as usize, bytes),
             Op::Dump => dump(&self.stick, output),
+            Op::DumpTape => dump_tape(&self.stick, output),
             Op::Raw(_) => return false,
         }
         true
+    }
+
+    /// Writes bytes into a buffer, cut at its end; another buffer has none. It
+    /// is no call: how much of the buffer is lent does not matter.
+    fn write(&mut self, buffer: u8, at: usize, bytes: &[u8]) {
+        let buffer = match buffer {
+            0 => &mut self.stick.area,
+            1 => &mut self.stick.screen,
+            2 => &mut self.stick.paper,
+            4 => &mut self.stick.tape,
+            _ => return,
+        };
+        for (cell, byte) in buffer.iter_mut().skip(at).zip(bytes) {
+            *cell = *byte;
+        }
     }
 
     fn runs(&self, port: u8) -> bool {
@@ -237,13 +306,18 @@ impl Player {
     }
 
     fn tick(&mut self, port: u8) -> u8 {
+        let tape = port < 2 && self.stick.device(usize::from(port)) == Some(Device::C);
         let answer = self.stick.tick(port);
         self.figures.ticks += 1;
         if answer == 0 {
             if let Phase::Replying(reply, _) = &self.stick.ports[usize::from(port)].phase {
                 *self.figures.replies.entry((reply[0], reply[3])).or_default() += 1;
+                if tape {
+                    *self.figures.tape.entry(reply[3]).or_default() += 1;
+                }
             }
         }
+        self.figures.tape_waits += u64::from(tape && answer == GROUP_HELD);
         self.called(answer)
     }
 
@@ -289,6 +363,29 @@ pub fn dump(stick: &Stick, output: &mut Vec<u8>) {
     output.extend(stick.ports.iter().map(|port| port.phase.number()));
 }
 
+/// Writes a dump of the tape.
+pub fn dump_tape(stick: &Stick, output: &mut Vec<u8>) {
+    let cassette = &stick.cassette;
+    let place = if cassette.mark == Mark::Writing { cassette.pending.len() } else { cassette.place };
+    output.extend(&stick.tape);
+    output.push(cassette.mark as u8);
+    output.extend((cassette.record as u16).to_le_bytes());
+    output.push(place as u8);
+    output.extend(&cassette.pending);
+    output.extend(vec![0; DATA - cassette.pending.len()]);
+}
+
+/// The name of the place in a dump of the tape.
+pub fn tape_place(at: usize) -> String {
+    match at.checked_sub(TAPE) {
+        None => format!("tape byte {at} (record {}, byte {})", at / RECORD, at % RECORD),
+        Some(0) => "mark".to_string(),
+        Some(1 | 2) => "record".to_string(),
+        Some(3) => "place or number pending".to_string(),
+        Some(behind) => format!("pending character {}", behind - 4),
+    }
+}
+
 /// The name of the place in a dump.
 pub fn dump_place(at: usize) -> String {
     let mut at = at;
@@ -324,6 +421,11 @@ pub fn dump_place(at: usize) -> String {
 /// The most bytes of a take on one line.
 const TAKES: usize = 16;
 
+/// A buffer's name, or its number.
+fn buffer_name(buffer: u8) -> String {
+    BUFFERS.get(usize::from(buffer)).map_or(buffer.to_string(), |name| name.to_string())
+}
+
 fn hexadecimal(bytes: &[u8]) -> String {
     bytes.iter().map(|byte| format!(" {byte:02X}")).collect()
 }
@@ -358,11 +460,10 @@ pub fn to_text(ops: &[Op]) -> String {
             }
             Op::Press { code } => format!("press {code:02X}"),
             Op::Ticks { port, count } => format!("tick {port} x {count}"),
-            Op::Lend { buffer, length } => match BUFFERS.get(usize::from(*buffer)) {
-                Some(name) => format!("lend {name} {length}"),
-                None => format!("lend {buffer} {length}"),
-            },
+            Op::Lend { buffer, length } => format!("lend {} {length}", buffer_name(*buffer)),
+            Op::Write { buffer, at, bytes } => format!("write {} {at}{}", buffer_name(*buffer), hexadecimal(bytes)),
             Op::Dump => "dump".to_string(),
+            Op::DumpTape => "dump tape".to_string(),
             Op::Raw(bytes) => format!("raw{}", hexadecimal(bytes)),
         };
         text.push_str(&line);
@@ -389,6 +490,11 @@ pub fn from_text(text: &str) -> Result<Vec<Op>, String> {
 
 fn line_bytes(words: &[&str]) -> Option<Vec<u8>> {
     let byte = |word: &str| u8::from_str_radix(word, 16).ok().filter(|_| word.len() <= 2);
+    let buffer = |word: &str| {
+        let named = BUFFERS.iter().position(|name| *name == word).map(|place| place as u8);
+        named.or_else(|| word.parse().ok())
+    };
+    let below_24_bits = |word: &str| word.parse().ok().filter(|number: &u32| *number < 1 << 24);
     let ops = match *words {
         ["fresh"] => vec![Op::Fresh],
         ["take", port, ref bytes @ ..] if !bytes.is_empty() => {
@@ -404,13 +510,13 @@ fn line_bytes(words: &[&str]) -> Option<Vec<u8>> {
             vec![Op::Give { port: port.parse().ok()? }; usize::from(times)]
         }
         ["press", code] => vec![Op::Press { code: byte(code)? }],
-        ["lend", buffer, length] => {
-            let named = BUFFERS.iter().position(|name| *name == buffer).map(|place| place as u8);
-            let buffer = named.or_else(|| buffer.parse().ok())?;
-            let length = length.parse().ok().filter(|length| *length < 1 << 24)?;
-            vec![Op::Lend { buffer, length }]
+        ["lend", name, length] => vec![Op::Lend { buffer: buffer(name)?, length: below_24_bits(length)? }],
+        ["write", name, at, ref bytes @ ..] if bytes.len() < 1 << 16 => {
+            let bytes = bytes.iter().map(|word| byte(word)).collect::<Option<Vec<u8>>>()?;
+            vec![Op::Write { buffer: buffer(name)?, at: below_24_bits(at)?, bytes }]
         }
         ["dump"] => vec![Op::Dump],
+        ["dump", "tape"] => vec![Op::DumpTape],
         ["raw", ref bytes @ ..] if !bytes.is_empty() => {
             vec![Op::Raw(bytes.iter().map(|word| byte(word)).collect::<Option<Vec<u8>>>()?)]
         }
@@ -438,9 +544,18 @@ pub fn describe(op: &Op, output: &[u8]) -> String {
         Op::Ticks { .. } => {
             format!("ticks {}, last {}", u16::from_le_bytes([output[0], output[1]]), answer_text(output[2]))
         }
-        Op::Lend { .. } | Op::Raw(_) => "nothing".to_string(),
+        Op::Lend { .. } | Op::Write { .. } | Op::Raw(_) => "nothing".to_string(),
         Op::Dump => describe_dump(output),
+        Op::DumpTape => describe_tape(output),
     }
+}
+
+/// The numbers of a dump of the tape; its bytes and what is pending are left out.
+fn describe_tape(output: &[u8]) -> String {
+    let marks = ["closed", "reading", "writing", "open with neither bit"];
+    let mark = marks.get(usize::from(output[TAPE])).unwrap_or(&"in no way open");
+    let record = u16::from_le_bytes([output[TAPE + 1], output[TAPE + 2]]);
+    format!("tape {mark}, record {record}, place or number pending {}", output[TAPE + 3])
 }
 
 /// A dump's numbers and open blocks on one line; its buffers are left out.

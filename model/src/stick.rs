@@ -1,4 +1,5 @@
-//! The stick as document 01 tells it: two ports, a console, a printer.
+//! The stick as document 01 tells it: two ports, a console, a printer; and the
+//! tape of document 02's Ask 1.
 //!
 //! Clear before fast: messages are kept whole, and each rule stands where the
 //! paper has it. States handed in damaged are not modelled (answer 3 never
@@ -11,9 +12,24 @@ pub const SCREEN: usize = 61_440;
 /// The paper's bytes.
 pub const PAPER: usize = 4_096;
 /// The bytes of the lent state. What they mean is the stick's own: here only their number counts.
-pub const STATE: usize = 602;
-/// The whole lengths of the lent buffers: areas, screen, paper, state.
-pub const WHOLE: [usize; 4] = [2 * AREA, SCREEN, PAPER, STATE];
+pub const STATE: usize = 733;
+/// The tape's bytes, and those of a record: $55, $55, a control byte, 128 data bytes, a checksum.
+pub const TAPE: usize = 33_000;
+pub const RECORD: usize = 132;
+pub const RECORDS: usize = TAPE / RECORD;
+pub const DATA: usize = 128;
+/// The whole lengths of the lent buffers: areas, screen, paper, state, tape.
+pub const WHOLE: [usize; 5] = [2 * AREA, SCREEN, PAPER, STATE, TAPE];
+
+/// Control bytes: "$FC is full; $FA is partial ..; $FE is end of file".
+pub const FULL: u8 = 0xFC;
+pub const PARTIAL: u8 = 0xFA;
+pub const END: u8 = 0xFE;
+/// Where a record has its control byte, its data, a partial record's count ("in the byte before the checksum") and its checksum.
+pub const CONTROL_AT: usize = 2;
+pub const DATA_AT: usize = 3;
+pub const COUNT_AT: usize = 130;
+pub const CHECKSUM_AT: usize = 131;
 
 /// The end of a record.
 pub const EOL: u8 = 0x9B;
@@ -42,7 +58,9 @@ pub const NOT_WRITABLE: u8 = 0x87;
 pub const END_OF_FILE: u8 = 0x88;
 pub const RECORD_CUT: u8 = 0x89;
 pub const CURSOR_RANGE: u8 = 0x8D;
-pub const PAPER_FULL: u8 = 0x90;
+pub const BAD_RECORD: u8 = 0x8F;
+/// Of paper and tape.
+pub const DEVICE_FULL: u8 = 0x90;
 pub const SCREEN_MODE: u8 = 0x91;
 pub const UNKNOWN_TAG: u8 = 0x92;
 pub const PAST_AREA: u8 = 0xB0;
@@ -125,6 +143,15 @@ pub enum Device {
     S,
     K,
     P,
+    C,
+}
+
+/// What a request holds while it runs.
+#[derive(Clone, Copy, Debug, PartialEq, Eq)]
+pub enum Group {
+    Console,
+    Printer,
+    Tape,
 }
 
 impl Device {
@@ -134,6 +161,7 @@ impl Device {
             b'S' => Some(Device::S),
             b'K' => Some(Device::K),
             b'P' => Some(Device::P),
+            b'C' => Some(Device::C),
             _ => None,
         }
     }
@@ -144,12 +172,17 @@ impl Device {
             Device::S => b'S',
             Device::K => b'K',
             Device::P => b'P',
+            Device::C => b'C',
         }
     }
 
-    /// E, S and K share the console; P is the printer's only device.
-    pub fn is_console(self) -> bool {
-        self != Device::P
+    /// E, S and K share the console; P is the printer's only device, C the tape's.
+    pub fn group(self) -> Group {
+        match self {
+            Device::E | Device::S | Device::K => Group::Console,
+            Device::P => Group::Printer,
+            Device::C => Group::Tape,
+        }
     }
 }
 
@@ -192,6 +225,10 @@ impl Call {
 
     fn writes(&self) -> bool {
         matches!(self.command, PUT_RECORD | PUT_CHARACTERS)
+    }
+
+    fn is_bad(&self) -> bool {
+        matches!(self.command, 0 | 1 | 2 | 4 | 6 | 8 | 0x0A)
     }
 
     fn by_record(&self) -> bool {
@@ -256,16 +293,92 @@ pub struct Console {
     pub inverse: u8,
 }
 
+/// How the tape is open; its number in a dump.
+#[derive(Clone, Copy, Debug, PartialEq, Eq)]
+pub enum Mark {
+    Closed = 0,
+    Reading = 1,
+    Writing = 2,
+    /// Open with neither R nor W.
+    Neither = 3,
+}
+
+/// The tape but for its bytes: its own mark, the record that holds or takes
+/// the next character, the place in it, and the characters put and not yet
+/// written.
+#[derive(Clone, Debug, PartialEq, Eq)]
+pub struct Cassette {
+    pub mark: Mark,
+    pub record: usize,
+    pub place: usize,
+    pub pending: Vec<u8>,
+}
+
+impl Cassette {
+    /// "Opening starts at its beginning"; a closed tape has no place either.
+    fn at_the_beginning(mark: Mark) -> Cassette {
+        Cassette { mark, record: 0, place: 0, pending: Vec::new() }
+    }
+}
+
+/// "The sum of the first 131 bytes, each carry out of eight bits added back."
+pub fn checksum(bytes: &[u8]) -> u8 {
+    bytes.iter().fold(0, |sum: u8, &byte| {
+        let (sum, carry) = sum.overflowing_add(byte);
+        sum + u8::from(carry)
+    })
+}
+
+/// A record's bytes, its checksum right.
+pub fn record(control: u8, data: [u8; DATA]) -> [u8; RECORD] {
+    let mut record = [0; RECORD];
+    record[..CONTROL_AT].fill(0x55);
+    record[CONTROL_AT] = control;
+    record[DATA_AT..CHECKSUM_AT].copy_from_slice(&data);
+    record[CHECKSUM_AT] = checksum(&record[..CHECKSUM_AT]);
+    record
+}
+
+/// A partial record: the characters, zeros, their number in the last data byte.
+pub fn partial_record(characters: &[u8]) -> [u8; RECORD] {
+    let mut data = [0; DATA];
+    data[..characters.len()].copy_from_slice(characters);
+    data[DATA - 1] = characters.len() as u8;
+    record(PARTIAL, data)
+}
+
+/// The end record: "$FE is end of file, data all zero".
+pub fn end_record() -> [u8; RECORD] {
+    record(END, [0; DATA])
+}
+
+/// The characters of a record's bytes, $88 for a good end record. "A bad
+/// checksum, control byte or partial count (0, above 127) reads as $8F"; the
+/// two $55 and an end record's data are judged by the checksum alone.
+pub fn characters(record: &[u8]) -> Result<&[u8], u8> {
+    if record[CHECKSUM_AT] != checksum(&record[..CHECKSUM_AT]) {
+        return Err(BAD_RECORD);
+    }
+    match (record[CONTROL_AT], record[COUNT_AT]) {
+        (FULL, _) => Ok(&record[DATA_AT..DATA_AT + DATA]),
+        (PARTIAL, count @ 1..=127) => Ok(&record[DATA_AT..DATA_AT + usize::from(count)]),
+        (END, _) => Err(END_OF_FILE),
+        _ => Err(BAD_RECORD),
+    }
+}
+
 #[derive(Clone, Debug, PartialEq, Eq)]
 pub struct Stick {
     pub area: Vec<u8>,
     pub screen: Vec<u8>,
     pub paper: Vec<u8>,
+    pub tape: Vec<u8>,
     pub used: usize,
     pub console: Console,
+    pub cassette: Cassette,
     pub ports: [Port; 2],
-    /// The lengths at which area, screen, paper and state are lent now.
-    pub lent: [usize; 4],
+    /// The lengths at which area, screen, paper, state and tape are lent now.
+    pub lent: [usize; 5],
 }
 
 /// A two-byte number, low byte first.
@@ -286,6 +399,7 @@ impl Stick {
             area: vec![0; 2 * AREA],
             screen: vec![0; SCREEN],
             paper: vec![0; PAPER],
+            tape: vec![0; TAPE],
             used: 0,
             console: Console {
                 mode: 0,
@@ -298,6 +412,7 @@ impl Stick {
                 lock: 1,
                 inverse: 0,
             },
+            cassette: Cassette::at_the_beginning(Mark::Closed),
             ports: [Port::fresh(), Port::fresh()],
             lent: WHOLE,
         };
@@ -307,7 +422,8 @@ impl Stick {
 
     // ---- the five calls ----
 
-    /// Fresh start. The paper's bytes stay as they are lent.
+    /// Fresh start. The bytes of paper and tape stay as they are lent: what is
+    /// pending is not written.
     pub fn fresh(&mut self) -> u8 {
         if self.lent != WHOLE {
             return LENT_LENGTH;
@@ -320,6 +436,7 @@ impl Stick {
         self.console.key = NO_KEY;
         self.console.lock = 1;
         self.console.inverse = 0;
+        self.cassette = Cassette::at_the_beginning(Mark::Closed);
         self.ports = [Port::fresh(), Port::fresh()];
         DONE
     }
@@ -383,7 +500,7 @@ impl Stick {
         if self.lent != WHOLE {
             return LENT_LENGTH;
         }
-        if self.holds(0, true) || self.holds(1, true) {
+        if self.holds(0, Group::Console) || self.holds(1, Group::Console) {
             return CONSOLE_HELD;
         }
         self.console.key = code;
@@ -401,11 +518,27 @@ impl Stick {
         }
     }
 
-    /// Whether the port holds the console, or else the printer.
-    fn holds(&self, port: usize, console: bool) -> bool {
+    /// Whether the port holds the group.
+    pub fn holds(&self, port: usize, group: Group) -> bool {
         match &self.ports[port].phase {
-            Phase::Running(run) => run.file.device.is_console() == console,
+            Phase::Running(run) => run.file.device.group() == group,
             _ => false,
+        }
+    }
+
+    /// The device that the port's CALL is about, ready or running: that of its
+    /// block, or of the specification by which a closed block is opened.
+    pub fn device(&self, port: usize) -> Option<Device> {
+        let call = match &self.ports[port].phase {
+            Phase::Running(run) => return Some(run.file.device),
+            Phase::Ready(message) if message[..3] == [0x10, 9, 0] => Call::of(&message[3..]),
+            _ => return None,
+        };
+        match self.ports[port].blocks.get(usize::from(call.iocb))? {
+            _ if call.is_bad() => None,
+            Some(file) => Some(file.device),
+            None if call.reads() || call.writes() || call.command == CLOSE => None,
+            None => self.specification(port, call.address).ok().map(|(device, _)| device),
         }
     }
 
@@ -473,7 +606,7 @@ impl Stick {
                 return DONE;
             }
         };
-        if self.holds(1 - port, file.device.is_console()) {
+        if self.holds(1 - port, file.device.group()) {
             return GROUP_HELD;
         }
         if call.reads() || call.writes() {
@@ -494,7 +627,7 @@ impl Stick {
         if call.iocb > 7 {
             return Err(BAD_IOCB);
         }
-        if matches!(call.command, 0 | 1 | 2 | 4 | 6 | 8 | 0x0A) {
+        if call.is_bad() {
             return Err(BAD_COMMAND);
         }
         let block = self.ports[port].blocks[usize::from(call.iocb)];
@@ -555,12 +688,14 @@ impl Stick {
                 Ok(())
             }
             CLOSE => {
+                self.close(file.device);
                 self.ports[port].blocks[iocb] = None;
                 Ok(())
             }
             command => {
                 if self.ports[port].blocks[iocb].is_none() {
                     self.open(file, call.aux2)?;
+                    self.close(file.device);
                 }
                 if command == GET_STATUS {
                     Ok(())
@@ -629,6 +764,8 @@ impl Stick {
             Device::P if bit(R) => Err(BAD_COMMAND),
             Device::E if bit(R) && !bit(FORCED) => Err(BAD_COMMAND),
             Device::S if bit(SPLIT) || !(3..=8).contains(&aux2) => Err(SCREEN_MODE),
+            Device::C if bit(R) && bit(W) => Err(BAD_COMMAND),
+            Device::C if self.cassette.mark != Mark::Closed => Err(ALREADY_OPEN),
             Device::K | Device::P => Ok(()),
             Device::E => {
                 self.open_editor();
@@ -638,6 +775,21 @@ impl Stick {
                 self.open_screen(aux2, bit(KEEP));
                 Ok(())
             }
+            Device::C => {
+                self.cassette = Cassette::at_the_beginning(match (bit(R), bit(W)) {
+                    (true, _) => Mark::Reading,
+                    (_, true) => Mark::Writing,
+                    _ => Mark::Neither,
+                });
+                Ok(())
+            }
+        }
+    }
+
+    /// A device's close; only the tape's does something.
+    fn close(&mut self, device: Device) {
+        if device == Device::C {
+            self.close_tape();
         }
     }
 
@@ -664,6 +816,7 @@ impl Stick {
             Device::S => self.screen_get(),
             Device::K => self.key_get(),
             Device::P => unreachable!("P offers no R"),
+            Device::C => self.tape_get(),
         }
     }
 
@@ -674,11 +827,12 @@ impl Stick {
             Device::K => unreachable!("K offers no W"),
             Device::P => {
                 if self.used == PAPER {
-                    return Err(PAPER_FULL);
+                    return Err(DEVICE_FULL);
                 }
                 self.paper[self.used] = byte;
                 self.used += 1;
             }
+            Device::C => return self.tape_put(byte),
         }
         Ok(())
     }
@@ -816,6 +970,65 @@ impl Stick {
             _ => {}
         }
         Err(END_OF_FILE)
+    }
+
+    // C
+
+    /// The next character. Its record is judged as it lies; a refusal moves
+    /// nothing.
+    fn tape_get(&mut self) -> Result<u8, u8> {
+        let Cassette { mut record, mut place, .. } = self.cassette;
+        let mut characters = self.characters_of(record)?;
+        if place >= characters.len() {
+            // The count has meanwhile fallen to the place or below.
+            (record, place) = (record + 1, 0);
+            characters = self.characters_of(record)?;
+        }
+        let character = characters[place];
+        // Behind a record's last character comes the next record.
+        let next = if place + 1 < characters.len() { (record, place + 1) } else { (record + 1, 0) };
+        (self.cassette.record, self.cassette.place) = next;
+        Ok(character)
+    }
+
+    /// The characters of a record on the tape; "a tape that runs out reads as $88".
+    fn characters_of(&self, record: usize) -> Result<&[u8], u8> {
+        if record == RECORDS {
+            return Err(END_OF_FILE);
+        }
+        characters(&self.tape[RECORD * record..RECORD * (record + 1)])
+    }
+
+    /// "A full record is written with its 128th character ..; a character after
+    /// 249 full records gives $90."
+    fn tape_put(&mut self, byte: u8) -> Result<(), u8> {
+        if self.cassette.record == RECORDS - 1 {
+            return Err(DEVICE_FULL);
+        }
+        self.cassette.pending.push(byte);
+        if let Ok(data) = <[u8; DATA]>::try_from(&self.cassette.pending[..]) {
+            self.write_record(record(FULL, data));
+            self.cassette.pending.clear();
+        }
+        Ok(())
+    }
+
+    /// "CLOSE after writing, implied ones too, flushes a partial record and
+    /// adds the end record": also where nothing was put.
+    fn close_tape(&mut self) {
+        if self.cassette.mark == Mark::Writing {
+            if !self.cassette.pending.is_empty() {
+                self.write_record(partial_record(&self.cassette.pending));
+            }
+            self.write_record(end_record());
+        }
+        self.cassette = Cassette::at_the_beginning(Mark::Closed);
+    }
+
+    fn write_record(&mut self, bytes: [u8; RECORD]) {
+        let from = RECORD * self.cassette.record;
+        self.tape[from..from + RECORD].copy_from_slice(&bytes);
+        self.cassette.record += 1;
     }
 }
 

@@ -2,7 +2,7 @@
 //! `./test` compares.
 
 use model::random::{call, conversation, fetch, field, load};
-use model::script::{Op, Player};
+use model::script::{Figures, Op, Player, TAPE_STATUSES};
 use model::stick::*;
 use std::collections::BTreeMap;
 
@@ -20,7 +20,9 @@ const TRANSFERS: [(u8, &str); 4] = [
     (PUT_CHARACTERS, "PUT CHARACTERS"),
 ];
 /// Each device's letter and the AUX1 with all that it offers.
-const OFFERED: [(u8, u8); 4] = [(b'E', R | W | FORCED), (b'S', R | W), (b'K', R), (b'P', W)];
+const OFFERED: [(u8, u8); 6] = [(b'E', R | W | FORCED), (b'S', R | W), (b'K', R), (b'P', W), (b'C', R), (b'C', W)];
+/// The buffers that `W` writes, with their lengths.
+const WRITTEN: [(u8, usize); 4] = [(0, 2 * AREA), (1, SCREEN), (2, PAPER), (4, TAPE)];
 
 /// The names of all boundaries.
 fn boundaries() -> Vec<String> {
@@ -116,11 +118,104 @@ fn boundaries() -> Vec<String> {
             add(format!("P, {way} at {used}"));
         }
     }
-    for device in ["E", "S", "K"] {
+    for device in ["E", "S", "K", "C"] {
         add(format!("{device}, a read of length 0"));
     }
-    for device in ["S", "K", "P"] {
+    for device in ["S", "K", "P", "C"] {
         add(format!("{device}, a refused character of length 0"));
+    }
+    all.extend(tape_boundaries());
+    all
+}
+
+/// The names of the tape's boundaries.
+fn tape_boundaries() -> Vec<String> {
+    let mut all = Vec::new();
+    let mut add = |name: String| all.push(name);
+    for command in ["OPEN", "GET STATUS", "SPECIAL"] {
+        for way in ["R", "W", "both", "neither"] {
+            for tape in ["closed", "open on the own port", "open on the other port"] {
+                add(format!("C, {command} with {way}, tape {tape}"));
+            }
+        }
+        add(format!("C, {command} on a block that is open"));
+        add(format!("C, {command} answered 8"));
+    }
+    for mark in ["Reading", "Writing", "Neither"] {
+        add(format!("C, GET on a block open, {mark}"));
+        add(format!("C, PUT on a block open, {mark}"));
+        add(format!("C, CLOSE, {mark}"));
+        add(format!("C, fresh start, {mark}"));
+        add(format!("tape dumped, {mark}"));
+    }
+    for what in ["fresh start, tape held", "a dump with an open block", "a key taken, tape held"] {
+        add(format!("C, {what}"));
+    }
+    for held in ["Console", "Printer"] {
+        add(format!("Tape starts, {held} held"));
+        add(format!("{held} starts, Tape held"));
+    }
+    for way in ["characters", "record", "added EOL", "A"] {
+        for pending in [0, 126, 127] {
+            add(format!("C, {way} at {pending} pending"));
+        }
+        add(format!("C, {way} into the last place"));
+        add(format!("C, {way} on a full tape"));
+    }
+    for pending in [0, 1, 126, 127] {
+        add(format!("C, CLOSE with {pending} pending"));
+    }
+    for what in ["nothing put", "pending at record 248", "249 full records"] {
+        add(format!("C, CLOSE with {what}"));
+    }
+    for kind in ["full", "partial"] {
+        for what in ["first", "last"] {
+            add(format!("C, GET of the {what} character of a {kind} record"));
+        }
+        add(format!("C, GET of the last character of record 249, {kind}"));
+    }
+    for count in [1, 126, 127] {
+        add(format!("C, GET from a partial record of {count}"));
+    }
+    for what in [
+        "GET from a good record without $55",
+        "GET from a record of checksum FF",
+        "GET with the count fallen to the place",
+        "GET with the count fallen below the place",
+        "GET with the count fallen, the next record refused",
+        "end, an end record",
+        "end, an end record with data",
+        "end, an end record in the middle",
+        "end, run out",
+        "end while a record is dropped",
+        "bad, checksum, control FA",
+        "bad, checksum, control FC",
+        "bad, checksum, control FE",
+        "bad, checksum 0 for FF",
+        "bad, checksum modulo 256",
+        "bad, control byte",
+        "bad, count 0",
+        "bad, count 128",
+        "bad, count 255",
+        "bad, in the middle",
+        "bad, record 249",
+        "bad while a record is dropped",
+        "bad, and bad again",
+    ] {
+        add(format!("C, {what}"));
+    }
+    for call in ["fresh", "take", "tick", "give", "press"] {
+        add(format!("tape lent cut, {call}"));
+    }
+    for (buffer, _) in WRITTEN {
+        for what in ["up to its end", "over its end", "behind its end"] {
+            add(format!("W into buffer {buffer} {what}"));
+        }
+    }
+    for what in
+        ["into the rooms", "into no buffer", "of no bytes", "while a buffer is lent cut", "into a record that is read"]
+    {
+        add(format!("W {what}"));
     }
     all
 }
@@ -131,6 +226,17 @@ struct Watch<'a> {
     reached: &'a mut BTreeMap<String, u64>,
     /// For each port's PUT RECORD on E whether it is plain characters on a blank row so far, and that row.
     plain: [Option<usize>; 2],
+    /// The port that got $8F from the tape last, if nothing was read since, and the record.
+    bad: Option<(usize, usize)>,
+}
+
+/// The name of a command that opens a closed block.
+fn command_name(command: u8) -> &'static str {
+    match command {
+        OPEN => "OPEN",
+        GET_STATUS => "GET STATUS",
+        _ => "SPECIAL",
+    }
 }
 
 impl Watch<'_> {
@@ -139,8 +245,9 @@ impl Watch<'_> {
     }
 
     fn play(&mut self, op: &Op) -> bool {
+        self.beside(op);
         match *op {
-            Op::Dump => true,
+            Op::Dump | Op::DumpTape => true,
             Op::Tick { port } => {
                 self.tick(port);
                 true
@@ -158,9 +265,65 @@ impl Watch<'_> {
         }
     }
 
+    /// What an op that is no tick comes to.
+    fn beside(&mut self, op: &Op) {
+        let stick = &self.player.stick;
+        let Cassette { mark, record, place, .. } = stick.cassette;
+        let whole = stick.lent == WHOLE;
+        let held = stick.holds(0, Group::Tape) || stick.holds(1, Group::Tape);
+        let console = stick.holds(0, Group::Console) || stick.holds(1, Group::Console);
+        if stick.lent[4] != TAPE && stick.lent[..4] == WHOLE[..4] {
+            let call = match op {
+                Op::Fresh => "fresh",
+                Op::Take { .. } => "take",
+                Op::Tick { .. } => "tick",
+                Op::Give { .. } => "give",
+                Op::Press { .. } => "press",
+                _ => "no call",
+            };
+            self.note(format!("tape lent cut, {call}"));
+        }
+        match op {
+            Op::Fresh if whole => {
+                self.note(format!("C, fresh start, {mark:?}"));
+                if held {
+                    self.note("C, fresh start, tape held".to_string());
+                }
+            }
+            Op::Press { .. } if whole && held && !console => self.note("C, a key taken, tape held".to_string()),
+            Op::DumpTape => self.note(format!("tape dumped, {mark:?}")),
+            Op::Dump if mark != Mark::Closed => self.note("C, a dump with an open block".to_string()),
+            Op::Write { buffer, at, bytes } => {
+                let (at, end) = (*at as usize, *at as usize + bytes.len());
+                match WRITTEN.iter().find(|(number, _)| number == buffer) {
+                    Some((_, length)) if at >= *length => self.note(format!("W into buffer {buffer} behind its end")),
+                    Some((_, length)) if end > *length => self.note(format!("W into buffer {buffer} over its end")),
+                    Some((_, length)) if end == *length => self.note(format!("W into buffer {buffer} up to its end")),
+                    Some(_) => {}
+                    None if *buffer == 3 => self.note("W into the rooms".to_string()),
+                    None => self.note("W into no buffer".to_string()),
+                }
+                if bytes.is_empty() {
+                    self.note("W of no bytes".to_string());
+                }
+                if !whole {
+                    self.note("W while a buffer is lent cut".to_string());
+                }
+                let from = RECORD * record;
+                if *buffer == 4 && mark == Mark::Reading && place > 0 && at < from + RECORD && end > from {
+                    self.note("W into a record that is read".to_string());
+                }
+            }
+            _ => {}
+        }
+    }
+
     fn tick(&mut self, port: u8) -> u8 {
         let stick = &self.player.stick;
         let place = usize::from(port).min(1);
+        let (device, other) = (stick.device(place), 1 - place);
+        let held = [Group::Console, Group::Printer, Group::Tape].into_iter().find(|group| stick.holds(other, *group));
+        let (cassette, blocks) = (stick.cassette.clone(), stick.ports[place].blocks);
         let before = match &stick.ports[place].phase {
             ready @ Phase::Ready(_) => Some(ready.clone()),
             running @ Phase::Running(_) => Some(running.clone()),
@@ -171,12 +334,148 @@ impl Watch<'_> {
         self.player.play(&Op::Tick { port }, &mut answer);
         if answer[0] == DONE {
             match before {
-                Some(Phase::Ready(message)) => self.started(place, &message),
+                Some(Phase::Ready(message)) => {
+                    self.started(place, &message);
+                    if let (Some(device), Some(held)) = (device, held) {
+                        self.note(format!("{:?} starts, {held:?} held", device.group()));
+                    }
+                    if device == Some(Device::C) {
+                        self.started_on_tape(place, &message[3..], &cassette, &blocks);
+                    }
+                }
+                Some(Phase::Running(run)) if run.file.device == Device::C => {
+                    self.moved(place, &run, &console, used);
+                    self.moved_on_tape(place, &run, &cassette);
+                }
                 Some(Phase::Running(run)) => self.moved(place, &run, &console, used),
                 _ => unreachable!("a tick that does something"),
             }
+        } else if let (GROUP_HELD, Some(Device::C), Some(Phase::Ready(message))) = (answer[0], device, before) {
+            self.note(format!("C, {} answered 8", command_name(message[4])));
         }
         answer[0]
+    }
+
+    /// The start tick of a CALL about C; cassette and the port's blocks as they were before.
+    fn started_on_tape(&mut self, port: usize, value: &[u8], before: &Cassette, blocks: &[Option<File>; 8]) {
+        let Some(block) = blocks.get(usize::from(value[0])) else { return };
+        let (command, name) = (value[1], command_name(value[1]));
+        let Cassette { mark, record, ref pending, .. } = *before;
+        match (command, block) {
+            (CLOSE, _) => {
+                self.note(format!("C, CLOSE, {mark:?}"));
+                if mark == Mark::Writing {
+                    self.note(format!("C, CLOSE with {} pending", pending.len()));
+                    let names = [
+                        (record == 0 && pending.is_empty(), "nothing put"),
+                        (record == 248 && !pending.is_empty(), "pending at record 248"),
+                        (record == 249, "249 full records"),
+                    ];
+                    for (_, what) in names.iter().filter(|(met, _)| *met) {
+                        self.note(format!("C, CLOSE with {what}"));
+                    }
+                }
+            }
+            (GET_RECORD | GET_CHARACTERS, _) => self.note(format!("C, GET on a block open, {mark:?}")),
+            (PUT_RECORD | PUT_CHARACTERS, _) => self.note(format!("C, PUT on a block open, {mark:?}")),
+            (_, Some(_)) => self.note(format!("C, {name} on a block that is open")),
+            (_, None) => {
+                let way = match value[6] & (R | W) {
+                    R => "R",
+                    W => "W",
+                    0 => "neither",
+                    _ => "both",
+                };
+                let own = blocks.iter().flatten().any(|file| file.device == Device::C);
+                let tape = match mark {
+                    Mark::Closed => "closed",
+                    _ if own => "open on the own port",
+                    _ => "open on the other port",
+                };
+                let status = self.status(port);
+                let expected = match (way, tape, command) {
+                    ("both", ..) => BAD_COMMAND,
+                    (_, "closed", OPEN | GET_STATUS) => SUCCESS,
+                    (_, "closed", _) => BAD_COMMAND,
+                    _ => ALREADY_OPEN,
+                };
+                assert_eq!(status, Some(expected));
+                self.note(format!("C, {name} with {way}, tape {tape}"));
+            }
+        }
+    }
+
+    /// A character of C moved, or was refused; the cassette as it was before.
+    fn moved_on_tape(&mut self, port: usize, run: &Run, before: &Cassette) {
+        let Cassette { mark, record, place, ref pending } = *before;
+        let n = run.call.length;
+        if mark == Mark::Writing {
+            let way = match run.call.command {
+                _ if n == 0 => "A",
+                _ if run.count == n => "added EOL",
+                PUT_RECORD => "record",
+                _ => "characters",
+            };
+            self.note(format!("C, {way} at {} pending", pending.len()));
+            if record == 249 {
+                self.note(format!("C, {way} on a full tape"));
+            } else if record == 248 && pending.len() == 127 {
+                self.note(format!("C, {way} into the last place"));
+            }
+            return;
+        }
+        let dropped = n > 0 && run.count == n;
+        if record == RECORDS {
+            self.note("C, end, run out".to_string());
+            return;
+        }
+        let bytes = self.player.stick.tape[RECORD * record..RECORD * (record + 1)].to_vec();
+        let (control, count, sum) = (bytes[CONTROL_AT], bytes[COUNT_AT], bytes[CHECKSUM_AT]);
+        let kind = if control == FULL { "full" } else { "partial" };
+        let names = match characters(&bytes) {
+            Ok(characters) => {
+                let length = characters.len();
+                let last = place + 1 == length;
+                let refused = matches!(self.status(port), Some(END_OF_FILE | BAD_RECORD));
+                vec![
+                    (place == 0, format!("GET of the first character of a {kind} record")),
+                    (last, format!("GET of the last character of a {kind} record")),
+                    (last && record == 249, format!("GET of the last character of record 249, {kind}")),
+                    (control == PARTIAL, format!("GET from a partial record of {count}")),
+                    (bytes[..2] != [0x55; 2], "GET from a good record without $55".to_string()),
+                    (sum == 255, "GET from a record of checksum FF".to_string()),
+                    (place == length, "GET with the count fallen to the place".to_string()),
+                    (place > length, "GET with the count fallen below the place".to_string()),
+                    (place >= length && refused, "GET with the count fallen, the next record refused".to_string()),
+                ]
+            }
+            Err(END_OF_FILE) => vec![
+                (true, "end, an end record".to_string()),
+                (bytes[DATA_AT..CHECKSUM_AT] != [0; DATA], "end, an end record with data".to_string()),
+                (place > 0, "end, an end record in the middle".to_string()),
+                (dropped, "end while a record is dropped".to_string()),
+            ],
+            Err(_) => {
+                let right = checksum(&bytes[..CHECKSUM_AT]);
+                let modulo_256 = bytes[..CHECKSUM_AT].iter().fold(0, |sum: u8, byte| sum.wrapping_add(*byte));
+                let known = [FULL, PARTIAL, END].contains(&control);
+                vec![
+                    (sum != right && known, format!("bad, checksum, control {control:02X}")),
+                    (sum == 0 && right == 255, "bad, checksum 0 for FF".to_string()),
+                    (sum != right && sum == modulo_256, "bad, checksum modulo 256".to_string()),
+                    (sum == right && !known, "bad, control byte".to_string()),
+                    (sum == right && control == PARTIAL, format!("bad, count {count}")),
+                    (place > 0, "bad, in the middle".to_string()),
+                    (record == 249, "bad, record 249".to_string()),
+                    (dropped, "bad while a record is dropped".to_string()),
+                    (self.bad == Some((port, record)), "bad, and bad again".to_string()),
+                ]
+            }
+        };
+        for (_, what) in names.into_iter().filter(|(met, _)| *met) {
+            self.note(format!("C, {what}"));
+        }
+        self.bad = (self.status(port) == Some(BAD_RECORD)).then_some((port, record));
     }
 
     /// The status in the reply, once it is made.
@@ -352,14 +651,15 @@ impl Watch<'_> {
     }
 }
 
-/// The boundaries that a script comes to, and how often.
-fn watch(script: &[Op], reached: &mut BTreeMap<String, u64>) {
-    let mut watch = Watch { player: Player::new(), reached, plain: [None; 2] };
+/// The boundaries that a script comes to, and how often; what was played.
+fn watch(script: &[Op], reached: &mut BTreeMap<String, u64>) -> Figures {
+    let mut watch = Watch { player: Player::new(), reached, plain: [None; 2], bad: None };
     for op in script {
         if !watch.play(op) {
             break;
         }
     }
+    watch.player.figures
 }
 
 fn missing(reached: &BTreeMap<String, u64>) -> Vec<String> {
@@ -376,11 +676,14 @@ fn the_gates_scripts() {
 
 #[test]
 fn each_boundary_is_reached() {
-    let mut reached = BTreeMap::new();
+    let (mut reached, mut figures) = (BTreeMap::new(), Figures::default());
     for seed in FIRST_SEED..FIRST_SEED + SCRIPTS {
-        watch(&conversation(seed, false), &mut reached);
+        figures.add(&watch(&conversation(seed, false), &mut reached));
     }
     assert_eq!(missing(&reached), Vec::<String>::new());
+    // Each status of C was seen, and no other.
+    assert_eq!(figures.tape.keys().copied().collect::<Vec<u8>>(), TAPE_STATUSES);
+    assert!(figures.tape_waits > 0);
 }
 
 /// What some messages on port 0 come to, of the boundaries alone.
@@ -422,6 +725,26 @@ fn what_is_reached() {
             assert_eq!(reached.contains(&format!("E, {name}")), full, "{length}: {name}");
         }
         assert!(reached.contains(&format!("E, PUT RECORD of {length} on a blank row")), "{length}");
+    }
+    // The 128th character of a record of C, and the one before it; read again, a full record and a partial one.
+    for (length, full) in [(127, false), (128, true)] {
+        let close = vec![call(0, CLOSE, 0, 0, [0; 3])];
+        let written = [open(b"C:", [W, 0, 0]), put(PUT_CHARACTERS, &vec![b'A'; length]), close].concat();
+        let read = [open(b"C:", [R, 0, 0]), vec![call(0, GET_CHARACTERS, 100, 200, [0; 3])]].concat();
+        let reached = of_messages(&[written, read].concat());
+        for (name, met) in [
+            ("characters at 127 pending", full),
+            ("CLOSE with 0 pending", full),
+            ("CLOSE with 127 pending", !full),
+            ("GET of the last character of a full record", full),
+            ("GET of the last character of a partial record", !full),
+            ("GET from a partial record of 127", !full),
+            ("CLOSE with nothing put", false),
+            ("end, an end record", true),
+            ("end, run out", false),
+        ] {
+            assert_eq!(reached.contains(&format!("C, {name}")), met, "{length}: {name}");
+        }
     }
     for (length, last) in [(39, false), (40, true)] {
         let there = put(PUT_CHARACTERS, &[EOL; 23]);

@@ -40,7 +40,7 @@ fn reading_03_added_eol_has_its_own_tick() {
     let mut bench = Bench::with(b"P:", 8, 0);
     bench.stick.used = PAPER - 2;
     let reply = bench.put(PUT_RECORD, b"AB");
-    assert_eq!((reply.status, reply.count), (PAPER_FULL, 2));
+    assert_eq!((reply.status, reply.count), (DEVICE_FULL, 2));
 }
 
 #[test]
@@ -104,7 +104,7 @@ fn reading_10_the_printer_does_not_hold_the_console() {
 
 #[test]
 fn reading_11_every_call_is_lent_every_buffer() {
-    for buffer in 0..4 {
+    for buffer in 0..WHOLE.len() {
         let mut bench = editor();
         bench.send(0, &load(0, b"A"));
         bench.finish(0);
@@ -377,7 +377,7 @@ fn reading_40_a_refused_put_is_not_counted() {
     let mut bench = Bench::with(b"P:", 8, 0);
     bench.stick.used = PAPER - 1;
     let reply = bench.put(PUT_CHARACTERS, b"AB");
-    assert_eq!((reply.status, reply.count, reply.ticks), (PAPER_FULL, 1, 3));
+    assert_eq!((reply.status, reply.count, reply.ticks), (DEVICE_FULL, 1, 3));
 }
 
 #[test]
@@ -723,5 +723,5 @@ fn reading_79_one_paper() {
     assert_eq!((&bench.stick.paper[..6], bench.stick.used), (&b"A\xFF\x9BB\x9B\0"[..], 5));
     bench.stick.used = PAPER - 1;
     assert_eq!(bench.put(PUT_CHARACTERS, b"A").status, SUCCESS);
-    assert_eq!(bench.put(PUT_CHARACTERS, b"A").status, PAPER_FULL);
+    assert_eq!(bench.put(PUT_CHARACTERS, b"A").status, DEVICE_FULL);
 }

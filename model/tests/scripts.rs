@@ -20,11 +20,15 @@ press 3F
 lend area 100
 lend state 602
 lend 7 70000
+lend tape 33000
+write tape 132 55 55 FA
+write 9 16777215
 dump
+dump tape
 raw 54 00
 ";
 const BYTES: &str = "46 540011 540005 540000 540000 540000 540045 54003A 54009B 4B00 4700 4700 4700 4700 4700 \
-    540110 54FFFF 58012C01 503F 4C00640000 4C035A0200 4C07701101 44 5400";
+    540110 54FFFF 58012C01 503F 4C00640000 4C035A0200 4C07701101 4C04E88000 57048400000300 5555FA 5709FFFFFF0000 44 43 5400";
 
 fn bytes(text: &str) -> Vec<u8> {
     let digits: String = text.split_whitespace().collect();
@@ -56,6 +60,10 @@ fn comments_and_faults() {
         "tick 0 x 65536",
         "press",
         "lend area 16777216",
+        "write tape",
+        "write tape 16777216",
+        "write tape 0 100",
+        "dump paper",
         "raw",
     ] {
         assert_eq!(from_text(&format!("fresh\n{line}")), Err(format!("line 2: not an op: {line}")));
@@ -73,10 +81,11 @@ fn what_is_written() {
     assert_eq!(written("tick 0 x 0\ntick 0 x 9\ntick 7 x 9"), [0, 0, 0, 1, 0, 7, 1, 0, 1]);
     assert_eq!(written("take 0 55 00 00\ntick 0 x 9"), [0, 0, 0, 1, 0, 0]);
     // Cut and whole again; another buffer changes nothing.
-    assert_eq!(written("lend area 5\nfresh\ntick 9\nlend area 16777215\ntick 9\nlend 4 0\nfresh"), [2, 2, 1, 0]);
+    assert_eq!(written("lend area 5\nfresh\ntick 9\nlend area 16777215\ntick 9\nlend 9 0\nfresh"), [2, 2, 1, 0]);
     // Another op, or a cut one, ends the run.
     assert_eq!(written("fresh\nraw 00\nfresh"), [0]);
     assert_eq!(play(b"FT\0"), [0]);
+    assert_eq!(play(b"FW\x04\0\0\0\x02\0F"), [0]);
     assert_eq!(play(b""), []);
 }
 

@@ -14,6 +14,8 @@ use Rattle.editor.specs.Text as editor
 use Rattle.controls.specs.Put as controls
 use Rattle.editor.specs.Get as editor-get
 use Rattle.graphics.specs.Picture as graphics
+use Rattle.records.specs.Records.{tapeLength}
+use Rattle.cassette.specs.Cassette.{cassetteGroup, freshCassette}
 use Rattle.printer.specs.Printer.{paperLength, printerGroup}
 use Rattle.console.specs.Group.{group, freshGroup, pressedOf}
 use Rattle.console.specs.Handlers.{openE, openS, openOf, prepareE, prepareS, prepareOf, readE, readS, readK, readOf, writeE, writeS, writeOf}
@@ -49,7 +51,7 @@ abbrev hear : List ℕ → Heard → Heard
 hear reply h = record { replies = reply ∷ h .replies; cursor = h .cursor; cells = h .cells }
 
 abbrev pressed : ℕ → Groups → Groups
-pressed code d = record { console = group (pressedOf code (d .console .console)) (d .console .screen); printer = d .printer }
+pressed code d = record { console = group (pressedOf code (d .console .console)) (d .console .screen); printer = d .printer; cassette = d .cassette }
 
 abbrev pub run : List Step → Local → Groups → Heard
 run [] l d = seenAt d
@@ -57,7 +59,7 @@ run (says said ∷ rest) l d = let w = aloneOf said l d in hear (w .reply) (run 
 run (presses code ∷ rest) l d = run rest l (pressed code d)
 
 abbrev fresh : List Step → Heard
-fresh steps = run steps (local 0 closedTable (replicate areaLength 0)) (record { console = freshGroup; printer = printerGroup 0 (replicate paperLength 0) })
+fresh steps = run steps (local 0 closedTable (replicate areaLength 0)) (record { console = freshGroup; printer = printerGroup 0 (replicate paperLength 0); cassette = cassetteGroup freshCassette (replicate 128 0) (replicate tapeLength 0) })
 
 abbrev asks : (iocb command address length aux1 aux2 a : ℕ) → Step
 asks iocb command address length aux1 aux2 a =

@@ -9,8 +9,10 @@ pub fit-part : (g : Group) (s : Groups) → FitGroups s → FitPart g (getGroup 
 fit-part group.Nobody s f = tt
 fit-part group.Console s f = f .console
 fit-part group.Printer s f = f .printer
+fit-part group.Cassette s f = f .cassette
 
 pub fit-put : (g : Group) (s : Groups) (x : Part g) → FitGroups s → FitPart g x → FitGroups (putGroup g s x)
 fit-put group.Nobody s x f h = f
-fit-put group.Console s x f h = record { console = h; printer = f .printer }
-fit-put group.Printer s x f h = record { console = f .console; printer = h }
+fit-put group.Console s x f h = record { console = h; printer = f .printer; cassette = f .cassette }
+fit-put group.Printer s x f h = record { console = f .console; printer = h; cassette = f .cassette }
+fit-put group.Cassette s x f h = record { console = f .console; printer = f .printer; cassette = h }

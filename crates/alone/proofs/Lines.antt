@@ -1,10 +1,11 @@
--- What the theorems ask of a handler, shown of E, S, K and P.
+-- What the theorems ask of a handler, shown of E, S, K, P and C.
 -- Assumes nothing.
 use mathlib.Core.Path.{_≡_, _∙_, refl, sym, ap}
 use mathlib.Core.Bool.{Bool, true, false, not}
 use mathlib.Core.List.{List}
 use Prim.Native.Nat.{ℕ, zero, suc, _+_, _-_, _*_, _≤_, _<_}
 use native.Mathlib.Nat.{suc-mul, mul-le-mul-right, mul-comm, le-trans}
+use native.Mathlib.Numerals.{add-one}
 use native.Mathlib.Omega.{arith}
 use lib.Dec.{leb, ltb}
 use lib.ListN.{getD}
@@ -27,14 +28,18 @@ use Rattle.editor.specs.Text.{Text, cellAt}
 use Rattle.editor.specs.Get.{columnOf, cellsHeld, endOf, getAt}
 use Rattle.editor.specs.Get as editor
 use Rattle.graphics.specs.declared.Graphics.{Graphics}
-use Rattle.graphics.specs.Picture.{onward, withLast, placed}
+use Rattle.graphics.specs.Picture.{withLast, placed}
 use Rattle.graphics.specs.Picture as graphics
 use Rattle.printer.proofs.Keeps as printer-keeps
+use Rattle.cassette.specs.Cassette.{CassetteGroup, readOf, cassetteLeft}
+use Rattle.cassette.specs.Fit.{FitCassette}
+use Rattle.cassette.proofs.Keeps as cassette-keeps
 use Rattle.console.specs.declared.Handler.{Handler}
 use Rattle.console.specs.declared.Handler.the-variants.{E, S, K}
 use Rattle.console.specs.declared.state.Console.{Console}
 use Rattle.console.specs.Group.{ConsoleGroup, graphicsOf}
-use Rattle.console.specs.Handlers.{textOf, openS, openOf, readE, readS, readK, readOf}
+use Rattle.console.specs.Handlers.{textOf, openS, openOf, readE, readS, readK}
+use Rattle.console.specs.Handlers as console-acts
 use Rattle.console.specs.Fit.{cursorFits, FitGroup, InUse}
 use Rattle.console.proofs.Keeps.{fits-of, open-fit, prepare-fit, prepare-use, read-fit, read-use, write-fit, write-use}
 use Rattle.blocks.specs.declared.Device.{Device}
@@ -46,7 +51,7 @@ use Rattle.devices.specs.declared.Owner.the-variants as owner
 use Rattle.devices.specs.Groups.{Part, ownerOf, groupIn, groupOf, ownActs, deviceActs}
 use Rattle.devices.specs.Fit.{FitPart}
 use Rattle.devices.proofs.Keeps.{opens-fit, specials-fit}
-use Rattle.alone.specs.Left.{leftE, leftS, leftK, consoleLeft, printerLeft, ownerLeft, deviceLeft}
+use Rattle.alone.specs.Left.{leftE, leftS, leftK, consoleLeft, printerLeft, oneMore, readsOf, leftC, ownerLeft, deviceLeft}
 use Rattle.alone.specs.Fit.{UsedBy, FitOwn}
 use Rattle.alone.specs.Moves.{mostMoves, Lines, Starts}
 
@@ -97,8 +102,8 @@ left-down R r C c h k =
 abbrev leftPicture : Graphics → ℕ
 leftPicture g = (shapeOf (g .mode) .rows - g .row) * shapeOf (g .mode) .columns - g .column
 
-onward-falls : (g : Graphics) → g .row < shapeOf (g .mode) .rows → g .column < shapeOf (g .mode) .columns → leftPicture g ≡ leftPicture (onward (shapeOf (g .mode)) g) + 1
-unfolding onward
+onward-falls : (g : Graphics) → g .row < shapeOf (g .mode) .rows → g .column < shapeOf (g .mode) .columns → leftPicture g ≡ leftPicture (graphics.onward (shapeOf (g .mode)) g) + 1
+unfolding graphics.onward
 onward-falls g h k =
     pick-lt (λ (y : Graphics). leftPicture g ≡ leftPicture y + 1) (g .column + 1) (shapeOf (g .mode) .columns) (placed (g .row) (g .column + 1) g) (placed (g .row + 1) 0 g)
     (λ l. left-right (shapeOf (g .mode) .rows) (g .row) (shapeOf (g .mode) .columns) (g .column) h l)
@@ -145,9 +150,9 @@ keys-falls c byte e =
     let k = c .keyboard in
     rw (ne-eqb (k .code) 0xFF (stored k byte e), eq-eqb (keys.getOf k .leaves .code) 0xFF (keys-keeps.get-empties k))
 
-console-falls : (h : Handler) (g : ConsoleGroup) (byte : ℕ) → FitGroup g → InUse h (g .console) → readOf h g .says ≡ got.Character byte → (byte ≡ eol → ⊥)
-    → consoleLeft h g ≡ consoleLeft h (readOf h g .leaves) + 1
-unfolding consoleLeft readOf readE readS leftE leftS
+console-falls : (h : Handler) (g : ConsoleGroup) (byte : ℕ) → FitGroup g → InUse h (g .console) → console-acts.readOf h g .says ≡ got.Character byte → (byte ≡ eol → ⊥)
+    → consoleLeft h g ≡ consoleLeft h (console-acts.readOf h g .leaves) + 1
+unfolding consoleLeft console-acts.readOf readE readS leftE leftS
 console-falls E g byte f u e n = text-falls (textOf g) byte e n
 console-falls S g byte f u e n =
     let c = g .console in
@@ -161,9 +166,45 @@ console-few E g = few-E g
 console-few S g = few-S (g .console)
 console-few K g = few-K (g .console)
 
+-- ---- C
+on-more : (says : Got) (n m : ℕ) → ((byte : ℕ) → says ≡ got.Character byte → n ≡ m) → oneMore says n ≡ oneMore says m
+on-more (got.Character byte) n m h = ap suc (h byte refl)
+on-more (got.Refused status) n m h = refl
+
+few-C : (most : ℕ) (g : CassetteGroup) → readsOf most g ≤ most
+unfolding readsOf
+few-C zero g = omega arith
+few-C (suc n) g = go (readOf g .says) (few-C n (readOf g .leaves))
+  where
+    go : (says : Got) → readsOf n (readOf g .leaves) ≤ n → oneMore says (readsOf n (readOf g .leaves)) ≤ suc n
+    go (got.Character byte) h = omega arith
+    go (got.Refused status) h = omega arith
+
+-- where the tape has no more characters than are asked for, one more changes nothing
+enough : (n : ℕ) (g : CassetteGroup) → FitCassette g → cassetteLeft g ≤ n → readsOf (suc n) g ≡ readsOf n g
+unfolding readsOf
+enough zero g f h = none (readOf g .says) refl
+  where
+    none : (says : Got) → readOf g .says ≡ says → oneMore says (readsOf 0 (readOf g .leaves)) ≡ 0
+    none (got.Character byte) e = absurd (omega (arith, cassette-keeps.read-falls g f byte e))
+    none (got.Refused status) e = refl
+enough (suc n) g f h =
+    on-more (readOf g .says) (readsOf (suc n) (readOf g .leaves)) (readsOf n (readOf g .leaves))
+    (λ byte e. enough n (readOf g .leaves) (cassette-keeps.read-fit g f) (omega (arith, cassette-keeps.read-falls g f byte e)))
+
+one-fewer : (n : ℕ) (g : CassetteGroup) (byte : ℕ) → FitCassette g → cassetteLeft g ≤ suc n → readOf g .says ≡ got.Character byte → readsOf (suc n) g ≡ suc (readsOf (suc n) (readOf g .leaves))
+unfolding readsOf
+one-fewer n g byte f h e =
+    ap (λ (says : Got). oneMore says (readsOf n (readOf g .leaves))) e
+    ∙ sym (ap suc (enough n (readOf g .leaves) (cassette-keeps.read-fit g f) (omega (arith, cassette-keeps.read-falls g f byte e))))
+
+tape-falls : (g : CassetteGroup) (byte : ℕ) → FitCassette g → readOf g .says ≡ got.Character byte → leftC g ≡ leftC (readOf g .leaves) + 1
+unfolding leftC
+tape-falls g byte f e = one-fewer 31999 g byte f (cassette-keeps.left-bound g) e ∙ sym (add-one (readsOf 32000 (readOf g .leaves)))
+
 -- a device of a group, by its owner
 pub owner-lines : (o : Owner) (asked : Asked) → Lines (ownActs o asked) (ownerLeft o) (FitOwn o)
-unfolding printerLeft
+unfolding printerLeft leftC
 owner-lines (owner.Console h) asked = record {
   read-fit = λ g f. (read-fit g (f .0) h (f .1), read-use g (f .0) h (f .1));
   write-fit = λ byte g f. (write-fit g (f .0) h byte (f .1), write-use g (f .0) h byte (f .1));
@@ -175,6 +216,12 @@ owner-lines owner.Printer asked = record {
   write-fit = λ byte g f. (printer-keeps.put-fit byte g (f .0), tt);
   falls = λ g byte f e n. absurd (no-character 0x83 byte e);
   few = λ g f. omega arith;
+}
+owner-lines owner.Cassette asked = record {
+  read-fit = λ g f. (cassette-keeps.read-fit g (f .0), tt);
+  write-fit = λ byte g f. (cassette-keeps.write-fit byte g (f .0), tt);
+  falls = λ g byte f e n. tape-falls g byte (f .0) e;
+  few = λ g f. omega (arith, few-C 32000 g);
 }
 
 refused-success : {A : Type 0} (status : ℕ) → Refused status ≡ Success → A
@@ -196,20 +243,24 @@ device-unsplit device.E asked x e = refl
 device-unsplit device.S asked x e = screen-unsplit asked x e
 device-unsplit device.K asked x e = refl
 device-unsplit device.P asked x e = refl
+device-unsplit device.C asked x e = refl
 
 -- what a device's acts before a transfer leave
 module _ (asked : Asked) where
   close-fits : (o : Owner) (x : Part (groupIn o)) → FitPart (groupIn o) x → FitPart (groupIn o) (ownActs o asked .closes x)
   close-fits (owner.Console h) x f = f
   close-fits owner.Printer x f = f
+  close-fits owner.Cassette x f = cassette-keeps.close-fit x f
 
   prepare-fits : (o : Owner) (x : Part (groupIn o)) → FitPart (groupIn o) x → FitPart (groupIn o) (ownActs o asked .prepares x .leaves)
   prepare-fits (owner.Console h) x f = prepare-fit x f h
   prepare-fits owner.Printer x f = f
+  prepare-fits owner.Cassette x f = f
 
   prepare-uses : (o : Owner) (x : Part (groupIn o)) → FitPart (groupIn o) x → ownActs o asked .prepares x .says ≡ Success → UsedBy o (ownActs o asked .prepares x .leaves)
   prepare-uses (owner.Console h) x f e = prepare-use x f h e
   prepare-uses owner.Printer x f e = tt
+  prepare-uses owner.Cassette x f e = tt
 
 pub device-lines : (d : Device) (asked : Asked) → Lines (deviceActs d asked) (deviceLeft d) (FitOwn (ownerOf d))
 device-lines d asked = owner-lines (ownerOf d) asked

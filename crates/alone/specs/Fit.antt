@@ -22,6 +22,7 @@ pub record FitLocal (l : Local) : Type 0 where
 abbrev pub UsedBy : (o : Owner) → Part (groupIn o) → Type 0
 UsedBy (owner.Console h) x = InUse h (x .console)
 UsedBy owner.Printer x = Unit {0}
+UsedBy owner.Cassette x = Unit {0}
 
 -- undamaged, and in use by this handler
 abbrev pub FitOwn : (o : Owner) → Part (groupIn o) → Type 0

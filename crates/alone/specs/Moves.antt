@@ -44,7 +44,7 @@ pub record Lines {D : Type 0} (H : Acts D) (left : D → ℕ) (Fit : D → Type 
   pub write-fit : (byte : ℕ) (x : D) → Fit x → Fit (H .writes byte x .leaves)
   -- a character that is not the EOL is one fewer to read
   pub falls : (x : D) (byte : ℕ) → Fit x → H .reads x .says ≡ got.Character byte → (byte ≡ eol → ⊥) → left x ≡ left (H .reads x .leaves) + 1
-  -- a screen has at most 61,440 cells
+  -- a screen has at most 61,440 cells, a tape 32,000 characters
   pub few : (x : D) → Fit x → left x < mostMoves
 
 -- Fit as above; Before: the device is undamaged; device: the handler's own

@@ -12,7 +12,7 @@ use lib.Seq.{getD-set-same, getD-set-other, set-getD}
 use Rattle.base.specs.Choice.{and, within}
 use Rattle.base.proofs.Choices.{pick-go, and-left, and-right}
 use Rattle.blocks.specs.declared.Device.{Device}
-use Rattle.blocks.specs.declared.Device.the-variants.{E, S, K, P}
+use Rattle.blocks.specs.declared.Device.the-variants.{E, S, K, P, C}
 use Rattle.blocks.specs.declared.ControlBlock.{ControlBlock}
 use Rattle.blocks.specs.declared.Table.{Table}
 use Rattle.blocks.specs.declared.Letter.{Letter}
@@ -29,6 +29,7 @@ device-letter E = refl
 device-letter S = refl
 device-letter K = refl
 device-letter P = refl
+device-letter C = refl
 
 -- a table
 pub with-length : (table : Table) (iocb : ℕ) (block : ControlBlock) → length (withBlock table iocb block .blocks) ≡ length (table .blocks)
@@ -97,6 +98,10 @@ keys-unwritten aux1 o = not-true (writes aux1) o
 pub paper-unread : (aux1 : ℕ) → offersOf P aux1 ≡ true → reads aux1 ≡ false
 unfolding offersOf
 paper-unread aux1 o = not-true (reads aux1) o
+
+pub tape-one-way : (aux1 : ℕ) → offersOf C aux1 ≡ true → reads aux1 ≡ true → writes aux1 ≡ false
+unfolding offersOf
+tape-one-way aux1 o r = not-true (writes aux1) (rw r at o)
 
 -- a specification names a number 1 to 8
 abbrev Numbered : Specification → Type 0

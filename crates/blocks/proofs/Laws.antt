@@ -17,7 +17,7 @@ use Rattle.blocks.specs.declared.ControlBlock.{ControlBlock}
 use Rattle.blocks.specs.declared.Table.{Table}
 use Rattle.blocks.specs.declared.Gather.{Gather}
 use Rattle.blocks.specs.declared.Device.{Device}
-use Rattle.blocks.specs.declared.Device.the-variants.{E, S, K, P}
+use Rattle.blocks.specs.declared.Device.the-variants.{E, S, K, P, C}
 use Rattle.blocks.specs.declared.Letter.{Letter}
 use Rattle.blocks.specs.declared.Letter.the-variants.{Unknown, Known}
 use Rattle.blocks.specs.declared.Specification.{Specification}
@@ -99,6 +99,15 @@ module _ (device : Device) (aux1 : ℕ) (t : Bool) where
   pub offers-paper : device ≡ P → t ≡ reads aux1 → not t ≡ offersOf device aux1
   unfolding offersOf
   offers-paper d e = rw (d, e)
+
+module _ (device : Device) (aux1 : ℕ) (d : device ≡ C) (t : Bool) (e : t ≡ reads aux1) where
+  pub offers-one-way : (w : Bool) → w ≡ writes aux1 → t ≡ true → not w ≡ offersOf device aux1
+  unfolding offersOf
+  offers-one-way w f q = rw (d, ← e, f, q)
+
+  pub offers-unread-tape : t ≡ false → true ≡ offersOf device aux1
+  unfolding offersOf
+  offers-unread-tape q = rw (d, ← e, q)
 
 pub offers-screen : (device : Device) (aux1 : ℕ) → device ≡ S → true ≡ offersOf device aux1
 unfolding offersOf

@@ -10,10 +10,10 @@ use native.Mathlib.Omega.{arith}
 use borrow.Author.Tests.{lt-ltb, le-ltb, le-leb, lt-leb, eq-eqb, ne-eqb}
 use lib.Dec.{T, leb}
 use lib.ListN.{getD}
-use Rattle.base.specs.Choice.{or, within, bit}
+use Rattle.base.specs.Choice.{and, or, within, bit}
 use Rattle.base.proofs.Choices.{by-eq, by-lt, and-false}
 use Rattle.blocks.specs.declared.Device.{Device}
-use Rattle.blocks.specs.declared.Device.the-variants.{E, S, K, P}
+use Rattle.blocks.specs.declared.Device.the-variants.{E, S, K, P, C}
 use Rattle.blocks.specs.declared.Letter.{Letter}
 use Rattle.blocks.specs.declared.Letter.the-variants.{Unknown, Known}
 use Rattle.blocks.specs.declared.Specification.{Specification}
@@ -33,16 +33,18 @@ by-letter byte p q =
     by-eq byte 0x45 (λ e. p (known E e))
     (λ e. by-eq byte 0x53 (λ s. p (known S s))
     (λ s. by-eq byte 0x4B (λ k. p (known K k))
-    (λ k. by-eq byte 0x50 (λ o. p (known P o)) (λ o. q (none e s k o)))))
+    (λ k. by-eq byte 0x50 (λ o. p (known P o))
+    (λ o. by-eq byte 0x43 (λ c. p (known C c)) (λ c. q (none e s k o c))))))
   where
-    other : (device : Device) → (byte ≡ 0x45 → ⊥) → (byte ≡ 0x53 → ⊥) → (byte ≡ 0x4B → ⊥) → (byte ≡ 0x50 → ⊥) → byte ≡ letterOf device → ⊥
-    other E e s k o = e
-    other S e s k o = s
-    other K e s k o = k
-    other P e s k o = o
+    other : (device : Device) → (byte ≡ 0x45 → ⊥) → (byte ≡ 0x53 → ⊥) → (byte ≡ 0x4B → ⊥) → (byte ≡ 0x50 → ⊥) → (byte ≡ 0x43 → ⊥) → byte ≡ letterOf device → ⊥
+    other E e s k o c = e
+    other S e s k o c = s
+    other K e s k o c = k
+    other P e s k o c = o
+    other C e s k o c = c
 
-    none : (byte ≡ 0x45 → ⊥) → (byte ≡ 0x53 → ⊥) → (byte ≡ 0x4B → ⊥) → (byte ≡ 0x50 → ⊥) → KnownLetter byte → ⊥
-    none e s k o l = other (l .device) e s k o (l .letter)
+    none : (byte ≡ 0x45 → ⊥) → (byte ≡ 0x53 → ⊥) → (byte ≡ 0x4B → ⊥) → (byte ≡ 0x50 → ⊥) → (byte ≡ 0x43 → ⊥) → KnownLetter byte → ⊥
+    none e s k o c l = other (l .device) e s k o c (l .letter)
 
 by-digit : {P : Type 0} (byte : ℕ) → (NumberDigit byte → P) → ((NumberDigit byte → ⊥) → P) → P
 by-digit byte p q =
@@ -56,7 +58,7 @@ unknown-device : (byte : ℕ) → (KnownLetter byte → ⊥) → deviceOf byte �
 unfolding deviceOf
 unknown-device byte n =
     let not : (device : Device) → byte ≡ letterOf device → ⊥ = λ device e. n (record { device = device; letter = e }) in
-    rw (ne-eqb byte 0x45 (not E), ne-eqb byte 0x53 (not S), ne-eqb byte 0x4B (not K), ne-eqb byte 0x50 (not P))
+    rw (ne-eqb byte 0x45 (not E), ne-eqb byte 0x53 (not S), ne-eqb byte 0x4B (not K), ne-eqb byte 0x50 (not P), ne-eqb byte 0x43 (not C))
 
 known-device : (byte : ℕ) (device : Device) → byte ≡ letterOf device → deviceOf byte ≡ Known device
 known-device byte device e = ap deviceOf e ∙ device-letter device
@@ -196,12 +198,17 @@ not-false : (a : Bool) → not a ≡ false → a ≡ true
 not-false true e = refl
 not-false false e = absurd (subst T e tt)
 
+both-true : (a b : Bool) → not (and a b) ≡ false → (a ≡ true) × (b ≡ true)
+both-true true b e = (refl, not-false b e)
+both-true false b e = absurd (subst T e tt)
+
 offered-not : (device : Device) (aux1 : ℕ) → offersOf device aux1 ≡ false → NotOffered device aux1
 unfolding offersOf
 offered-not E aux1 e = or-false (bit 4 aux1) (bit 1 aux1) e
 offered-not S aux1 e = absurd (subst T e tt)
 offered-not K aux1 e = not-false (bit 8 aux1) e
 offered-not P aux1 e = not-false (bit 4 aux1) e
+offered-not C aux1 e = both-true (bit 4 aux1) (bit 8 aux1) e
 
 not-offers : (device : Device) (aux1 : ℕ) → NotOffered device aux1 → offersOf device aux1 ≡ false
 unfolding offersOf
@@ -209,6 +216,7 @@ not-offers E aux1 p = rw (p .0, p .1)
 not-offers S aux1 p = absurd p
 not-offers K aux1 p = rw p
 not-offers P aux1 p = rw p
+not-offers C aux1 p = rw (p .0, p .1)
 
 -- "$84 .. AUX1 not offered"
 pub offers-not : (device : Device) (aux1 : ℕ) → (offersOf device aux1 ≡ false) ↔ NotOffered device aux1

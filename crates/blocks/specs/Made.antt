@@ -5,7 +5,7 @@ use mathlib.Core.List.{List, [], _∷_}
 use Prim.Native.Nat.{ℕ}
 use Rattle.base.specs.Choice.{and, within, bit}
 use Rattle.blocks.specs.declared.Device.{Device}
-use Rattle.blocks.specs.declared.Device.the-variants.{E, S, K, P}
+use Rattle.blocks.specs.declared.Device.the-variants.{E, S, K, P, C}
 use Rattle.blocks.specs.declared.BlockState.{BlockState}
 use Rattle.blocks.specs.declared.BlockState.the-variants.{Closed, Open}
 use Rattle.blocks.specs.declared.ControlBlock.{ControlBlock}
@@ -18,6 +18,7 @@ splits E aux1 = false
 splits S aux1 = bit 16 aux1
 splits K aux1 = false
 splits P aux1 = false
+splits C aux1 = false
 
 -- an OPEN makes a number 1 to 8 and an AUX1 that the device offers, S's without bit 4
 unfoldable pub madeOpen : Device → ℕ → ℕ → Bool

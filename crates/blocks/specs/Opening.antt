@@ -5,9 +5,9 @@ use mathlib.Core.List.{List}
 use Prim.Native.Nat.{ℕ, _+_, _-_}
 use lib.Dec.{eqb, ltb}
 use lib.ListN.{getD}
-use Rattle.base.specs.Choice.{pick, or, within, bit}
+use Rattle.base.specs.Choice.{pick, and, or, within, bit}
 use Rattle.blocks.specs.declared.Device.{Device}
-use Rattle.blocks.specs.declared.Device.the-variants.{E, S, K, P}
+use Rattle.blocks.specs.declared.Device.the-variants.{E, S, K, P, C}
 use Rattle.blocks.specs.declared.Letter.{Letter}
 use Rattle.blocks.specs.declared.Letter.the-variants.{Unknown, Known}
 use Rattle.blocks.specs.declared.Specification.{Specification}
@@ -17,12 +17,13 @@ use Rattle.blocks.specs.declared.Specification.the-variants.{Refused, Na
 abbrev pub areaLength : ℕ
 areaLength = 16384
 
--- "At the address: E, S, K or P"
+-- "At the address: E, S, K or P"; "Add C"
 abbrev pub letterOf : Device → ℕ
 letterOf E = 0x45
 letterOf S = 0x53
 letterOf K = 0x4B
 letterOf P = 0x50
+letterOf C = 0x43
 
 unfoldable pub deviceOf : ℕ → Letter
 deviceOf byte =
@@ -30,7 +31,8 @@ deviceOf byte =
     (pick (eqb byte (letterOf S)) (Known S)
     (pick (eqb byte (letterOf K)) (Known K)
     (pick (eqb byte (letterOf P)) (Known P)
-    Unknown)))
+    (pick (eqb byte (letterOf C)) (Known C)
+    Unknown))))
 
 -- "a needed byte past the area is $B0"
 abbrev pub needed : List ℕ → ℕ → (ℕ → Specification) → Specification
@@ -64,9 +66,11 @@ writes aux1 = bit 8 aux1
 abbrev pub forced : ℕ → Bool
 forced aux1 = bit 1 aux1
 
--- "K offers R, P offers W, E and S both; .. E with R needs bit 0, forced read (house)."
+-- "K offers R, P offers W, E and S both; .. E with R needs bit 0, forced read (house)."; "C opens for reading or writing, both at once is
+-- $84"
 unfoldable pub offersOf : Device → ℕ → Bool
 offersOf E aux1 = or (not (reads aux1)) (forced aux1)
 offersOf S aux1 = true
 offersOf K aux1 = not (writes aux1)
 offersOf P aux1 = not (reads aux1)
+offersOf C aux1 = not (and (reads aux1) (writes aux1))

@@ -9,12 +9,12 @@ use Prim.Native.Nat.{ℕ, _+_, _<_, _≤_}
 use lib.ListN.{getD}
 use Rattle.base.specs.Choice.{bit}
 use Rattle.blocks.specs.declared.Device.{Device}
-use Rattle.blocks.specs.declared.Device.the-variants.{E, S, K, P}
+use Rattle.blocks.specs.declared.Device.the-variants.{E, S, K, P, C}
 use Rattle.blocks.specs.declared.Specification.{Specification}
 use Rattle.blocks.specs.declared.Specification.the-variants.{Refused, Names}
 use Rattle.blocks.specs.Opening.{areaLength, letterOf}
 
--- "E, S, K or P"
+-- "E, S, K or P", and C
 pub record KnownLetter (byte : ℕ) : Type 0 where
   pub device : Device
   pub letter : byte ≡ letterOf device
@@ -58,9 +58,10 @@ module _ (half : List ℕ) (address : ℕ) where
     pub numbers : (status : ℕ) → s ≡ Refused status → (status ≡ 0x82 → ⊥) → status ≡ 0xB0
 
 -- "AUX1: R is 4, W is 8. K offers R, P offers W, E and S both; an AUX1 with neither bit is accepted. E with R needs bit 0, forced
--- read (house). Other bits do not refuse, save S's bit 4.": that one is the mode's
+-- read (house). Other bits do not refuse, save S's bit 4.": that one is the mode's. "C opens for reading or writing, both at once is $84"
 abbrev pub NotOffered : Device → (aux1 : ℕ) → Type 0
 NotOffered E aux1 = (bit 4 aux1 ≡ true) × (bit 1 aux1 ≡ false)
 NotOffered S aux1 = ⊥
 NotOffered K aux1 = bit 8 aux1 ≡ true
 NotOffered P aux1 = bit 4 aux1 ≡ true
+NotOffered C aux1 = (bit 4 aux1 ≡ true) × (bit 8 aux1 ≡ true)

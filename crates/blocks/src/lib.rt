@@ -12,6 +12,7 @@ pub enum Device {
     S,
     K,
     P,
+    C,
 }
 
 pub enum BlockState {
@@ -158,6 +159,9 @@ pub fn device_of(byte: u8) -> Letter
     if byte == b'P' {
         return Letter::Known(Device::P);
     }
+    if byte == b'C' {
+        return Letter::Known(Device::C);
+    }
     Letter::Unknown
 }
 
@@ -242,5 +246,12 @@ pub fn offers(device: Device, aux1: u8) -> bool
         Device::S => true,
         Device::K => !aux1_writes(aux1),
         Device::P => !aux1_reads(aux1),
+        Device::C => {
+            let reading = aux1_reads(aux1);
+            if reading {
+                return !aux1_writes(aux1);
+            }
+            true
+        }
     }
 }

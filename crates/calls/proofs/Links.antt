@@ -16,11 +16,8 @@ use Rattle.base.proofs.Parts.{part-length}
 use Rattle.handler.specs.declared.Asked.{Asked}
 use Rattle.handler.specs.Acts.{asksOpen}
 use Rattle.console.specs.Group.{group}
-use Rattle.console.specs.declared.state.Console.{Console}
-use Rattle.console.specs.Fit.{fitOf, FitGroup}
-use Rattle.printer.specs.declared.Printer.{Printer}
-use Rattle.printer.specs.Printer.{paperLength, printerGroup}
-use Rattle.printer.specs.Fit.{FitPrinter}
+use Rattle.printer.specs.Printer.{printerGroup}
+use Rattle.cassette.specs.Cassette.{cassetteGroup}
 use Rattle.blocks.specs.declared.Device.{Device}
 use Rattle.blocks.specs.declared.ControlBlock.{ControlBlock}
 use Rattle.blocks.specs.declared.Header.{Header}
@@ -33,16 +30,16 @@ use Rattle.blocks.specs.Opening.{areaLength}
 use Rattle.wire.specs.declared.Message.{Message}
 use Rattle.wire.specs.Messages.{messageOf, roomLength}
 use Rattle.layout.specs.Places.{phasePlace, tablePlace, devicesPlace, devicesLength, roomsPlace, roomPlace, areaPlace}
-use Rattle.layout.specs.Stick.{Stick, portAt, otherAt, withPort, withPhase, withTable, partAt, withPart}
-use Rattle.layout.specs.Layout.{headOf, phaseIn, stickIn}
+use Rattle.layout.specs.Stick.{Devices, Stick, portAt, otherAt, withPort, withPhase, withTable, partAt, withPart}
+use Rattle.layout.specs.Layout.{headOf, phaseIn, devicesIn, stickIn}
 use Rattle.layout.proofs.Lengths.{head-length, devices-length}
-use Rattle.layout.proofs.Ports.{by-port, own-phase, own-block, own-count, own-console, own-printer, own-devices, head-devices, part-of, with-part, part-back}
+use Rattle.layout.proofs.Ports.{by-port, own-phase, own-block, own-count, own-devices, own-pending, part-devices, head-devices, part-of, with-part, part-back}
 use Rattle.layout.proofs.WriteRead.{state-back}
 use Rattle.devices.specs.declared.Group.{Group}
 use Rattle.devices.specs.declared.Owner.{Owner}
 use Rattle.devices.specs.declared.Owner.the-variants as owner
 use Rattle.devices.specs.Groups.{Groups, Part, getGroup, putGroup, clash, ownerOf, groupIn, groupOf, heldOf, ownActs, deviceActs}
-use Rattle.devices.specs.Lent.{DevicesLent, devicesLent, printerWith, getLent, putLent, lentActs, lentOf}
+use Rattle.devices.specs.Lent.{DevicesLent, devicesLent, getLent, putLent, lentActs, devicesOf, lentOf}
 use Rattle.devices.specs.Fit.{FitPart, FitGroups}
 use Rattle.devices.proofs.Lens.{puts, still, later, back}
 use Rattle.devices.proofs.Keeps.{fit-at, opens-fit, specials-fit, goes-in}
@@ -59,7 +56,8 @@ use Rattle.moves.specs.Move.{Went, went, advanceOf}
 use Rattle.moves.proofs.Through.{seenWent, advance-through}
 use Rattle.cio.specs.Start.{Begun, begun, Freed, errandOf, jobBegun, startOf}
 use Rattle.cio.proofs.Through.{seenBegun, Starting, work-through}
-use Rattle.damage.specs.Fits.{portFits, stickFits}
+use Rattle.damage.specs.Fits.{stickFits}
+use Rattle.damage.proofs.Fitting.{console-fits, printer-fits, cassette-fits}
 use Rattle.calls.specs.Port.{Reach, reach, portWith, startPlan, moveRun}
 use Rattle.calls.specs.Stick.{Outcome, outcome, areaAt, roomAt, groupsAt, withGroups, reachAt, withReach, lentReach}
 use Rattle.calls.specs.Bytes.{Buffers, buffers, Left, left, leftOf, stickBy, lentBy}
@@ -89,7 +87,7 @@ module _ (port : ℕ) (b : Buffers) (c : Called port b) where
   all = groupsAt s (lentBy b)
 
   abbrev held : DevicesLent
-  held = devicesLent (numbersIn (b .state)) (b .screen) (b .paper)
+  held = devicesLent (numbersIn (b .state)) (b .screen) (b .paper) (b .tape)
 
   long : roomsPlace ≤ length (b .state)
   long = omega (arith, c .long)
@@ -113,34 +111,27 @@ module _ (port : ℕ) (b : Buffers) (c : Called port b) where
   -- the groups: what is lent of them is what the numbers and the buffers are
   is-lent : held ≡ lentOf all
   is-lent =
-      ap (λ (n : List ℕ). devicesLent n (b .screen) (b .paper))
-      (ap numbersIn (written .is) ∙ part-left devicesPlace devicesLength (headOf s) rooms (omega (arith, head-length s)) ∙ own-devices s)
+      ap (λ (n : List ℕ). devicesLent n (b .screen) (b .paper) (b .tape))
+      (ap numbersIn (written .is) ∙ part-left devicesPlace devicesLength (headOf s) rooms (omega (arith, head-length s)) ∙ part-devices s)
 
   reads-as : (o : Owner) → getLent (groupIn o) held ≡ getGroup (groupIn o) all
-  reads-as (owner.Console h) = ap (λ (x : Console). group x (b .screen)) (own-console (b .state) long)
-  reads-as owner.Printer = ap (λ (x : Printer). printerGroup (x .used) (b .paper)) (own-printer (b .state) long)
+  unfolding devicesIn
+  reads-as (owner.Console h) = ap (λ (d : Devices). group (d .console) (b .screen)) (own-devices (b .state) long)
+  reads-as owner.Printer = ap (λ (d : Devices). printerGroup (d .printer .used) (b .paper)) (own-devices (b .state) long)
+  reads-as owner.Cassette = ap (λ (d : Devices). cassetteGroup (d .cassette) (d .pending) (b .tape)) (own-devices (b .state) long)
 
   fit : FitGroups all
-  unfolding stickFits
-  fit =
-      let p0 = portFits (s .port0) (s .console) in
-      let p1 = portFits (s .port1) (s .console) in
-      let f = fitOf (s .console) in
-      let u = leb (s .printer .used) paperLength in
-      let e1 = and-right p0 _ (c .fits) in
-      let e2 = and-right p1 _ e1 in
-      let e3 = and-right f _ e2 in
-      record {
-        console = record { fit = and-left f _ e2; whole = c .whole };
-        printer = record { used = leb-true (s .printer .used) paperLength (and-left u _ e3); paper = c .sheet };
-      }
+  fit = record {
+    console = record { fit = console-fits s (lentBy b) (c .fits); whole = c .whole };
+    printer = record { used = printer-fits s (lentBy b) (c .fits); paper = c .sheet };
+    cassette = record { fits = cassette-fits s (lentBy b) (c .fits); pending = own-pending (b .state) long; tape = c .reel };
+  }
 
   -- bytes with these groups' numbers
   grouped : (g : Groups) → Written (sets (b .state) devicesPlace (lentOf g .numbers)) (withGroups g s) rooms
   grouped g =
       written-devices (b .state) s rooms written (lentOf g .numbers) (withGroups g s)
-      (head-devices s (g .console .console) (printerWith (g .printer .used)))
-      (devices-length (g .console .console) (printerWith (g .printer .used)))
+      (head-devices s (devicesOf g)) (devices-length (devicesOf g))
 
   -- "Each later tick moves one character or meets one handler refusal."
   module _ (run : Run) where
@@ -168,10 +159,10 @@ module _ (port : ℕ) (b : Buffers) (c : Called port b) where
         let room1 = room-read state1 (withGroups moved s) rooms w1 port (c .low) in
         let p = landed (goes .out) (partAt roomLength port rooms) in
         let l : length (p .room) ≡ roomLength = landed-long (goes .out) (partAt roomLength port rooms) ∙ room-long (b .state) s rooms written port (c .low) in
-        ap (λ (w : Went DevicesLent). left 0 0 (buffers (landOn port (w .out) (sets (b .state) devicesPlace (w .device .numbers))) (sets (b .area) (areaPlace port) (w .area)) (w .device .screen) (w .device .paper))) went-is
-        ∙ ap (λ (x : List ℕ). left 0 0 (buffers (withInPort port (landed (goes .out) x) state1) (sets (b .area) (areaPlace port) (goes .area)) (lentOf moved .screen) (lentOf moved .paper))) room1
-        ∙ ap (λ (x : List ℕ). left 0 0 (buffers x (sets (b .area) (areaPlace port) (goes .area)) (lentOf moved .screen) (lentOf moved .paper))) (landed-there state1 (withGroups moved s) rooms w1 port (c .low) p l)
-        ∙ ap (λ (x : List ℕ). left 0 0 (buffers (headOf (withPort port (withPhase (p .phase) (portAt port (withGroups moved s))) (withGroups moved s)) ++ withPart roomLength port (p .room) rooms) x (lentOf moved .screen) (lentOf moved .paper)))
+        ap (λ (w : Went DevicesLent). left 0 0 (buffers (landOn port (w .out) (sets (b .state) devicesPlace (w .device .numbers))) (sets (b .area) (areaPlace port) (w .area)) (w .device .screen) (w .device .paper) (w .device .tape))) went-is
+        ∙ ap (λ (x : List ℕ). left 0 0 (buffers (withInPort port (landed (goes .out) x) state1) (sets (b .area) (areaPlace port) (goes .area)) (lentOf moved .screen) (lentOf moved .paper) (lentOf moved .tape))) room1
+        ∙ ap (λ (x : List ℕ). left 0 0 (buffers x (sets (b .area) (areaPlace port) (goes .area)) (lentOf moved .screen) (lentOf moved .paper) (lentOf moved .tape))) (landed-there state1 (withGroups moved s) rooms w1 port (c .low) p l)
+        ∙ ap (λ (x : List ℕ). left 0 0 (buffers (headOf (withPort port (withPhase (p .phase) (portAt port (withGroups moved s))) (withGroups moved s)) ++ withPart roomLength port (p .room) rooms) x (lentOf moved .screen) (lentOf moved .paper) (lentOf moved .tape)))
         (half-there (goes .area) (advance-long (deviceActs (run .device)) port run (areaAt port (lentBy b)) (getGroup (groupIn own) all) ∙ half-long))
 
   -- what needs no group
@@ -181,11 +172,11 @@ module _ (port : ℕ) (b : Buffers) (c : Called port b) where
       let room0 = roomAt port (lentBy b) in
       let half0 = areaAt port (lentBy b) in
       let f = errandOf e room0 half0 in
-      ap (λ (x : List ℕ). let y = errandOf e x (halfIn port (b .area)) in left 0 0 (buffers (withInPort port (y .port) (b .state)) (sets (b .area) (areaPlace port) (y .area)) (b .screen) (b .paper))) room-is
-      ∙ ap (λ (x : List ℕ). let y = errandOf e room0 x in left 0 0 (buffers (withInPort port (y .port) (b .state)) (sets (b .area) (areaPlace port) (y .area)) (b .screen) (b .paper))) half-is
-      ∙ ap (λ (x : List ℕ). left 0 0 (buffers x (sets (b .area) (areaPlace port) (f .area)) (b .screen) (b .paper)))
+      ap (λ (x : List ℕ). let y = errandOf e x (halfIn port (b .area)) in left 0 0 (buffers (withInPort port (y .port) (b .state)) (sets (b .area) (areaPlace port) (y .area)) (b .screen) (b .paper) (b .tape))) room-is
+      ∙ ap (λ (x : List ℕ). let y = errandOf e room0 x in left 0 0 (buffers (withInPort port (y .port) (b .state)) (sets (b .area) (areaPlace port) (y .area)) (b .screen) (b .paper) (b .tape))) half-is
+      ∙ ap (λ (x : List ℕ). left 0 0 (buffers x (sets (b .area) (areaPlace port) (f .area)) (b .screen) (b .paper) (b .tape)))
       (landed-there (b .state) s rooms written port (c .low) (f .port) (errand-room e room0 half0 ∙ room-long (b .state) s rooms written port (c .low)))
-      ∙ ap (λ (x : List ℕ). left 0 0 (buffers (headOf (withPort port (withPhase (f .port .phase) (portAt port s)) s) ++ withPart roomLength port (f .port .room) rooms) x (b .screen) (b .paper)))
+      ∙ ap (λ (x : List ℕ). left 0 0 (buffers (headOf (withPort port (withPhase (f .port .phase) (portAt port s)) s) ++ withPart roomLength port (f .port .room) rooms) x (b .screen) (b .paper) (b .tape)))
       (half-there (f .area) (errand-half e room0 half0 ∙ half-long))
 
   -- "A ready port's first tick with the group free starts the request and does all but transfers."
@@ -239,12 +230,12 @@ module _ (port : ℕ) (b : Buffers) (c : Called port b) where
         let room2 = room-read state2 s2 rooms w2 port (c .low) in
         let p = landed (starts .out) (partAt roomLength port rooms) in
         let l : length (p .room) ≡ roomLength = landed-long (starts .out) (partAt roomLength port rooms) ∙ room-long (b .state) s rooms written port (c .low) in
-        let out : List ℕ → Left = λ (x : List ℕ). left 0 0 (buffers x (b .area) (lentOf begins .screen) (lentOf begins .paper)) in
-        ap (λ (x : Begun DevicesLent). left 0 0 (buffers (landOn port (x .out) (withBlockOn port iocb (x .block) (sets (b .state) devicesPlace (x .device .numbers)))) (b .area) (x .device .screen) (x .device .paper))) begun-is
+        let out : List ℕ → Left = λ (x : List ℕ). left 0 0 (buffers x (b .area) (lentOf begins .screen) (lentOf begins .paper) (lentOf begins .tape)) in
+        ap (λ (x : Begun DevicesLent). left 0 0 (buffers (landOn port (x .out) (withBlockOn port iocb (x .block) (sets (b .state) devicesPlace (x .device .numbers)))) (b .area) (x .device .screen) (x .device .paper) (x .device .tape))) begun-is
         ∙ ap (λ (x : List ℕ). out (withInPort port (landed (starts .out) x) state2)) room2
         ∙ ap out (landed-there state2 s2 rooms w2 port (c .low) p l)
         ∙ ap (λ (x : Stick). out (headOf x ++ withPart roomLength port (p .room) rooms)) (port-again port (c .low) (p .phase) p1 s1)
-        ∙ ap (λ (x : List ℕ). left 0 0 (buffers (headOf (withPort port (withPhase (p .phase) p1) s1) ++ withPart roomLength port (p .room) rooms) x (lentOf begins .screen) (lentOf begins .paper))) (sym (area-back port (c .low)))
+        ∙ ap (λ (x : List ℕ). left 0 0 (buffers (headOf (withPort port (withPhase (p .phase) p1) s1) ++ withPart roomLength port (p .room) rooms) x (lentOf begins .screen) (lentOf begins .paper) (lentOf begins .tape))) (sym (area-back port (c .low)))
       where
         area-back : (n : ℕ) → n < 2 → withPart areaLength n (partAt areaLength n (b .area)) (b .area) ≡ b .area
         area-back n h = part-back n h areaLength (b .area)

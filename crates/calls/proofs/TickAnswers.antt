@@ -48,15 +48,15 @@ module _ (port : ℕ) (b : Buffers) (c : Called port b) where
 
   -- bytes that stand are those of what they stand for
   pub as-it-was : (n byte : ℕ) → left n byte b ≡ leftOf (outcome n byte s l)
-  as-it-was n byte = ap (λ (x : List ℕ). left n byte (buffers x (b .area) (b .screen) (b .paper))) (written port b c .is)
+  as-it-was n byte = ap (λ (x : List ℕ). left n byte (buffers x (b .area) (b .screen) (b .paper) (b .tape))) (written port b c .is)
 
   -- a tick that reaches no further than it came
   stays : (n : ℕ) → left n 0 b ≡ leftOf (outcome n 0 (withReach port (reachAt port s l) s) (lentReach port (reachAt port s l) l))
   stays n =
       as-it-was n 0
       ∙ ap (λ (x : Stick). leftOf (outcome n 0 x l)) (sym (port-back port (c .low) s))
-      ∙ ap (λ (x : List ℕ). leftOf (outcome n 0 (withPort port (portAt port s) s) (lent x (l .area) (l .screen) (l .paper)))) (sym (part-back port (c .low) roomLength (l .rooms)))
-      ∙ ap (λ (x : List ℕ). leftOf (outcome n 0 (withPort port (portAt port s) s) (lent (lentReach port (reachAt port s l) l .rooms) x (l .screen) (l .paper)))) (sym (part-back port (c .low) areaLength (l .area)))
+      ∙ ap (λ (x : List ℕ). leftOf (outcome n 0 (withPort port (portAt port s) s) (lent x (l .area) (l .screen) (l .paper) (l .tape)))) (sym (part-back port (c .low) roomLength (l .rooms)))
+      ∙ ap (λ (x : List ℕ). leftOf (outcome n 0 (withPort port (portAt port s) s) (lent (lentReach port (reachAt port s l) l .rooms) x (l .screen) (l .paper) (l .tape)))) (sym (part-back port (c .low) areaLength (l .area)))
 
   abbrev tickedBy : Ticked → Outcome
   tickedBy t = outcome (t .answer) 0 (withReach port (t .reach) s) (lentReach port (t .reach) l)
@@ -103,22 +103,22 @@ module _ (port : ℕ) (b : Buffers) (c : Called port b) where
     spans-in (Get way) run e = record { span = e }
     spans-in (Put way) run e = record { span = e }
 
-    fits-port : portFits (portAt port s) (s .console) ≡ true
+    fits-port : portFits (portAt port s) (s .devices .console) ≡ true
     unfolding stickFits
     fits-port =
-        let p0 = portFits (s .port0) (s .console) in
-        let p1 = portFits (s .port1) (s .console) in
-        by-port (λ (n : ℕ). portFits (portAt n s) (s .console) ≡ true) (and-left p0 _ (c .fits)) (and-left p1 _ (and-right p0 _ (c .fits))) port (c .low)
+        let p0 = portFits (s .port0) (s .devices .console) in
+        let p1 = portFits (s .port1) (s .devices .console) in
+        by-port (λ (n : ℕ). portFits (portAt n s) (s .devices .console) ≡ true) (and-left p0 _ (c .fits)) (and-left p1 _ (and-right p0 _ (c .fits))) port (c .low)
 
     pub going : (run : Run) → phase ≡ Running run → Going port run b
     unfolding portFits phaseFits runFits
     going run z =
         let own-table = portAt port s .table in
-        let f = and-right (tableMade own-table) (phaseFits (portAt port s .phase) own-table (s .console)) fits-port in
-        let g : phaseFits (Running run) own-table (s .console) ≡ true = ap (λ (x : Phase). phaseFits x own-table (s .console)) (own (Running run) z) ∙ f in
+        let f = and-right (tableMade own-table) (phaseFits (portAt port s .phase) own-table (s .devices .console)) fits-port in
+        let g : phaseFits (Running run) own-table (s .devices .console) ≡ true = ap (λ (x : Phase). phaseFits x own-table (s .devices .console)) (own (Running run) z) ∙ f in
         let low = ltb (run .iocb) 8 in
         let opened = openFor (run .kind) (run .device) (blockAt own-table (run .iocb) .state) in
-        let used = inUse (run .device) (s .console .mode) in
+        let used = inUse (run .device) (s .devices .console .mode) in
         let spanned = spans (run .kind) run in
         let e1 = and-right low (and opened (and used spanned)) g in
         let e2 = and-right opened (and used spanned) e1 in

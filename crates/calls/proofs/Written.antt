@@ -20,7 +20,7 @@ use Rattle.blocks.specs.declared.Port.{Port}
 use Rattle.blocks.specs.Blocks.{withBlock}
 use Rattle.wire.specs.Messages.{roomLength}
 use Rattle.layout.specs.Places.{phaseLength, blockLength, tableLength, phasePlace, blockPlace, devicesPlace, devicesLength, roomsPlace, roomPlace}
-use Rattle.layout.specs.Stick.{Stick, portAt, withPort, withPhase, withTable, withConsole, withPrinter, partAt, withPart}
+use Rattle.layout.specs.Stick.{Stick, portAt, withPort, withPhase, withTable, withConsole, partAt, withPart}
 use Rattle.layout.specs.Layout.{headOf, phaseBytes, blockBytes, consoleBytes, printerBytes}
 use Rattle.layout.proofs.Lengths.{phase-length, devices-length, head-length}
 use Rattle.layout.proofs.Ports.{head-phase, head-block, head-devices, port-back, part-of, with-part}

@@ -8,6 +8,7 @@ use lib.Dec.{eqb, ltb}
 use lib.ListN.{length}
 use Rattle.base.specs.Choice.{pick, choose, and}
 use Rattle.printer.specs.Printer.{paperLength}
+use Rattle.records.specs.Records.{tapeLength}
 use Rattle.blocks.specs.Opening.{areaLength}
 use Rattle.layout.specs.Places.{stateLength}
 use Rattle.layout.specs.Stick.{Stick, freshStick, Lent}
@@ -17,15 +18,16 @@ use Rattle.damage.specs.Fits.{stickFits}
 use Rattle.calls.specs.Stick.{Outcome, screenLength}
 use Rattle.calls.specs.Calls.{freshCall, takeCall, tickCall, giveCall, pressCall}
 
--- the four lent buffers
+-- the five lent buffers
 pub record Buffers : Type 0 where
   pub state : List ℕ
   pub area : List ℕ
   pub screen : List ℕ
   pub paper : List ℕ
+  pub tape : List ℕ
 
-abbrev pub buffers : (state area screen paper : List ℕ) → Buffers
-buffers state area screen paper = record { state = state; area = area; screen = screen; paper = paper }
+abbrev pub buffers : (state area screen paper tape : List ℕ) → Buffers
+buffers state area screen paper tape = record { state = state; area = area; screen = screen; paper = paper; tape = tape }
 
 -- all that a call over bytes returns and leaves
 pub record Left : Type 0 where
@@ -41,16 +43,16 @@ abbrev pub leftAlone : ℕ → Buffers → Left
 leftAlone answer b = left answer 0 b
 
 -- "2 a lent buffer has another length", the state too
-unfoldable pub fourFit : (state area screen paper : ℕ) → Bool
-fourFit state area screen paper =
-    and (eqb state stateLength) (and (eqb area (2 * areaLength)) (and (eqb screen screenLength) (eqb paper paperLength)))
+unfoldable pub fiveFit : (state area screen paper tape : ℕ) → Bool
+fiveFit state area screen paper tape =
+    and (eqb state stateLength) (and (eqb area (2 * areaLength)) (and (eqb screen screenLength) (and (eqb paper paperLength) (eqb tape tapeLength))))
 
 abbrev pub buffersFit : Buffers → Bool
-buffersFit b = fourFit (length (b .state)) (length (b .area)) (length (b .screen)) (length (b .paper))
+buffersFit b = fiveFit (length (b .state)) (length (b .area)) (length (b .screen)) (length (b .paper)) (length (b .tape))
 
 -- the rooms and the other lent buffers, as a call of the stick is lent them
 abbrev pub lentBy : Buffers → Lent
-lentBy b = lentIn (b .state) (b .area) (b .screen) (b .paper)
+lentBy b = lentIn (b .state) (b .area) (b .screen) (b .paper) (b .tape)
 
 -- the stick that the bytes stand for
 abbrev pub stickBy : Buffers → Stick
@@ -62,7 +64,7 @@ undamagedIn b = and (stands (b .state)) (stickFits (stickBy b) (lentBy b))
 
 -- what a call of the stick leaves, as bytes
 abbrev pub leftOf : Outcome → Left
-leftOf o = left (o .answer) (o .byte) (buffers (headOf (o .stick) ++ o .lent .rooms) (o .lent .area) (o .lent .screen) (o .lent .paper))
+leftOf o = left (o .answer) (o .byte) (buffers (headOf (o .stick) ++ o .lent .rooms) (o .lent .area) (o .lent .screen) (o .lent .paper) (o .lent .tape))
 
 -- "Order: 2, 3, 1, the rest"
 unfoldable pub bytesRefusal : Buffers → (port : ℕ) → ℕ

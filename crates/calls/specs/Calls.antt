@@ -14,10 +14,10 @@ use Rattle.devices.specs.Groups.{heldOf, clash}
 use Rattle.calls.specs.Port.{Ticked, tickPort, Served, takePort, givePort}
 use Rattle.calls.specs.Stick.{Outcome, outcome, refused, lengthsFit, refusalOf, roomAt, withRoom, reachAt, withReach, lentReach}
 
--- "areas zero, paper used 0 (its bytes as lent), screen as after opening E with cells past 960 zero"; the rooms, which are no word of 01,
+-- "areas zero, paper used 0 (its bytes as lent)", the tape's bytes as lent too, "screen as after opening E with cells past 960 zero"; the rooms, which are no word of 01,
 -- are zero too
 abbrev pub freshLent : Lent → Lent
-freshLent l = lent (replicate (2 * roomLength) 0) (replicate (2 * areaLength) 0) (freshGroup .screen) (l .paper)
+freshLent l = lent (replicate (2 * roomLength) 0) (replicate (2 * areaLength) 0) (freshGroup .screen) (l .paper) (l .tape)
 
 -- "fresh start gives 0 or 2 only"
 unfoldable pub freshCall : Stick → Lent → Outcome
@@ -55,7 +55,7 @@ abbrev pub consoleHeld : Stick → Bool
 consoleHeld s = or (clash group.Console (heldOf (s .port0 .phase))) (clash group.Console (heldOf (s .port1 .phase)))
 
 abbrev pub withKey : ℕ → Stick → Stick
-withKey code s = withConsole (pressedOf code (s .console)) s
+withKey code s = withConsole (pressedOf code (s .devices .console)) s
 
 -- "6 key pressed while a request holds the console"
 unfoldable pub pressAt : Stick → Lent → (code : ℕ) → Outcome

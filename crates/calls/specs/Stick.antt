@@ -8,12 +8,13 @@ use lib.Dec.{eqb, ltb}
 use lib.ListN.{length}
 use Rattle.base.specs.Choice.{pick, and}
 use Rattle.cells.specs.Cells.{Whole}
-use Rattle.console.specs.Group.{group}
-use Rattle.printer.specs.Printer.{paperLength, printerGroup}
+use Rattle.printer.specs.Printer.{paperLength}
+use Rattle.records.specs.Records.{tapeLength}
 use Rattle.blocks.specs.Opening.{areaLength}
 use Rattle.wire.specs.Messages.{roomLength}
-use Rattle.layout.specs.Stick.{Stick, Lent, lent, portAt, withPort, partAt, withPart}
-use Rattle.devices.specs.Groups.{Groups, groups}
+use Rattle.layout.specs.Stick.{Stick, withDevices, Lent, lent, portAt, withPort, partAt, withPart}
+use Rattle.devices.specs.Groups.{Groups}
+use Rattle.devices.specs.Lent.{groupsOf, devicesOf}
 use Rattle.damage.specs.Fits.{stickFits}
 use Rattle.calls.specs.Port.{Reach, reach}
 
@@ -35,13 +36,14 @@ refused answer stick l = outcome answer 0 stick l
 abbrev pub screenLength : ℕ
 screenLength = 61440
 
--- "2 a lent buffer has another length": two rooms, two halves of the area, a screen, a paper
+-- "2 a lent buffer has another length": two rooms, two halves of the area, a screen, a paper, a tape
 unfoldable pub lengthsFit : Lent → Bool
 lengthsFit l =
     and (eqb (length (l .rooms)) (2 * roomLength))
     (and (eqb (length (l .area)) (2 * areaLength))
     (and (eqb (length (l .screen)) screenLength)
-    (eqb (length (l .paper)) paperLength)))
+    (and (eqb (length (l .paper)) paperLength)
+    (eqb (length (l .tape)) tapeLength))))
 
 -- "Order: 2, 3, 1, the rest"; "1 port above 1"; "3 damaged state"
 unfoldable pub refusalOf : Stick → Lent → (port : ℕ) → ℕ
@@ -53,6 +55,7 @@ pub record LengthsFit (l : Lent) : Type 0 where
   pub area : length (l .area) ≡ 2 * areaLength
   pub whole : Whole (l .screen)
   pub paper : length (l .paper) ≡ paperLength
+  pub tape : length (l .tape) ≡ tapeLength
 
 -- what is known of a call that is not refused so
 pub record Guarded (stick : Stick) (l : Lent) : Type 0 where
@@ -67,14 +70,14 @@ abbrev pub roomAt : ℕ → Lent → List ℕ
 roomAt port l = partAt roomLength port (l .rooms)
 
 abbrev pub withRoom : ℕ → List ℕ → Lent → Lent
-withRoom port room l = lent (withPart roomLength port room (l .rooms)) (l .area) (l .screen) (l .paper)
+withRoom port room l = lent (withPart roomLength port room (l .rooms)) (l .area) (l .screen) (l .paper) (l .tape)
 
 -- the groups: their numbers are the stick's, their buffers are lent
 abbrev pub groupsAt : Stick → Lent → Groups
-groupsAt s l = groups (group (s .console) (l .screen)) (printerGroup (s .printer .used) (l .paper))
+groupsAt s l = groupsOf (s .devices) (l .screen) (l .paper) (l .tape)
 
 abbrev pub withGroups : Groups → Stick → Stick
-withGroups g s = record { port0 = s .port0; port1 = s .port1; console = g .console .console; printer = record { used = g .printer .used } }
+withGroups g s = withDevices (devicesOf g) s
 
 abbrev pub reachAt : ℕ → Stick → Lent → Reach
 reachAt port s l = reach (portAt port s) (roomAt port l) (areaAt port l) (groupsAt s l)
@@ -85,4 +88,5 @@ withReach port r s = withPort port (r .port) (withGroups (r .groups) s)
 
 abbrev pub lentReach : ℕ → Reach → Lent → Lent
 lentReach port r l =
-    lent (withPart roomLength port (r .room) (l .rooms)) (withPart areaLength port (r .area) (l .area)) (r .groups .console .screen) (r .groups .printer .paper)
+    lent (withPart roomLength port (r .room) (l .rooms)) (withPart areaLength port (r .area) (l .area))
+    (r .groups .console .screen) (r .groups .printer .paper) (r .groups .cassette .tape)

@@ -29,8 +29,8 @@ run-errand-decides κs a z z′ ws ws′ p e e′ = let q = e ∙ sym e′ in (a
 pub run-errand-allows : Allows 2 run-errand-kinds.ps run-errand-kinds.r run-errand-reads.Pre run-errand-reads.Learnt
 run-errand-allows κs a p = (_, (_, refl))
 
-pub start-decides : Decides 3 start-kinds.ps start-kinds.r start-reads.Pre start-reads.Learnt
-start-decides κs a z z′ ws ws′ p e e′ = let q = e ∙ sym e′ in let same = out-decides (z .next) (z′ .next) (ap (λ (w : Begun DevicesLent). w .out) q) in (ap (λ (b : ControlBlock). record { block = b; next = z .next }) (ap (λ (w : Begun DevicesLent). w .block) q) ∙ ap (λ (n : Next). record { block = z′ .block; next = n }) same, ap (λ (w : Begun DevicesLent). (tt, (tt, (tt, (w .device .numbers, (w .device .screen, (w .device .paper, tt))))))) q)
+pub start-decides : Decides 4 start-kinds.ps start-kinds.r start-reads.Pre start-reads.Learnt
+start-decides κs a z z′ ws ws′ p e e′ = let q = e ∙ sym e′ in let same = out-decides (z .next) (z′ .next) (ap (λ (w : Begun DevicesLent). w .out) q) in (ap (λ (b : ControlBlock). record { block = b; next = z .next }) (ap (λ (w : Begun DevicesLent). w .block) q) ∙ ap (λ (n : Next). record { block = z′ .block; next = n }) same, ap (λ (w : Begun DevicesLent). (tt, (tt, (tt, (w .device .numbers, (w .device .screen, (w .device .paper, (w .device .tape, tt)))))))) q)
 
-pub start-allows : Allows 3 start-kinds.ps start-kinds.r start-reads.Pre start-reads.Learnt
+pub start-allows : Allows 4 start-kinds.ps start-kinds.r start-reads.Pre start-reads.Learnt
 start-allows κs a p = (record { block = _; next = nextIn _ }, (_, start-allowed _ _ _ _ _))

@@ -97,9 +97,9 @@ module _ {D : Type 0} (H : Asked → Acts D) (port : ℕ) (job : Job) (b : Contr
     unfolding workOf
     start-close y e q = rw (e, q, ← a)
 
-    pub start-status : (d : Done) (status : ℕ) → job .work ≡ work.Status → d ≡ H asked .statuses x → status ≡ doneStatus d → begun b x (outOf (Off status 0 (job .call .a))) ≡ jobBegun H port job b x
+    pub start-status : (status : ℕ) → job .work ≡ work.Status → status ≡ doneStatus (H asked .statuses x) → begun b x (outOf (Off status 0 (job .call .a))) ≡ jobBegun H port job b x
     unfolding workOf
-    start-status d status e q s = rw (e, s, q, ← a)
+    start-status status e s = rw (e, s, ← a)
 
     pub start-special : (d : Done) (y : D) (status : ℕ) → job .work ≡ work.Special → answer d y ≡ H asked .specials x → status ≡ doneStatus d → begun b y (outOf (Off status 0 (job .call .a))) ≡ jobBegun H port job b x
     unfolding workOf
@@ -113,3 +113,7 @@ module _ {D : Type 0} (H : Asked → Acts D) (port : ℕ) (job : Job) (b : Contr
     pub start-transfer : (kind : Kind) → job .work ≡ work.Transfer kind → begun c y (outOf next) ≡ transferOf H port kind (job .device) (job .call) b x → begun c y (outOf next) ≡ jobBegun H port job b x
     unfolding workOf
     start-transfer kind e q = q ∙ rw e
+
+-- what GET STATUS says, as a number
+pub said-status : (d e : Done) (status : ℕ) → d ≡ e → status ≡ doneStatus d → status ≡ doneStatus e
+said-status d e status q s = s ∙ ap doneStatus q

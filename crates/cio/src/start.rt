@@ -34,6 +34,20 @@ fn status_of(done: Done) -> u8
     }
 }
 
+// What GET STATUS says of a device.
+fn status_said(
+    device: Device,
+    asked: Asked,
+    numbers: &[u8],
+    screen: &[u8],
+    paper: &[u8],
+    tape: &[u8],
+) -> u8
+    ensures { λ r. ⌜ r ≡ doneStatus (lentActs device asked .statuses (devicesLent (now (numbers .entry)) (now (screen .entry)) (now (paper .entry)) (now (tape .entry)))) ⌝ }
+{
+    status_of(devices::status(device, asked, numbers, screen, paper, tape))
+}
+
 // After an opening: GET STATUS and SPECIAL answer and close again.
 fn then(
     after: After,
@@ -42,20 +56,21 @@ fn then(
     numbers: &mut [u8],
     screen: &mut [u8],
     paper: &mut [u8],
+    tape: &mut [u8],
 ) -> Done
-    requires { ⌜ Lends (now numbers) (now screen) ⌝ }
-    ensures { λ r. ⌜ answer r (devicesLent (now (numbers .exit)) (now (screen .exit)) (now (paper .exit))) ≡ thenOf (lentActs device asked) after (devicesLent (now (numbers .entry)) (now (screen .entry)) (now (paper .entry))) ⌝ }
+    requires { ⌜ Lends (now numbers) (now screen) (now tape) ⌝ }
+    ensures { λ r. ⌜ answer r (devicesLent (now (numbers .exit)) (now (screen .exit)) (now (paper .exit)) (now (tape .exit))) ≡ thenOf (lentActs device asked) after (devicesLent (now (numbers .entry)) (now (screen .entry)) (now (paper .entry)) (now (tape .entry))) ⌝ }
 {
     match after {
         After::Stay => Done::Success,
         After::Status => {
-            let done = devices::status(device, asked, numbers, screen, paper);
-            devices::close(device, asked, numbers, screen, paper);
+            let done = devices::status(device, asked, numbers, screen, paper, tape);
+            devices::close(device, asked, numbers, screen, paper, tape);
             done
         }
         After::Special => {
-            let done = devices::special(device, asked, numbers, screen, paper);
-            devices::close(device, asked, numbers, screen, paper);
+            let done = devices::special(device, asked, numbers, screen, paper, tape);
+            devices::close(device, asked, numbers, screen, paper, tape);
             done
         }
     }
@@ -68,13 +83,14 @@ fn open(
     numbers: &mut [u8],
     screen: &mut [u8],
     paper: &mut [u8],
+    tape: &mut [u8],
 ) -> Done
-    requires { ⌜ Lends (now numbers) (now screen) ⌝ }
-    ensures { λ r. ⌜ answer r (devicesLent (now (numbers .exit)) (now (screen .exit)) (now (paper .exit))) ≡ openedOf (lentActs device asked) after (devicesLent (now (numbers .entry)) (now (screen .entry)) (now (paper .entry))) ⌝ }
+    requires { ⌜ Lends (now numbers) (now screen) (now tape) ⌝ }
+    ensures { λ r. ⌜ answer r (devicesLent (now (numbers .exit)) (now (screen .exit)) (now (paper .exit)) (now (tape .exit))) ≡ openedOf (lentActs device asked) after (devicesLent (now (numbers .entry)) (now (screen .entry)) (now (paper .entry)) (now (tape .entry))) ⌝ }
 {
-    let done = devices::open(device, asked, numbers, screen, paper);
+    let done = devices::open(device, asked, numbers, screen, paper, tape);
     match done {
-        Done::Success => then(after, device, asked, numbers, screen, paper),
+        Done::Success => then(after, device, asked, numbers, screen, paper, tape),
         Done::Refused(status) => Done::Refused(status),
     }
 }
@@ -103,9 +119,10 @@ fn opening(
     numbers: &mut [u8],
     screen: &mut [u8],
     paper: &mut [u8],
+    tape: &mut [u8],
 ) -> Begin
-    requires { ⌜ Lends (now numbers) (now screen) ⌝ }
-    ensures { λ r. ⌜ begun (r .block) (devicesLent (now (numbers .exit)) (now (screen .exit)) (now (paper .exit))) (outOf (r .next)) ≡ openingOf (lentActs (job .device)) port after number name (job .device) (job .call) block (devicesLent (now (numbers .entry)) (now (screen .entry)) (now (paper .entry))) ⌝ }
+    requires { ⌜ Lends (now numbers) (now screen) (now tape) ⌝ }
+    ensures { λ r. ⌜ begun (r .block) (devicesLent (now (numbers .exit)) (now (screen .exit)) (now (paper .exit)) (now (tape .exit))) (outOf (r .next)) ≡ openingOf (lentActs (job .device)) port after number name (job .device) (job .call) block (devicesLent (now (numbers .entry)) (now (screen .entry)) (now (paper .entry)) (now (tape .entry))) ⌝ }
 {
     let device = job.device;
     let call = job.call;
@@ -124,7 +141,7 @@ fn opening(
                 aux1: call.aux1,
             },
         };
-        let done = open(after, device, asked, numbers, screen, paper);
+        let done = open(after, device, asked, numbers, screen, paper, tape);
         let settled = settle(done, after, opened, block);
         return Begin {
             block: settled,
@@ -166,14 +183,15 @@ fn transfer(
     numbers: &mut [u8],
     screen: &mut [u8],
     paper: &mut [u8],
+    tape: &mut [u8],
 ) -> Begin
-    requires { ⌜ Lends (now numbers) (now screen) ⌝ }
-    ensures { λ r. ⌜ begun (r .block) (devicesLent (now (numbers .exit)) (now (screen .exit)) (now (paper .exit))) (outOf (r .next)) ≡ transferOf (lentActs (job .device)) port kind (job .device) (job .call) block (devicesLent (now (numbers .entry)) (now (screen .entry)) (now (paper .entry))) ⌝ }
+    requires { ⌜ Lends (now numbers) (now screen) (now tape) ⌝ }
+    ensures { λ r. ⌜ begun (r .block) (devicesLent (now (numbers .exit)) (now (screen .exit)) (now (paper .exit)) (now (tape .exit))) (outOf (r .next)) ≡ transferOf (lentActs (job .device)) port kind (job .device) (job .call) block (devicesLent (now (numbers .entry)) (now (screen .entry)) (now (paper .entry)) (now (tape .entry))) ⌝ }
 {
     let device = job.device;
     let call = job.call;
     let asked = handler::on_block(port, call.iocb);
-    let done = devices::prepare(device, asked, numbers, screen, paper);
+    let done = devices::prepare(device, asked, numbers, screen, paper, tape);
     let next = prepared(done, kind, device, call);
     Begin {
         block: block,
@@ -189,9 +207,10 @@ pub fn start(
     numbers: &mut [u8],
     screen: &mut [u8],
     paper: &mut [u8],
+    tape: &mut [u8],
 ) -> Begin
-    requires { ⌜ Lends (now numbers) (now screen) ⌝ }
-    ensures { λ r. ⌜ begun (r .block) (devicesLent (now (numbers .exit)) (now (screen .exit)) (now (paper .exit))) (outOf (r .next)) ≡ jobBegun (lentActs (job .device)) port job block (devicesLent (now (numbers .entry)) (now (screen .entry)) (now (paper .entry))) ⌝ }
+    requires { ⌜ Lends (now numbers) (now screen) (now tape) ⌝ }
+    ensures { λ r. ⌜ begun (r .block) (devicesLent (now (numbers .exit)) (now (screen .exit)) (now (paper .exit)) (now (tape .exit))) (outOf (r .next)) ≡ jobBegun (lentActs (job .device)) port job block (devicesLent (now (numbers .entry)) (now (screen .entry)) (now (paper .entry)) (now (tape .entry))) ⌝ }
 {
     let work = job.work;
     let call = job.call;
@@ -199,21 +218,21 @@ pub fn start(
     let asked = handler::on_block(port, call.iocb);
     match work {
         Work::Close => {
-            devices::close(device, asked, numbers, screen, paper);
+            devices::close(device, asked, numbers, screen, paper, tape);
             Begin {
                 block: ControlBlock::CLOSED,
                 next: Next::Off(0x01, 0, call.a),
             }
         }
         Work::Status => {
-            let done = devices::status(device, asked, numbers, screen, paper);
+            let status = status_said(device, asked, numbers, screen, paper, tape);
             Begin {
                 block: block,
-                next: Next::Off(status_of(done), 0, call.a),
+                next: Next::Off(status, 0, call.a),
             }
         }
         Work::Special => {
-            let done = devices::special(device, asked, numbers, screen, paper);
+            let done = devices::special(device, asked, numbers, screen, paper, tape);
             Begin {
                 block: block,
                 next: Next::Off(status_of(done), 0, call.a),
@@ -229,7 +248,8 @@ pub fn start(
             numbers,
             screen,
             paper,
+            tape,
         ),
-        Work::Transfer(kind) => transfer(port, kind, job, block, numbers, screen, paper),
+        Work::Transfer(kind) => transfer(port, kind, job, block, numbers, screen, paper, tape),
     }
 }

@@ -1,4 +1,4 @@
-// The console, one of the two groups: its state by value, and each of its handlers E, S and K over it and the lent screen.
+// The console, one of the groups: its state by value, and each of its handlers E, S and K over it and the lent screen.
 pub mod each;
 pub mod state;
 

@@ -1,4 +1,5 @@
--- What is known of an undamaged stick, part by part: each port, the console, the printer, that the ports hold no group both; and of a
+-- What is known of an undamaged stick, part by part: each port, the console, the printer, the cassette and its mark,
+-- that the ports hold no group both; and of a
 -- running request that its numbers span its buffer.
 -- Assumes nothing.
 use mathlib.Core.Path.{_≡_, subst}
@@ -17,41 +18,64 @@ use Rattle.blocks.specs.Blocks.{blockAt}
 use Rattle.blocks.specs.Made.{tableMade}
 use Rattle.console.specs.declared.state.Console.{Console}
 use Rattle.console.specs.Fit.{fitOf}
+use Rattle.cassette.specs.Fit.{fitsCassette}
 use Rattle.transfer.specs.Spans.{wayIn, Spans}
 use Rattle.layout.specs.Stick.{Stick, Lent, portAt}
+use Rattle.devices.specs.Marks.{marksFit}
 use Rattle.layout.proofs.Ports.{by-port}
 use Rattle.damage.specs.Fits.{openFor, inUse, spans, runFits, phaseFits, portFits, portsApart, stickFits}
 
 module _ (s : Stick) (l : Lent) (e : stickFits s l ≡ true) where
   abbrev p0 : Bool
-  p0 = portFits (s .port0) (s .console)
+  p0 = portFits (s .port0) (s .devices .console)
 
   abbrev p1 : Bool
-  p1 = portFits (s .port1) (s .console)
+  p1 = portFits (s .port1) (s .devices .console)
+
+  abbrev fitting : Bool
+  fitting = fitsCassette (s .devices .cassette)
+
+  abbrev marked : Bool
+  marked = marksFit (s .devices .cassette .mark) (s .port0 .table) (s .port1 .table)
+
+  abbrev behind-printer : Bool
+  behind-printer = and fitting (and marked (portsApart s))
 
   abbrev rest : Bool
-  rest = and (leb (s .printer .used) paperLength) (portsApart s)
+  rest = and (leb (s .devices .printer .used) paperLength) behind-printer
 
-  behind-ports : and (fitOf (s .console)) rest ≡ true
+  behind-ports : and (fitOf (s .devices .console)) rest ≡ true
   unfolding stickFits
-  behind-ports = and-right p1 (and (fitOf (s .console)) rest) (and-right p0 (and p1 (and (fitOf (s .console)) rest)) e)
+  behind-ports = and-right p1 (and (fitOf (s .devices .console)) rest) (and-right p0 (and p1 (and (fitOf (s .devices .console)) rest)) e)
 
-  pub port-fits : (port : ℕ) → port < 2 → portFits (portAt port s) (s .console) ≡ true
+  pub port-fits : (port : ℕ) → port < 2 → portFits (portAt port s) (s .devices .console) ≡ true
   unfolding stickFits
   port-fits port h =
-      by-port (λ (n : ℕ). portFits (portAt n s) (s .console) ≡ true)
-      (and-left p0 (and p1 (and (fitOf (s .console)) rest)) e)
-      (and-left p1 (and (fitOf (s .console)) rest) (and-right p0 (and p1 (and (fitOf (s .console)) rest)) e))
+      by-port (λ (n : ℕ). portFits (portAt n s) (s .devices .console) ≡ true)
+      (and-left p0 (and p1 (and (fitOf (s .devices .console)) rest)) e)
+      (and-left p1 (and (fitOf (s .devices .console)) rest) (and-right p0 (and p1 (and (fitOf (s .devices .console)) rest)) e))
       port h
 
-  pub console-fits : fitOf (s .console) ≡ true
-  console-fits = and-left (fitOf (s .console)) rest behind-ports
+  pub console-fits : fitOf (s .devices .console) ≡ true
+  console-fits = and-left (fitOf (s .devices .console)) rest behind-ports
 
-  pub printer-fits : s .printer .used ≤ paperLength
-  printer-fits = leb-true (s .printer .used) paperLength (and-left (leb (s .printer .used) paperLength) (portsApart s) (and-right (fitOf (s .console)) rest behind-ports))
+  past-console : rest ≡ true
+  past-console = and-right (fitOf (s .devices .console)) rest behind-ports
+
+  pub printer-fits : s .devices .printer .used ≤ paperLength
+  printer-fits = leb-true (s .devices .printer .used) paperLength (and-left (leb (s .devices .printer .used) paperLength) behind-printer past-console)
+
+  past-printer : behind-printer ≡ true
+  past-printer = and-right (leb (s .devices .printer .used) paperLength) behind-printer past-console
+
+  pub cassette-fits : fitsCassette (s .devices .cassette) ≡ true
+  cassette-fits = and-left fitting (and marked (portsApart s)) past-printer
+
+  pub marks-fit : marksFit (s .devices .cassette .mark) (s .port0 .table) (s .port1 .table) ≡ true
+  marks-fit = and-left marked (portsApart s) (and-right fitting (and marked (portsApart s)) past-printer)
 
   pub ports-apart : portsApart s ≡ true
-  ports-apart = and-right (leb (s .printer .used) paperLength) (portsApart s) (and-right (fitOf (s .console)) rest behind-ports)
+  ports-apart = and-right marked (portsApart s) (and-right fitting (and marked (portsApart s)) past-printer)
 
 module _ (p : Port) (c : Console) (e : portFits p c ≡ true) where
   pub table-fits : tableMade (p .table) ≡ true

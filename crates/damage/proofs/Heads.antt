@@ -3,28 +3,35 @@
 use mathlib.Core.Path.{_≡_, _∙_, refl, sym, ap}
 use mathlib.Core.Bool.{Bool, true, false, not}
 use mathlib.Core.List.{List}
-use Prim.Native.Nat.{ℕ, _+_, _≤_, _<_}
+use Prim.Native.Nat.{ℕ, zero, suc, _+_, _≤_, _<_}
+use native.Mathlib.Nat.{add-assoc}
 use native.Mathlib.Omega.{arith}
-use borrow.Author.Tests.{eq-eqb, ne-eqb, le-leb, lt-leb}
+use borrow.Author.Tests.{eq-eqb, ne-eqb, le-ltb, le-leb, lt-leb}
 use lib.Dec.{eqb, leb, ltb}
 use lib.ListN.{drop}
-use lib.Seq.{getD-drop}
+use lib.Seq.{getD-drop, drop-drop}
 use Rattle.base.specs.Choice.{pick, and, within}
 use Rattle.base.proofs.Choices.{by-eq}
 use Rattle.cells.specs.Modes.{shapeOf, isMode}
 use Rattle.printer.specs.Printer.{paperLength}
 use Rattle.console.specs.Fit.{cursorFits, readingFits, keysFit, fitOf}
+use Rattle.cassette.specs.Fit.{fitsCassette}
 use Rattle.wire.specs.Messages.{wordAt}
-use Rattle.layout.specs.Places.{portLength, devicesPlace, consolePlace, printerPlace, portPlace}
-use Rattle.layout.specs.Stick.{Lent}
-use Rattle.layout.specs.Layout.{byteAt, deviceIn, phaseIn, portIn, readingIn, consoleIn, printerIn, stickIn}
+use Rattle.layout.specs.Places.{phaseLength, blockLength, portLength, devicesPlace, printerPlace, cassettePlace, portPlace}
+use Rattle.layout.specs.Stick.{Stick, Lent}
+use Rattle.layout.specs.Layout.{byteAt, deviceIn, blockOf, blocksIn, tableIn, phaseIn, portIn, readingIn, consoleIn, printerIn, cassetteIn, devicesIn, stickIn}
 use Rattle.layout.specs.Stands.{portStands, consoleStands, stands}
 use Rattle.devices.specs.declared.Group.{Group}
 use Rattle.devices.specs.declared.Group.the-variants as group
-use Rattle.devices.specs.Groups.{groupOf, heldOf, clash}
+use Rattle.devices.specs.declared.Owner.{Owner}
+use Rattle.devices.specs.declared.Owner.the-variants as owner
+use Rattle.devices.specs.Groups.{groupNumber, ownerOf, groupIn, groupOf, heldOf, clash}
+use Rattle.devices.specs.Marks.{tapeAt, tapesIn, marksFit}
+use Rattle.devices.proofs.Frame.{clash-none}
 use Rattle.damage.specs.Fits.{portFits, portsApart, stickFits}
-use Rattle.damage.specs.Whole.{portWhole, textWhole, pictureWhole, cursorWhole, readingWhole, consoleWhole, devicesWhole, onConsole, apartGroups, apartWhole, modeIn, allFrom, portAtWhole, headWhole}
+use Rattle.damage.specs.Whole.{portWhole, textWhole, pictureWhole, cursorWhole, readingWhole, consoleWhole, devicesWhole, tapesFrom, tapesWhole, groupWhole, apartGroups, apartWhole, modeIn, markIn, allFrom, portAtWhole, headWhole}
 use Rattle.damage.proofs.Ands as ands
+use Rattle.damage.proofs.Marks.{allMarked, marks-are}
 use Rattle.damage.proofs.Phases.{port-is, port-mode}
 
 cursor-is : (mode row column : ℕ) → cursorWhole mode row column ≡ and (isMode mode) (cursorFits mode row column)
@@ -44,28 +51,29 @@ console-is c =
     ands.both (cursor-is (byteAt c 0) (byteAt c 1) (wordAt c 2)) (ap (λ (x : Bool). and x (and (consoleStands c) keys)) (reading-is (byteAt c 6)))
     ∙ ands.console (isMode (byteAt c 0)) (cursorFits (byteAt c 0) (byteAt c 1) (wordAt c 2)) (readingFits (readingIn (byteAt c 6))) (consoleStands c) keys
 
--- the group of a device's number
-past : (device : ℕ) → 3 < device → within 1 3 device ≡ false
-past device h = let l : 1 ≤ device = omega arith in rw (le-leb 1 device l, lt-leb device 3 h)
-
-group-of : (device : ℕ) → groupOf (deviceIn device) ≡ pick (onConsole device) group.Console group.Printer
-unfolding deviceIn onConsole
+-- the number of a device's group
+group-of : (device : ℕ) → groupNumber (groupOf (deviceIn device)) ≡ groupWhole device
+unfolding deviceIn groupWhole
 group-of device =
     by-eq device 0 (λ z. rw z)
     (λ n0. by-eq device 1 (λ z. rw z)
     (λ n1. by-eq device 2 (λ z. rw z)
     (λ n2. by-eq device 3 (λ z. rw z)
-    (λ n3. let h : 3 < device = omega arith in rw (ne-eqb device 1 n1, ne-eqb device 2 n2, ne-eqb device 3 n3, past device h)))))
+    (λ n3. by-eq device 4 (λ z. rw z)
+    (λ n4.
+    let l : 1 ≤ device = omega arith in
+    let h : 3 < device = omega arith in
+    rw (ne-eqb device 1 n1, ne-eqb device 2 n2, ne-eqb device 3 n3, ne-eqb device 4 n4, le-leb 1 device l, lt-leb device 3 h))))))
 
-two-groups : (x y : Bool) → pick x (not y) y ≡ not (clash (pick x group.Console group.Printer) (pick y group.Console group.Printer))
-two-groups true true = refl
-two-groups true false = refl
-two-groups false true = refl
-two-groups false false = refl
+-- a device has a group
+some-group : (o : Owner) (h : Group) → clash (groupIn o) h ≡ eqb (groupNumber (groupIn o)) (groupNumber h)
+some-group (owner.Console c) h = refl
+some-group owner.Printer h = refl
+some-group owner.Cassette h = refl
 
 groups-are : (one other : ℕ) → apartGroups one other ≡ not (clash (groupOf (deviceIn one)) (groupOf (deviceIn other)))
 unfolding apartGroups
-groups-are one other = rw (group-of one, group-of other) (two-groups (onConsole one) (onConsole other))
+groups-are one other = rw (← group-of one, ← group-of other) (ap not (sym (some-group (ownerOf (deviceIn one)) (groupOf (deviceIn other)))))
 
 -- only a running request holds a group
 held-is : (b : List ℕ) → heldOf (phaseIn b) ≡ pick (eqb (byteAt b 0) 2) (groupOf (deviceIn (byteAt b 2))) group.Nobody
@@ -75,11 +83,6 @@ held-is b =
     (λ n0. by-eq (byteAt b 0) 1 (λ z. rw z)
     (λ n1. by-eq (byteAt b 0) 2 (λ z. rw z)
     (λ n2. rw (ne-eqb (byteAt b 0) 0 n0, ne-eqb (byteAt b 0) 1 n1, ne-eqb (byteAt b 0) 2 n2))))
-
-clash-none : (g : Group) → clash g group.Nobody ≡ false
-clash-none group.Nobody = refl
-clash-none group.Console = refl
-clash-none group.Printer = refl
 
 both-hold : (x y : Bool) (g h : Group) → pick x (pick y (not (clash g h)) true) true ≡ not (clash (pick x g group.Nobody) (pick y h group.Nobody))
 both-hold true true g h = refl
@@ -104,39 +107,79 @@ module _ (b : List ℕ) where
       ∙ both-hold x y (groupOf (deviceIn one)) (groupOf (deviceIn other))
       ∙ sym (ap (λ (g : Group). not (clash g (heldOf (phaseIn second)))) (held-is b) ∙ ap (λ (h : Group). not (clash (pick x (groupOf (deviceIn one)) group.Nobody) h)) held-second)
 
-  abbrev console : List ℕ
-  console = drop (devicesPlace + consolePlace) b
+  abbrev devices : List ℕ
+  devices = drop devicesPlace b
 
-  abbrev printer : List ℕ
-  printer = drop (devicesPlace + printerPlace) b
-
-  printed-is : leb (wordAt (drop devicesPlace b) printerPlace) paperLength ≡ leb (printerIn printer .used) paperLength
-  printed-is =
-      rw (getD-drop devicesPlace b printerPlace 0, getD-drop devicesPlace b (printerPlace + 1) 0, getD-drop (devicesPlace + printerPlace) b 0 0, getD-drop (devicesPlace + printerPlace) b 1 0)
-
-  devices-are : devicesWhole (drop devicesPlace b) ≡ and (and (consoleStands console) (fitOf (consoleIn console))) (leb (printerIn printer .used) paperLength)
+  devices-are : devicesWhole devices ≡ and (and (consoleStands devices) (fitOf (consoleIn devices))) (and (leb (printerIn (drop printerPlace devices) .used) paperLength) (fitsCassette (cassetteIn (drop cassettePlace devices))))
   unfolding devicesWhole
-  devices-are = ands.both (console-is console) printed-is
+  devices-are = ands.both (console-is devices) (rw (getD-drop printerPlace devices 0 0, getD-drop printerPlace devices 1 0))
 
-  mode-is : modeIn b ≡ consoleIn console .mode
+  mode-is : modeIn b ≡ consoleIn devices .mode
   unfolding consoleIn
-  mode-is = sym (getD-drop (devicesPlace + consolePlace) b 0 0)
+  mode-is = sym (getD-drop devicesPlace b 0 0)
 
-  port-whole : (p : List ℕ) → portWhole p (modeIn b) ≡ and (portStands p) (portFits (portIn p) (consoleIn console))
-  port-whole p = ap (portWhole p) mode-is ∙ port-is p (consoleIn console .mode) ∙ ap (and (portStands p)) (port-mode (portIn p) (consoleIn console))
+  mark-is : markIn b ≡ cassetteIn (drop cassettePlace devices) .mark
+  mark-is = sym (getD-drop cassettePlace devices 0 0 ∙ getD-drop devicesPlace b cassettePlace 0)
+
+  port-whole : (p : List ℕ) → portWhole p (modeIn b) (markIn b) ≡ and (portStands p) (and (portFits (portIn p) (consoleIn devices)) (allMarked (markIn b) (portIn p .table .blocks)))
+  port-whole p =
+      ap (λ (k : ℕ). portWhole p k (markIn b)) mode-is ∙ port-is p (consoleIn devices .mode) (markIn b)
+      ∙ ap (λ (x : Bool). and (portStands p) (and x (allMarked (markIn b) (portIn p .table .blocks)))) (port-mode (portIn p) (consoleIn devices))
 
   -- the two ports, one after the other
-  ports-are : (rest : Bool) → and (allFrom (portAtWhole b) portLength (portPlace 0) 2) rest ≡ and (portWhole b (modeIn b)) (and (portWhole second (modeIn b)) rest)
+  ports-are : (rest : Bool) → and (allFrom (portAtWhole b) portLength (portPlace 0) 2) rest ≡ and (portWhole b (modeIn b) (markIn b)) (and (portWhole second (modeIn b) (markIn b)) rest)
   unfolding allFrom
   ports-are rest =
-      ap (λ (x : Bool). and (and (portWhole b (modeIn b)) x) rest) (ands.and-true (portWhole second (modeIn b)))
-      ∙ ands.and-assoc (portWhole b (modeIn b)) (portWhole second (modeIn b)) rest
+      ap (λ (x : Bool). and (and (portWhole b (modeIn b) (markIn b)) x) rest) (ands.and-true (portWhole second (modeIn b) (markIn b)))
+      ∙ ands.and-assoc (portWhole b (modeIn b) (markIn b)) (portWhole second (modeIn b) (markIn b)) rest
+
+  -- how many blocks have C open, by their bytes
+  tape-of : (device number aux1 : ℕ) → pick (ltb device 5) 0 1 ≡ tapeAt (blockOf device number aux1 .state)
+  unfolding blockOf deviceIn
+  tape-of device number aux1 =
+      by-eq device 0 (λ z. rw z)
+      (λ n0. by-eq device 1 (λ z. rw z)
+      (λ n1. by-eq device 2 (λ z. rw z)
+      (λ n2. by-eq device 3 (λ z. rw z)
+      (λ n3. by-eq device 4 (λ z. rw z)
+      (λ n4. let l : 5 ≤ device = omega arith in rw (le-ltb device 5 l, ne-eqb device 0 n0, ne-eqb device 1 n1, ne-eqb device 2 n2, ne-eqb device 3 n3, ne-eqb device 4 n4))))))
+
+  tapes-are : (from place n : ℕ) → tapesFrom b (from + place) n ≡ tapesIn (blocksIn (drop from b) place n)
+  unfolding tapesFrom blocksIn
+  tapes-are from place zero = refl
+  tapes-are from place (suc n) =
+      let t = drop from b in
+      sum (ap (λ (k : ℕ). pick (ltb k 5) 0 1) (sym (getD-drop from b place 0)) ∙ tape-of (byteAt t place) (byteAt t (place + 1)) (byteAt t (place + 2)))
+      (ap (λ (k : ℕ). tapesFrom b k n) (add-assoc from place blockLength) ∙ tapes-are from (place + blockLength) n)
+    where
+      sum : {a c d e : ℕ} → a ≡ c → d ≡ e → a + d ≡ c + e
+      sum p q = rw (p, q)
+
+  abbrev stick : Stick
+  stick = stickIn b
+
+  marked-is : and (allMarked (markIn b) (portIn b .table .blocks)) (and (allMarked (markIn b) (portIn second .table .blocks)) (tapesWhole b)) ≡ marksFit (cassetteIn (drop cassettePlace devices) .mark) (portIn b .table) (portIn second .table)
+  unfolding tapesWhole portIn
+  marked-is =
+      let t = tableIn (drop phaseLength b) in
+      let u = tableIn (drop phaseLength second) in
+      let own : tapesFrom b (portPlace 0 + phaseLength) 8 ≡ tapesIn (t .blocks) = tapes-are phaseLength 0 8 in
+      let far : tapesFrom b (portPlace 1 + phaseLength) 8 ≡ tapesIn (u .blocks) = tapes-are (portPlace 1 + phaseLength) 0 8 ∙ ap (λ (x : List ℕ). tapesIn (blocksIn x 0 8)) (sym (drop-drop phaseLength (portPlace 1) b)) in
+      rw (own, far) (marks-are (markIn b) t u) ∙ ap (λ (k : ℕ). marksFit k t u) mark-is
 
   pub head-is : (l : Lent) → headWhole b ≡ and (stands b) (stickFits (stickIn b) l)
-  unfolding headWhole stands stickFits stickIn
+  unfolding headWhole stands stickFits stickIn devicesIn
   head-is l =
-      let c = consoleIn console in
-      let used = leb (printerIn printer .used) paperLength in
-      ports-are (and (devicesWhole (drop devicesPlace b)) (apartWhole b))
-      ∙ ands.both (port-whole b) (ands.both (port-whole second) (ands.both devices-are apart-is ∙ ands.and-assoc (and (consoleStands console) (fitOf c)) used (portsApart (stickIn b))))
-      ∙ ands.head (portStands b) (portFits (portIn b) c) (portStands second) (portFits (portIn second) c) (consoleStands console) (fitOf c) (and used (portsApart (stickIn b)))
+      let c = consoleIn devices in
+      let used = leb (printerIn (drop printerPlace devices) .used) paperLength in
+      let fits = fitsCassette (cassetteIn (drop cassettePlace devices)) in
+      let m = allMarked (markIn b) (portIn b .table .blocks) in
+      let n = allMarked (markIn b) (portIn second .table .blocks) in
+      let f = portFits (portIn b) c in
+      let g = portFits (portIn second) c in
+      let tapes = tapesWhole b in
+      let apart = portsApart (stickIn b) in
+      ports-are (and (devicesWhole devices) (and tapes (apartWhole b)))
+      ∙ ands.both (port-whole b) (ands.both (port-whole second) (ands.both devices-are (ap (and tapes) apart-is) ∙ ands.and-assoc (and (consoleStands devices) (fitOf c)) (and used fits) (and tapes apart)))
+      ∙ ands.head (portStands b) (and f m) (portStands second) (and g n) (consoleStands devices) (fitOf c) (and (and used fits) (and tapes apart))
+      ∙ ap (and (stands b)) (ands.behind f m g n (fitOf c) used fits tapes apart ∙ ap (λ (x : Bool). and f (and g (and (fitOf c) (and used (and fits (and x apart)))))) marked-is)

@@ -1,4 +1,5 @@
 pub mod Ands
+pub mod Marks
 pub mod Tables
 pub mod Phases
 pub mod Heads

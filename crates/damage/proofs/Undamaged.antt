@@ -6,13 +6,10 @@ use mathlib.Core.List.{List, _++_}
 use Prim.Native.Nat.{ℕ, _+_, _<_}
 use native.Mathlib.Omega.{arith}
 use borrow.Author.Tests.{ne-eqb, ltb-true}
-use lib.Dec.{ltb, leb}
+use lib.Dec.{ltb}
 use lib.ListN.{length}
-use Rattle.base.specs.Choice.{and}
-use Rattle.base.proofs.Choices.{and-left, and-right, by-eq}
-use Rattle.printer.specs.Printer.{paperLength}
+use Rattle.base.proofs.Choices.{and-right, by-eq}
 use Rattle.console.specs.declared.state.Console.{Console}
-use Rattle.console.specs.Fit.{fitOf}
 use Rattle.blocks.specs.declared.Gather.{Gather}
 use Rattle.blocks.specs.declared.Phase.{Phase}
 use Rattle.blocks.specs.declared.Phase.the-variants.{Gathering, Ready, Running, Replying}
@@ -22,7 +19,8 @@ use Rattle.blocks.specs.Made.{tableMade}
 use Rattle.wire.specs.Fits.{gatherFits}
 use Rattle.layout.specs.Stick.{Stick, Lent}
 use Rattle.devices.proofs.Keeps.{console-row, console-reading}
-use Rattle.damage.specs.Fits.{phaseFits, portFits, portsApart, stickFits}
+use Rattle.damage.specs.Fits.{phaseFits, portFits, stickFits}
+use Rattle.damage.proofs.Fitting.{port-fits, console-fits}
 use Rattle.layout.specs.Layout.{headOf, stickIn}
 use Rattle.layout.specs.InBytes.{PhaseInBytes, InBytes, LengthTyped, Typed}
 use Rattle.layout.specs.Stands.{stands}
@@ -51,22 +49,15 @@ port-in p c h e = phase-in (p .phase) (p .table) c h (and-right (tableMade (p .t
 
 module _ (s : Stick) (l : Lent) (w : Typed s) (e : stickFits s l ≡ true) where
   pub in-bytes : InBytes s
-  unfolding stickFits
-  in-bytes =
-      let a = portFits (s .port0) (s .console) in
-      let b = portFits (s .port1) (s .console) in
-      let c = fitOf (s .console) in
-      let d = and (leb (s .printer .used) paperLength) (portsApart s) in
-      let e1 = and-right a (and b (and c d)) e in
-      let f = and-left c d (and-right b (and c d) e1) in
-      record {
-        phase0 = port-in (s .port0) (s .console) (w .length0) (and-left a (and b (and c d)) e);
-        phase1 = port-in (s .port1) (s .console) (w .length1) (and-left b (and c d) e1);
-        row = console-row (s .console) f;
-        reading = console-reading (s .console) f;
-        table0 = w .table0;
-        table1 = w .table1;
-      }
+  in-bytes = record {
+    phase0 = port-in (s .port0) (s .devices .console) (w .length0) (port-fits s l e 0 (omega arith));
+    phase1 = port-in (s .port1) (s .devices .console) (w .length1) (port-fits s l e 1 (omega arith));
+    row = console-row (s .devices .console) (console-fits s l e);
+    reading = console-reading (s .devices .console) (console-fits s l e);
+    table0 = w .table0;
+    table1 = w .table1;
+    pending = w .pending;
+  }
 
   pub undamaged-read : (r : List ℕ) → stickIn (headOf s ++ r) ≡ s
   undamaged-read r = read-write s r in-bytes

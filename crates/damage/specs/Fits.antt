@@ -2,7 +2,7 @@
 -- group held by a port that runs no request needing it, a mode 0 cursor off rows 0 to 23 or columns 2 to 39, or a running request
 -- whose block, group, mode or buffer does not fit it." A port holds the group of the device that its running request is on, and
 -- no other, so that a group held without need has no state. How wide a number is, and that a table has eight blocks, the types
--- say.
+-- say. Of the tape (document 02, Ask 1): its numbers out of their ranges, two open C blocks, or blocks at odds with its mark.
 -- Assumes nothing.
 use mathlib.Core.Bool.{Bool, true, false, not}
 use Prim.Native.Nat.{ℕ}
@@ -10,7 +10,7 @@ use lib.Dec.{eqb, leb, ltb}
 use Rattle.base.specs.Choice.{and}
 use Rattle.printer.specs.Printer.{paperLength}
 use Rattle.blocks.specs.declared.Device.{Device}
-use Rattle.blocks.specs.declared.Device.the-variants.{E, S, K, P}
+use Rattle.blocks.specs.declared.Device.the-variants.{E, S, K, P, C}
 use Rattle.blocks.specs.declared.BlockState.{BlockState}
 use Rattle.blocks.specs.declared.BlockState.the-variants as block
 use Rattle.blocks.specs.declared.Kind.{Kind}
@@ -25,10 +25,12 @@ use Rattle.blocks.specs.Opening.{letterOf, reads, writes}
 use Rattle.blocks.specs.Made.{tableMade}
 use Rattle.console.specs.declared.state.Console.{Console}
 use Rattle.console.specs.Fit.{fitOf}
+use Rattle.cassette.specs.Fit.{fitsCassette}
 use Rattle.wire.specs.Fits.{gatherFits, replyFits}
 use Rattle.transfer.specs.Spans.{wayIn, spanFits}
 use Rattle.layout.specs.Stick.{Stick, Lent}
 use Rattle.devices.specs.Groups.{heldOf, clash}
+use Rattle.devices.specs.Marks.{marksFit}
 
 -- reading needs R, writing W
 abbrev pub allows : Kind → (aux1 : ℕ) → Bool
@@ -46,6 +48,7 @@ inUse E mode = eqb mode 0
 inUse S mode = ltb 0 mode
 inUse K mode = true
 inUse P mode = true
+inUse C mode = true
 
 -- what is left and what is counted lie in the area
 abbrev pub spans : Kind → Run → Bool
@@ -72,10 +75,12 @@ portFits port console = and (tableMade (port .table)) (phaseFits (port .phase) (
 abbrev pub portsApart : Stick → Bool
 portsApart s = not (clash (heldOf (s .port0 .phase)) (heldOf (s .port1 .phase)))
 
--- undamaged, with what is lent: nothing of document 01 judges the state against a lent buffer
+-- undamaged, with what is lent: nothing judges the state against a lent buffer yet
 unfoldable pub stickFits : Stick → Lent → Bool
 stickFits s l =
-    and (portFits (s .port0) (s .console))
-    (and (portFits (s .port1) (s .console))
-    (and (fitOf (s .console))
-    (and (leb (s .printer .used) paperLength) (portsApart s))))
+    and (portFits (s .port0) (s .devices .console))
+    (and (portFits (s .port1) (s .devices .console))
+    (and (fitOf (s .devices .console))
+    (and (leb (s .devices .printer .used) paperLength)
+    (and (fitsCassette (s .devices .cassette))
+    (and (marksFit (s .devices .cassette .mark) (s .port0 .table) (s .port1 .table)) (portsApart s))))))

@@ -10,32 +10,47 @@ use Rattle.base.specs.Choice.{pick, and, within, bit}
 use Rattle.blocks.specs.Opening.{areaLength, reads, writes}
 use Rattle.cells.specs.Modes.{shapeOf}
 use Rattle.printer.specs.Printer.{paperLength}
+use Rattle.cassette.specs.Cassette.{markOf}
+use Rattle.cassette.specs.Fit.{fitsCassette}
 use Rattle.console.specs.declared.state.Console.{Console}
 use Rattle.console.specs.Group.{freshConsole, withMode}
 use Rattle.wire.specs.Messages.{wordAt}
 use Rattle.wire.specs.Fits.{gatherFits, replyFits}
-use Rattle.layout.specs.Places.{phaseLength, blockLength, portLength, devicesPlace, consolePlace, printerPlace, portPlace}
-use Rattle.layout.specs.Layout.{byteAt, gatherIn, replyIn}
+use Rattle.layout.specs.Places.{phaseLength, blockLength, portLength, devicesPlace, consolePlace, printerPlace, cassettePlace, portPlace}
+use Rattle.layout.specs.Layout.{byteAt, gatherIn, replyIn, cassetteIn}
 use Rattle.layout.specs.Stands.{unused, restUnused, runStands}
+
+-- of a state the console's mode, and the cassette's mark
+abbrev pub modeIn : List ℕ → ℕ
+modeIn b = byteAt b (devicesPlace + consolePlace)
+
+abbrev pub markIn : List ℕ → ℕ
+markIn b = byteAt b (devicesPlace + cassettePlace)
 
 -- AUX1 is one that the device takes
 unfoldable pub aux1Whole : (device aux1 : ℕ) → Bool
 aux1Whole device aux1 =
     pick (eqb device 1) (pick (bit 4 aux1) (eqb (aux1 % 2) 1) true)
     (pick (eqb device 2) (not (bit 16 aux1))
-    (pick (eqb device 3) (not (bit 8 aux1)) (not (bit 4 aux1))))
+    (pick (eqb device 3) (not (bit 8 aux1))
+    (pick (eqb device 4) (not (bit 4 aux1)) (not (and (bit 4 aux1) (bit 8 aux1))))))
 
-unfoldable pub openWhole : (device number aux1 : ℕ) → Bool
-openWhole device number aux1 = and (ltb device 5) (and (leb 1 number) (and (leb number 8) (aux1Whole device aux1)))
+-- a block that has C open has it open as the cassette's mark says
+unfoldable pub markWhole : (mark device aux1 : ℕ) → Bool
+markWhole mark device aux1 = pick (ltb device 5) true (eqb (markOf aux1) mark)
 
-unfoldable pub blockWhole : (device number aux1 : ℕ) → Bool
-blockWhole device number aux1 = pick (eqb device 0) (unused 0 0 number aux1) (openWhole device number aux1)
+unfoldable pub openWhole : (mark device number aux1 : ℕ) → Bool
+openWhole mark device number aux1 =
+    and (ltb device 6) (and (leb 1 number) (and (leb number 8) (and (aux1Whole device aux1) (markWhole mark device aux1))))
 
-abbrev pub blockWholeIn : List ℕ → ℕ → Bool
-blockWholeIn b place = blockWhole (byteAt b place) (byteAt b (place + 1)) (byteAt b (place + 2))
+unfoldable pub blockWhole : (mark device number aux1 : ℕ) → Bool
+blockWhole mark device number aux1 = pick (eqb device 0) (unused 0 0 number aux1) (openWhole mark device number aux1)
 
-unfoldable pub twoWhole : List ℕ → ℕ → Bool
-twoWhole b place = and (blockWholeIn b place) (blockWholeIn b (place + blockLength))
+abbrev pub blockWholeIn : (mark : ℕ) → List ℕ → ℕ → Bool
+blockWholeIn mark b place = blockWhole mark (byteAt b place) (byteAt b (place + 1)) (byteAt b (place + 2))
+
+unfoldable pub twoWhole : (mark : ℕ) → List ℕ → ℕ → Bool
+twoWhole mark b place = and (blockWholeIn mark b place) (blockWholeIn mark b (place + blockLength))
 
 -- a test of `count` places, from one on, each `step` behind the one before
 unfoldable pub allFrom : (test : ℕ → Bool) (step place count : ℕ) → Bool
@@ -43,8 +58,8 @@ allFrom test step place zero = true
 allFrom test step place (suc count) = and (test place) (allFrom test step (place + step) count)
 
 -- a port's parts, of a list that begins with its bytes
-unfoldable pub tableWhole : List ℕ → Bool
-tableWhole b = allFrom (twoWhole b) (2 * blockLength) phaseLength 4
+unfoldable pub tableWhole : (mark : ℕ) → List ℕ → Bool
+tableWhole mark b = allFrom (twoWhole mark b) (2 * blockLength) phaseLength 4
 
 unfoldable pub gatherWhole : List ℕ → Bool
 gatherWhole b = and (restUnused b) (gatherFits (gatherIn b))
@@ -95,8 +110,8 @@ phaseWhole b mode =
     (pick (eqb (byteAt b 0) 2) (runWhole b mode)
     (pick (eqb (byteAt b 0) 3) (replyWhole b) false)))
 
-unfoldable pub portWhole : List ℕ → (mode : ℕ) → Bool
-portWhole b mode = and (tableWhole b) (phaseWhole b mode)
+unfoldable pub portWhole : List ℕ → (mode mark : ℕ) → Bool
+portWhole b mode mark = and (tableWhole mark b) (phaseWhole b mode)
 
 -- the cursor: in mode 0, and in the modes of S
 unfoldable pub textWhole : (row column : ℕ) → Bool
@@ -121,14 +136,27 @@ consoleWhole b =
     (and (leb (byteAt b 8) 2) (leb (byteAt b 9) 1))))
 
 unfoldable pub devicesWhole : List ℕ → Bool
-devicesWhole b = and (consoleWhole (drop consolePlace b)) (leb (wordAt b printerPlace) paperLength)
+devicesWhole b =
+    and (consoleWhole (drop consolePlace b))
+    (and (leb (wordAt b printerPlace) paperLength)
+    (fitsCassette (cassetteIn (drop cassettePlace b))))
 
--- the two ports hold no group both: of two that run, one is on the console and one is not
-unfoldable pub onConsole : ℕ → Bool
-onConsole device = within 1 3 device
+-- of a port's bytes, how many of the next `count` blocks have C open
+unfoldable pub tapesFrom : List ℕ → (place count : ℕ) → ℕ
+tapesFrom b place zero = 0
+tapesFrom b place (suc count) = pick (ltb (byteAt b place) 5) 0 1 + tapesFrom b (place + blockLength) count
+
+unfoldable pub tapesWhole : List ℕ → Bool
+tapesWhole b =
+    pick (eqb (markIn b) 0) true
+    (eqb (tapesFrom b (portPlace 0 + phaseLength) 8 + tapesFrom b (portPlace 1 + phaseLength) 8) 1)
+
+-- the two ports hold no group both: the number of a device's group
+unfoldable pub groupWhole : ℕ → ℕ
+groupWhole device = pick (eqb device 4) 2 (pick (within 1 3 device) 1 3)
 
 unfoldable pub apartGroups : (one other : ℕ) → Bool
-apartGroups one other = pick (onConsole one) (not (onConsole other)) (onConsole other)
+apartGroups one other = not (eqb (groupWhole one) (groupWhole other))
 
 unfoldable pub apartWhole : List ℕ → Bool
 apartWhole b =
@@ -137,16 +165,13 @@ apartWhole b =
     true
 
 -- the head
-abbrev pub modeIn : List ℕ → ℕ
-modeIn b = byteAt b (devicesPlace + consolePlace)
-
 abbrev pub portAtWhole : List ℕ → (place : ℕ) → Bool
-portAtWhole b place = portWhole (drop place b) (modeIn b)
+portAtWhole b place = portWhole (drop place b) (modeIn b) (markIn b)
 
 unfoldable pub headWhole : List ℕ → Bool
 headWhole b =
     and (allFrom (portAtWhole b) portLength (portPlace 0) 2)
-    (and (devicesWhole (drop devicesPlace b)) (apartWhole b))
+    (and (devicesWhole (drop devicesPlace b)) (and (tapesWhole b) (apartWhole b)))
 
 -- a console in this mode: of a console the ports' tests ask its mode alone
 abbrev pub consoleWith : ℕ → Console

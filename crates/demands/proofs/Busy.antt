@@ -8,6 +8,7 @@ use Prim.Native.Nat.{ℕ, _*_}
 use native.Mathlib.Omega.{arith}
 use lib.ListN.{replicate, length-replicate}
 use Rattle.printer.specs.Printer.{paperLength}
+use Rattle.records.specs.Records.{tapeLength}
 use Rattle.blocks.specs.Opening.{areaLength}
 use Rattle.layout.specs.Places.{stateLength}
 use Rattle.layout.specs.Stick.{freshStick}
@@ -38,7 +39,7 @@ use Rattle.demands.proofs.Run.{after-fresh, run-begins, two-same, aside
 use Rattle.demands.proofs.Demands.{demands}
 
 abbrev pub zeroBytes : Buffers
-zeroBytes = buffers (replicate stateLength 0) (zeros .area) (zeros .screen) (zeros .paper)
+zeroBytes = buffers (replicate stateLength 0) (zeros .area) (zeros .screen) (zeros .paper) (zeros .tape)
 
 zeros-fitting : Lengths zeroBytes
 zeros-fitting = record {
@@ -46,6 +47,7 @@ zeros-fitting = record {
   halves = length-replicate {A = ℕ} (2 * areaLength) 0;
   whole = record { all = length-replicate {A = ℕ} screenLength 0 };
   sheet = length-replicate {A = ℕ} paperLength 0;
+  reel = length-replicate {A = ℕ} tapeLength 0;
 }
 
 busy-ok : OkCalls real busyCalls
@@ -60,18 +62,18 @@ above-one b g =
     exact (any-take (take-call b 2 0)) .stick (g .lengths) (g .stands) .first .above .1
     (record { sound = record { lengths = lent-lengths b (g .lengths); fits = g .fits }; above = omega arith })
 
--- a call that is lent no paper, and what is there after it: the three buffers as it left them, and the paper that was not lent
+-- a call that is lent no paper, and what is there after it: the other buffers as it left them, and the paper that was not lent
 abbrev torn : Buffers → Buffers
-torn b = buffers (b .state) (b .area) (b .screen) []
+torn b = buffers (b .state) (b .area) (b .screen) [] (b .tape)
 
 abbrev mended : Buffers → Buffers
-mended b = let e = leaves (tick-call (torn b) 0) .buffers in buffers (e .state) (e .area) (e .screen) (b .paper)
+mended b = let e = leaves (tick-call (torn b) 0) .buffers in buffers (e .state) (e .area) (e .screen) (b .paper) (e .tape)
 
 torn-two : (b : Buffers) → leaves (tick-call (torn b) 0) .number ≡ 2
 torn-two b = exact (any-tick (tick-call (torn b) 0)) .lengths .1 (λ f. let e : 0 ≡ paperLength = f .sheet in omega arith)
 
 torn-aside : (b : Buffers) → Aside b (torn b) (leaves (tick-call (torn b) 0) .buffers) (mended b)
-torn-aside b = record { state = lent-on refl; area = lent-on refl; screen = lent-on refl; paper = not-lent }
+torn-aside b = record { state = lent-on refl; area = lent-on refl; screen = lent-on refl; paper = not-lent; tape = lent-on refl }
 
 mended-same : (b : Buffers) → mended b ≡ b
 mended-same b = aside-same (two-same (any-tick (tick-call (torn b) 0)) (torn-two b)) (torn-aside b)
@@ -110,7 +112,7 @@ module _ (o : FreshCall) (e : lends o ≡ zeroBytes) where
       ∙ ap (λ (v : View real). after real (coreOf real) busyCalls (begin real (coreOf real) v)) start-seen
 
   -- two characters and one on the paper
-  pub busy-used : stickBy (busyEnd .world) .printer .used ≡ 3
+  pub busy-used : stickBy (busyEnd .world) .devices .printer .used ≡ 3
   busy-used = ap (λ (s : State real (coreOf real)). s .world .devs .printer .used) end-is ∙ machine-used
 
   -- port 1 was given the key's character, and its own counts

@@ -87,6 +87,22 @@ use Rattle.printer.proofs.Printer.fresh.Reads as printer-fresh-reads
 use Rattle.printer.proofs.Printer.put.Kinds as printer-put-kinds
 use Rattle.printer.proofs.Printer.put.Reads as printer-put-reads
 use Rattle.printer.proofs.Decided as printer
+use Rattle.records.proofs.found.Kinds as records-found-kinds
+use Rattle.records.proofs.found.Reads as records-found-reads
+use Rattle.records.proofs.lay.Kinds as records-lay-kinds
+use Rattle.records.proofs.lay.Reads as records-lay-reads
+use Rattle.records.proofs.Decided as records
+use Rattle.cassette.proofs.Cassette.fresh.Kinds as cassette-fresh-kinds
+use Rattle.cassette.proofs.Cassette.fresh.Reads as cassette-fresh-reads
+use Rattle.cassette.proofs.Cassette.open.Kinds as cassette-open-kinds
+use Rattle.cassette.proofs.Cassette.open.Reads as cassette-open-reads
+use Rattle.cassette.proofs.Cassette.close.Kinds as cassette-close-kinds
+use Rattle.cassette.proofs.Cassette.close.Reads as cassette-close-reads
+use Rattle.cassette.proofs.Cassette.read.Kinds as cassette-read-kinds
+use Rattle.cassette.proofs.Cassette.read.Reads as cassette-read-reads
+use Rattle.cassette.proofs.Cassette.write.Kinds as cassette-write-kinds
+use Rattle.cassette.proofs.Cassette.write.Reads as cassette-write-reads
+use Rattle.cassette.proofs.Decided as cassette
 use Rattle.console.proofs.state.Console.fresh.Kinds as console-state-fresh-kinds
 use Rattle.console.proofs.state.Console.fresh.Reads as console-state-fresh-reads
 use Rattle.console.proofs.state.Console.editor.Kinds as console-editor-kinds
@@ -185,6 +201,8 @@ use Rattle.reading.proofs.console.Kinds as reading-console-kinds
 use Rattle.reading.proofs.console.Reads as reading-console-reads
 use Rattle.reading.proofs.printer.Kinds as reading-printer-kinds
 use Rattle.reading.proofs.printer.Reads as reading-printer-reads
+use Rattle.reading.proofs.cassette.Kinds as reading-cassette-kinds
+use Rattle.reading.proofs.cassette.Reads as reading-cassette-reads
 use Rattle.reading.proofs.gather.Kinds as reading-gather-kinds
 use Rattle.reading.proofs.gather.Reads as reading-gather-reads
 use Rattle.reading.proofs.header.Kinds as reading-header-kinds
@@ -208,6 +226,8 @@ use Rattle.writing.proofs.console.Kinds as writing-console-kinds
 use Rattle.writing.proofs.console.Reads as writing-console-reads
 use Rattle.writing.proofs.printer.Kinds as writing-printer-kinds
 use Rattle.writing.proofs.printer.Reads as writing-printer-reads
+use Rattle.writing.proofs.cassette.Kinds as writing-cassette-kinds
+use Rattle.writing.proofs.cassette.Reads as writing-cassette-reads
 use Rattle.writing.proofs.Decided as writing
 use Rattle.ports.proofs.phase_of.Kinds as ports-phase-of-kinds
 use Rattle.ports.proofs.phase_of.Reads as ports-phase-of-reads
@@ -243,6 +263,17 @@ use Rattle.transfer.proofs.after_put.Reads as transfer-after-put-reads
 use Rattle.transfer.proofs.land.Kinds as transfer-land-kinds
 use Rattle.transfer.proofs.land.Reads as transfer-land-reads
 use Rattle.transfer.proofs.Decided as transfer
+use Rattle.recorder.proofs.open.Kinds as recorder-open-kinds
+use Rattle.recorder.proofs.open.Reads as recorder-open-reads
+use Rattle.recorder.proofs.close.Kinds as recorder-close-kinds
+use Rattle.recorder.proofs.close.Reads as recorder-close-reads
+use Rattle.recorder.proofs.read.Kinds as recorder-read-kinds
+use Rattle.recorder.proofs.read.Reads as recorder-read-reads
+use Rattle.recorder.proofs.write.Kinds as recorder-write-kinds
+use Rattle.recorder.proofs.write.Reads as recorder-write-reads
+use Rattle.recorder.proofs.fits.Kinds as recorder-fits-kinds
+use Rattle.recorder.proofs.fits.Reads as recorder-fits-reads
+use Rattle.recorder.proofs.Decided as recorder
 use Rattle.devices.proofs.owner_of.Kinds as devices-owner-of-kinds
 use Rattle.devices.proofs.owner_of.Reads as devices-owner-of-reads
 use Rattle.devices.proofs.group_of.Kinds as devices-group-of-kinds
@@ -398,6 +429,19 @@ printer-decided =
     promise 0 printer-fresh-kinds.ps printer-fresh-kinds.r printer-fresh-reads.Pre printer-fresh-reads.Learnt printer.fresh-decides printer.fresh-allows (
     promise 1 printer-put-kinds.ps printer-put-kinds.r printer-put-reads.Pre printer-put-reads.Learnt printer.put-decides printer.put-allows graphics-decided)
 
+pub records-decided : Promises
+records-decided =
+    promise 1 records-found-kinds.ps records-found-kinds.r records-found-reads.Pre records-found-reads.Learnt records.found-decides records.found-allows (
+    promise 2 records-lay-kinds.ps records-lay-kinds.r records-lay-reads.Pre records-lay-reads.Learnt records.lay-decides records.lay-allows printer-decided)
+
+pub cassette-decided : Promises
+cassette-decided =
+    promise 0 cassette-fresh-kinds.ps cassette-fresh-kinds.r cassette-fresh-reads.Pre cassette-fresh-reads.Learnt cassette.fresh-decides cassette.fresh-allows (
+    promise 0 cassette-open-kinds.ps cassette-open-kinds.r cassette-open-reads.Pre cassette-open-reads.Learnt cassette.open-decides cassette.open-allows (
+    promise 2 cassette-close-kinds.ps cassette-close-kinds.r cassette-close-reads.Pre cassette-close-reads.Learnt cassette.close-decides cassette.close-allows (
+    promise 1 cassette-read-kinds.ps cassette-read-kinds.r cassette-read-reads.Pre cassette-read-reads.Learnt cassette.read-decides cassette.read-allows (
+    promise 2 cassette-write-kinds.ps cassette-write-kinds.r cassette-write-reads.Pre cassette-write-reads.Learnt cassette.write-decides cassette.write-allows records-decided))))
+
 pub console-decided : Promises
 console-decided =
     promise 0 console-state-fresh-kinds.ps console-state-fresh-kinds.r console-state-fresh-reads.Pre console-state-fresh-reads.Learnt console.state-fresh-decides console.state-fresh-allows (
@@ -412,7 +456,7 @@ console-decided =
     promise 1 console-read-screen-kinds.ps console-read-screen-kinds.r console-read-screen-reads.Pre console-read-screen-reads.Learnt console.read-screen-decides console.read-screen-allows (
     promise 0 console-read-keyboard-kinds.ps console-read-keyboard-kinds.r console-read-keyboard-reads.Pre console-read-keyboard-reads.Learnt console.read-keyboard-decides console.read-keyboard-allows (
     promise 1 console-write-editor-kinds.ps console-write-editor-kinds.r console-write-editor-reads.Pre console-write-editor-reads.Learnt console.write-editor-decides console.write-editor-allows (
-    promise 1 console-write-screen-kinds.ps console-write-screen-kinds.r console-write-screen-reads.Pre console-write-screen-reads.Learnt console.write-screen-decides console.write-screen-allows printer-decided))))))))))))
+    promise 1 console-write-screen-kinds.ps console-write-screen-kinds.r console-write-screen-reads.Pre console-write-screen-reads.Learnt console.write-screen-decides console.write-screen-allows cassette-decided))))))))))))
 
 pub acts-decided : Promises
 acts-decided =
@@ -464,10 +508,11 @@ reading-decided =
     promise 1 reading-phase-kinds.ps reading-phase-kinds.r reading-phase-reads.Pre reading-phase-reads.Learnt reading.phase-decides reading.phase-allows (
     promise 1 reading-console-kinds.ps reading-console-kinds.r reading-console-reads.Pre reading-console-reads.Learnt reading.console-decides reading.console-allows (
     promise 1 reading-printer-kinds.ps reading-printer-kinds.r reading-printer-reads.Pre reading-printer-reads.Learnt reading.printer-decides reading.printer-allows (
+    promise 1 reading-cassette-kinds.ps reading-cassette-kinds.r reading-cassette-reads.Pre reading-cassette-reads.Learnt reading.cassette-decides reading.cassette-allows (
     promise 1 reading-gather-kinds.ps reading-gather-kinds.r reading-gather-reads.Pre reading-gather-reads.Learnt reading.gather-decides reading.gather-allows (
     promise 1 reading-header-kinds.ps reading-header-kinds.r reading-header-reads.Pre reading-header-reads.Learnt reading.header-decides reading.header-allows (
     promise 1 reading-run-kinds.ps reading-run-kinds.r reading-run-reads.Pre reading-run-reads.Learnt reading.run-decides reading.run-allows (
-    promise 1 reading-reply-kinds.ps reading-reply-kinds.r reading-reply-reads.Pre reading-reply-reads.Learnt reading.reply-decides reading.reply-allows wire-decided)))))))))
+    promise 1 reading-reply-kinds.ps reading-reply-kinds.r reading-reply-reads.Pre reading-reply-reads.Learnt reading.reply-decides reading.reply-allows wire-decided))))))))))
 
 pub writing-decided : Promises
 writing-decided =
@@ -477,7 +522,8 @@ writing-decided =
     promise 1 writing-phase-kinds.ps writing-phase-kinds.r writing-phase-reads.Pre writing-phase-reads.Learnt writing.phase-decides writing.phase-allows (
     promise 1 writing-port-kinds.ps writing-port-kinds.r writing-port-reads.Pre writing-port-reads.Learnt writing.port-decides writing.port-allows (
     promise 1 writing-console-kinds.ps writing-console-kinds.r writing-console-reads.Pre writing-console-reads.Learnt writing.console-decides writing.console-allows (
-    promise 1 writing-printer-kinds.ps writing-printer-kinds.r writing-printer-reads.Pre writing-printer-reads.Learnt writing.printer-decides writing.printer-allows reading-decided))))))
+    promise 1 writing-printer-kinds.ps writing-printer-kinds.r writing-printer-reads.Pre writing-printer-reads.Learnt writing.printer-decides writing.printer-allows (
+    promise 1 writing-cassette-kinds.ps writing-cassette-kinds.r writing-cassette-reads.Pre writing-cassette-reads.Learnt writing.cassette-decides writing.cassette-allows reading-decided)))))))
 
 pub ports-decided : Promises
 ports-decided =
@@ -501,28 +547,36 @@ transfer-decided =
     promise 0 transfer-after-put-kinds.ps transfer-after-put-kinds.r transfer-after-put-reads.Pre transfer-after-put-reads.Learnt transfer.after-put-decides transfer.after-put-allows (
     promise 1 transfer-land-kinds.ps transfer-land-kinds.r transfer-land-reads.Pre transfer-land-reads.Learnt transfer.land-decides transfer.land-allows ports-decided)))
 
+pub recorder-decided : Promises
+recorder-decided =
+    promise 2 recorder-open-kinds.ps recorder-open-kinds.r recorder-open-reads.Pre recorder-open-reads.Learnt recorder.open-decides recorder.open-allows (
+    promise 2 recorder-close-kinds.ps recorder-close-kinds.r recorder-close-reads.Pre recorder-close-reads.Learnt recorder.close-decides recorder.close-allows (
+    promise 2 recorder-read-kinds.ps recorder-read-kinds.r recorder-read-reads.Pre recorder-read-reads.Learnt recorder.read-decides recorder.read-allows (
+    promise 2 recorder-write-kinds.ps recorder-write-kinds.r recorder-write-reads.Pre recorder-write-reads.Learnt recorder.write-decides recorder.write-allows (
+    promise 0 recorder-fits-kinds.ps recorder-fits-kinds.r recorder-fits-reads.Pre recorder-fits-reads.Learnt recorder.fits-decides recorder.fits-allows transfer-decided))))
+
 pub devices-decided : Promises
 devices-decided =
     promise 0 devices-owner-of-kinds.ps devices-owner-of-kinds.r devices-owner-of-reads.Pre devices-owner-of-reads.Learnt devices.owner-of-decides devices.owner-of-allows (
     promise 0 devices-group-of-kinds.ps devices-group-of-kinds.r devices-group-of-reads.Pre devices-group-of-reads.Learnt devices.group-of-decides devices.group-of-allows (
     promise 0 devices-held-by-kinds.ps devices-held-by-kinds.r devices-held-by-reads.Pre devices-held-by-reads.Learnt devices.held-by-decides devices.held-by-allows (
     promise 0 devices-clashes-kinds.ps devices-clashes-kinds.r devices-clashes-reads.Pre devices-clashes-reads.Learnt devices.clashes-decides devices.clashes-allows (
-    promise 3 devices-open-kinds.ps devices-open-kinds.r devices-open-reads.Pre devices-open-reads.Learnt devices.open-decides devices.open-allows (
-    promise 3 devices-close-kinds.ps devices-close-kinds.r devices-close-reads.Pre devices-close-reads.Learnt devices.close-decides devices.close-allows (
-    promise 3 devices-prepare-kinds.ps devices-prepare-kinds.r devices-prepare-reads.Pre devices-prepare-reads.Learnt devices.prepare-decides devices.prepare-allows (
-    promise 3 devices-read-kinds.ps devices-read-kinds.r devices-read-reads.Pre devices-read-reads.Learnt devices.read-decides devices.read-allows (
-    promise 3 devices-write-kinds.ps devices-write-kinds.r devices-write-reads.Pre devices-write-reads.Learnt devices.write-decides devices.write-allows (
-    promise 3 devices-status-kinds.ps devices-status-kinds.r devices-status-reads.Pre devices-status-reads.Learnt devices.status-decides devices.status-allows (
-    promise 3 devices-special-kinds.ps devices-special-kinds.r devices-special-reads.Pre devices-special-reads.Learnt devices.special-decides devices.special-allows (
-    promise 3 devices-fresh-kinds.ps devices-fresh-kinds.r devices-fresh-reads.Pre devices-fresh-reads.Learnt devices.fresh-decides devices.fresh-allows (
+    promise 4 devices-open-kinds.ps devices-open-kinds.r devices-open-reads.Pre devices-open-reads.Learnt devices.open-decides devices.open-allows (
+    promise 4 devices-close-kinds.ps devices-close-kinds.r devices-close-reads.Pre devices-close-reads.Learnt devices.close-decides devices.close-allows (
+    promise 4 devices-prepare-kinds.ps devices-prepare-kinds.r devices-prepare-reads.Pre devices-prepare-reads.Learnt devices.prepare-decides devices.prepare-allows (
+    promise 4 devices-read-kinds.ps devices-read-kinds.r devices-read-reads.Pre devices-read-reads.Learnt devices.read-decides devices.read-allows (
+    promise 4 devices-write-kinds.ps devices-write-kinds.r devices-write-reads.Pre devices-write-reads.Learnt devices.write-decides devices.write-allows (
+    promise 4 devices-status-kinds.ps devices-status-kinds.r devices-status-reads.Pre devices-status-reads.Learnt devices.status-decides devices.status-allows (
+    promise 4 devices-special-kinds.ps devices-special-kinds.r devices-special-reads.Pre devices-special-reads.Learnt devices.special-decides devices.special-allows (
+    promise 4 devices-fresh-kinds.ps devices-fresh-kinds.r devices-fresh-reads.Pre devices-fresh-reads.Learnt devices.fresh-decides devices.fresh-allows (
     promise 1 devices-console-of-kinds.ps devices-console-of-kinds.r devices-console-of-reads.Pre devices-console-of-reads.Learnt devices.console-of-decides devices.console-of-allows (
     promise 1 devices-set-console-kinds.ps devices-set-console-kinds.r devices-set-console-reads.Pre devices-set-console-reads.Learnt devices.set-console-decides devices.set-console-allows (
     promise 1 devices-printer-of-kinds.ps devices-printer-of-kinds.r devices-printer-of-reads.Pre devices-printer-of-reads.Learnt devices.printer-of-decides devices.printer-of-allows (
-    promise 1 devices-set-printer-kinds.ps devices-set-printer-kinds.r devices-set-printer-reads.Pre devices-set-printer-reads.Learnt devices.set-printer-decides devices.set-printer-allows transfer-decided)))))))))))))))
+    promise 1 devices-set-printer-kinds.ps devices-set-printer-kinds.r devices-set-printer-reads.Pre devices-set-printer-reads.Learnt devices.set-printer-decides devices.set-printer-allows recorder-decided)))))))))))))))
 
 pub judge-decided : Promises
 judge-decided =
-    promise 4 judge-undamaged-kinds.ps judge-undamaged-kinds.r judge-undamaged-reads.Pre judge-undamaged-reads.Learnt judge.undamaged-decides judge.undamaged-allows devices-decided
+    promise 5 judge-undamaged-kinds.ps judge-undamaged-kinds.r judge-undamaged-reads.Pre judge-undamaged-reads.Learnt judge.undamaged-decides judge.undamaged-allows devices-decided
 
 pub plan-decided : Promises
 plan-decided =
@@ -538,38 +592,38 @@ checks-decided =
 
 pub moves-decided : Promises
 moves-decided =
-    promise 4 moves-advance-kinds.ps moves-advance-kinds.r moves-advance-reads.Pre moves-advance-reads.Learnt moves.advance-decides moves.advance-allows checks-decided
+    promise 5 moves-advance-kinds.ps moves-advance-kinds.r moves-advance-reads.Pre moves-advance-reads.Learnt moves.advance-decides moves.advance-allows checks-decided
 
 pub cio-decided : Promises
 cio-decided =
     promise 2 cio-load-kinds.ps cio-load-kinds.r cio-load-reads.Pre cio-load-reads.Learnt cio.load-decides cio.load-allows (
     promise 2 cio-run-errand-kinds.ps cio-run-errand-kinds.r cio-run-errand-reads.Pre cio-run-errand-reads.Learnt cio.run-errand-decides cio.run-errand-allows (
-    promise 3 cio-start-kinds.ps cio-start-kinds.r cio-start-reads.Pre cio-start-reads.Learnt cio.start-decides cio.start-allows moves-decided))
+    promise 4 cio-start-kinds.ps cio-start-kinds.r cio-start-reads.Pre cio-start-reads.Learnt cio.start-decides cio.start-allows moves-decided))
 
 pub running-decided : Promises
 running-decided =
     promise 1 running-land-at-kinds.ps running-land-at-kinds.r running-land-at-reads.Pre running-land-at-reads.Learnt running.land-at-decides running.land-at-allows (
-    promise 4 running-advance-at-kinds.ps running-advance-at-kinds.r running-advance-at-reads.Pre running-advance-at-reads.Learnt running.advance-at-decides running.advance-at-allows cio-decided)
+    promise 5 running-advance-at-kinds.ps running-advance-at-kinds.r running-advance-at-reads.Pre running-advance-at-reads.Learnt running.advance-at-decides running.advance-at-allows cio-decided)
 
 pub ticks-decided : Promises
 ticks-decided =
-    promise 4 ticks-tick-at-kinds.ps ticks-tick-at-kinds.r ticks-tick-at-reads.Pre ticks-tick-at-reads.Learnt ticks.tick-at-decides ticks.tick-at-allows running-decided
+    promise 5 ticks-tick-at-kinds.ps ticks-tick-at-kinds.r ticks-tick-at-reads.Pre ticks-tick-at-reads.Learnt ticks.tick-at-decides ticks.tick-at-allows running-decided
 
 pub stick-decided : Promises
 stick-decided =
-    promise 4 stick-take-at-kinds.ps stick-take-at-kinds.r stick-take-at-reads.Pre stick-take-at-reads.Learnt stick.take-at-decides stick.take-at-allows (
-    promise 4 stick-give-at-kinds.ps stick-give-at-kinds.r stick-give-at-reads.Pre stick-give-at-reads.Learnt stick.give-at-decides stick.give-at-allows (
-    promise 4 stick-press-at-kinds.ps stick-press-at-kinds.r stick-press-at-reads.Pre stick-press-at-reads.Learnt stick.press-at-decides stick.press-at-allows (
-    promise 4 stick-fresh-all-kinds.ps stick-fresh-all-kinds.r stick-fresh-all-reads.Pre stick-fresh-all-reads.Learnt stick.fresh-all-decides stick.fresh-all-allows ticks-decided)))
+    promise 5 stick-take-at-kinds.ps stick-take-at-kinds.r stick-take-at-reads.Pre stick-take-at-reads.Learnt stick.take-at-decides stick.take-at-allows (
+    promise 5 stick-give-at-kinds.ps stick-give-at-kinds.r stick-give-at-reads.Pre stick-give-at-reads.Learnt stick.give-at-decides stick.give-at-allows (
+    promise 5 stick-press-at-kinds.ps stick-press-at-kinds.r stick-press-at-reads.Pre stick-press-at-reads.Learnt stick.press-at-decides stick.press-at-allows (
+    promise 5 stick-fresh-all-kinds.ps stick-fresh-all-kinds.r stick-fresh-all-reads.Pre stick-fresh-all-reads.Learnt stick.fresh-all-decides stick.fresh-all-allows ticks-decided)))
 
 pub firmware-decided : Promises
 firmware-decided =
     promise 0 firmware-translate-kinds.ps firmware-translate-kinds.r firmware-translate-reads.Pre firmware-translate-reads.Learnt firmware.translate-decides firmware.translate-allows (
-    promise 4 firmware-fresh-kinds.ps firmware-fresh-kinds.r firmware-fresh-reads.Pre firmware-fresh-reads.Learnt firmware.fresh-decides firmware.fresh-allows (
-    promise 4 firmware-take-kinds.ps firmware-take-kinds.r firmware-take-reads.Pre firmware-take-reads.Learnt firmware.take-decides firmware.take-allows (
-    promise 4 firmware-tick-kinds.ps firmware-tick-kinds.r firmware-tick-reads.Pre firmware-tick-reads.Learnt firmware.tick-decides firmware.tick-allows (
-    promise 4 firmware-give-kinds.ps firmware-give-kinds.r firmware-give-reads.Pre firmware-give-reads.Learnt firmware.give-decides firmware.give-allows (
-    promise 4 firmware-press-kinds.ps firmware-press-kinds.r firmware-press-reads.Pre firmware-press-reads.Learnt firmware.press-decides firmware.press-allows stick-decided)))))
+    promise 5 firmware-fresh-kinds.ps firmware-fresh-kinds.r firmware-fresh-reads.Pre firmware-fresh-reads.Learnt firmware.fresh-decides firmware.fresh-allows (
+    promise 5 firmware-take-kinds.ps firmware-take-kinds.r firmware-take-reads.Pre firmware-take-reads.Learnt firmware.take-decides firmware.take-allows (
+    promise 5 firmware-tick-kinds.ps firmware-tick-kinds.r firmware-tick-reads.Pre firmware-tick-reads.Learnt firmware.tick-decides firmware.tick-allows (
+    promise 5 firmware-give-kinds.ps firmware-give-kinds.r firmware-give-reads.Pre firmware-give-reads.Learnt firmware.give-decides firmware.give-allows (
+    promise 5 firmware-press-kinds.ps firmware-press-kinds.r firmware-press-reads.Pre firmware-press-reads.Learnt firmware.press-decides firmware.press-allows stick-decided)))))
 
 -- all of them
 pub all-decided : Promises

@@ -20,13 +20,13 @@ use Rattle.machine.specs.Real.{real}
 use Rattle.machine.proofs.Lawful.{lawful}
 use Rattle.machine.proofs.Demanded.{one-reading}
 use Rattle.machine.proofs.Course.{course}
-use Rattle.machine.proofs.Statuses.{statuses, fields, needs}
+use Rattle.machine.proofs.Statuses.{statuses, tapes, fields, needs}
 use Rattle.demands.specs.Bytes.{bytes}
 use Rattle.demands.specs.Told.{lends}
 use Rattle.demands.specs.Demands.{Demands}
 use Rattle.demands.proofs.Bytes.{bytes-follow, always-undamaged, always-numbers}
 use Rattle.demands.proofs.Translated.{translated}
-use Rattle.demands.proofs.Over.{fresh-all, paper-stays}
+use Rattle.demands.proofs.Over.{fresh-all, paper-stays, tape-stays}
 use Rattle.demands.proofs.Told.{exact, any-still, kept, give-says, never-3, call-is}
 use Rattle.demands.proofs.Made.{fresh-open, take-open, tick-open, give-open, press-open, translate-open, can-call}
 use Rattle.demands.proofs.Run.{linked}
@@ -49,6 +49,7 @@ demands = record {
   translates = translated;
   statuses =
       statuses bytes (follow.demand2 real bytes bytes-follow lawful .alone) (follow.never-damaged real bytes bytes-follow lawful);
+  marks = tapes bytes (follow.never-damaged real bytes bytes-follow lawful);
   fields = fields;
   demand1-run = follow.demand1 real bytes bytes-follow lawful;
   demand2 = follow.demand2 real bytes bytes-follow lawful;
@@ -69,7 +70,10 @@ demands = record {
   fresh-writes =
       λ o e. ap (λ (x : Returned). x .buffers .state) (o .told)
       ∙ fresh-all (lends o) (sym (ap (λ (x : Returned). x .number) (o .told)) ∙ e);
-  fresh-spares = λ o. ap (λ (x : Returned). x .buffers .paper) (o .told) ∙ paper-stays (lends o);
+  fresh-spares = λ o. (
+    ap (λ (x : Returned). x .buffers .paper) (o .told) ∙ paper-stays (lends o),
+    ap (λ (x : Returned). x .buffers .tape) (o .told) ∙ tape-stays (lends o),
+  );
   call-is = call-is;
   numbers = always-numbers;
   can-call = can-call;

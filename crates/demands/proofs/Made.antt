@@ -27,23 +27,23 @@ use Rattle.firmware.proofs.fixlomand_translate.Reads as translate-reads
 use Rattle.serial.specs.Core.{CoreCall, take, tick, give, press}
 use Rattle.machine.specs.Real.{real}
 use Rattle.machine.specs.Sticks.{portNumber}
-use Rattle.demands.specs.Told.{fourLent, FreshCall, TakeCall, TickCall, GiveCall, PressCall, CallByC, by-take, by-tick, by-give, by-press, RunByC, here, then}
+use Rattle.demands.specs.Told.{fiveLent, FreshCall, TakeCall, TickCall, GiveCall, PressCall, CallByC, by-take, by-tick, by-give, by-press, RunByC, here, then}
 use Rattle.demands.specs.Demand1.{Open}
 
 -- "No entry point trusts its caller to have checked"
-pub fresh-open : Open 4 fresh-kinds.ps fresh-kinds.r fresh-reads.Pre fresh-reads.Learnt
+pub fresh-open : Open 5 fresh-kinds.ps fresh-kinds.r fresh-reads.Pre fresh-reads.Learnt
 fresh-open = record { asks-nothing = λ κs a. tt; answers = firmware.fresh-allows }
 
-pub take-open : Open 4 take-kinds.ps take-kinds.r take-reads.Pre take-reads.Learnt
+pub take-open : Open 5 take-kinds.ps take-kinds.r take-reads.Pre take-reads.Learnt
 take-open = record { asks-nothing = λ κs a. tt; answers = firmware.take-allows }
 
-pub tick-open : Open 4 tick-kinds.ps tick-kinds.r tick-reads.Pre tick-reads.Learnt
+pub tick-open : Open 5 tick-kinds.ps tick-kinds.r tick-reads.Pre tick-reads.Learnt
 tick-open = record { asks-nothing = λ κs a. tt; answers = firmware.tick-allows }
 
-pub give-open : Open 4 give-kinds.ps give-kinds.r give-reads.Pre give-reads.Learnt
+pub give-open : Open 5 give-kinds.ps give-kinds.r give-reads.Pre give-reads.Learnt
 give-open = record { asks-nothing = λ κs a. tt; answers = firmware.give-allows }
 
-pub press-open : Open 4 press-kinds.ps press-kinds.r press-reads.Pre press-reads.Learnt
+pub press-open : Open 5 press-kinds.ps press-kinds.r press-reads.Pre press-reads.Learnt
 press-open = record { asks-nothing = λ κs a. tt; answers = firmware.press-allows }
 
 pub translate-open : Open 0 translate-kinds.ps translate-kinds.r translate-reads.Pre translate-reads.Learnt
@@ -53,15 +53,15 @@ translate-open = record { asks-nothing = λ κs a. tt; answers = firmware.transl
 abbrev lentAs : List ℕ → RefT (List ℕ)
 lentAs xs = record { ptr = (0, 0); name = 0; now = xs }
 
-abbrev lifetimes : Lfts 4
-lifetimes = ([], ([], ([], ([], tt))))
+abbrev lifetimes : Lfts 5
+lifetimes = ([], ([], ([], ([], ([], tt)))))
 
 -- a call with these buffers and numbers, as its claim allows one
-module _ {given : List (PK 4)} {r : RK 4} {Pre : In 4 (fourLent given)} {Learnt : Out 4 (fourLent given) r} where
-  abbrev asked : Open 4 (fourLent given) r Pre Learnt → Buffers → Dens lifetimes given → Told 4 (fourLent given) r Learnt
+module _ {given : List (PK 5)} {r : RK 5} {Pre : In 5 (fiveLent given)} {Learnt : Out 5 (fiveLent given) r} where
+  abbrev asked : Open 5 (fiveLent given) r Pre Learnt → Buffers → Dens lifetimes given → Told 5 (fiveLent given) r Learnt
   asked o b numbers =
-      let a : Dens lifetimes (fourLent given) =
-      (lentAs (b .state), (lentAs (b .area), (lentAs (b .screen), (lentAs (b .paper), numbers)))) in
+      let a : Dens lifetimes (fiveLent given) =
+      (lentAs (b .state), (lentAs (b .area), (lentAs (b .screen), (lentAs (b .paper), (lentAs (b .tape), numbers))))) in
       let x = o .answers lifetimes a (o .asks-nothing lifetimes a) in
       record { κs = lifetimes; args = a; result = x .0; lasts = x .1 .0; told = x .1 .1 }
 

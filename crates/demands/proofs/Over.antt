@@ -7,7 +7,7 @@ use mathlib.Core.Bool.{true, false, true≢false}
 use mathlib.Core.List.{List, [], _∷_, _++_}
 use Prim.Native.Nat.{ℕ, _*_, _≤_, _<_}
 use native.Mathlib.Omega.{arith}
-use lib.ListN.{drop, replicate}
+use lib.ListN.{length, drop, replicate}
 use lib.Seq.{drop-at}
 use Rattle.base.proofs.Choices.{by-test}
 use Rattle.wire.specs.Messages.{roomLength}
@@ -16,16 +16,18 @@ use Rattle.layout.specs.Stick.{Stick, freshStick, Lent, lent}
 use Rattle.layout.specs.Layout.{headOf}
 use Rattle.layout.specs.Stands.{stands}
 use Rattle.layout.proofs.Lengths.{head-length}
+use Rattle.layout.proofs.Ports.{own-count, own-pending}
 use Rattle.damage.specs.Fits.{stickFits}
 use Rattle.calls.specs.Stick.{Outcome, refused}
 use Rattle.calls.specs.Calls.{freshCall, takeCall, tickCall, giveCall, pressCall}
 use Rattle.calls.specs.Bytes.{Buffers, buffers, Left, left, leftAlone, buffersFit, stickBy, lentBy, leftOf, overBytes, freshBytes, takeBytes, tickBytes, giveBytes, pressBytes}
 use Rattle.calls.specs.Parts.{Lengths}
 use Rattle.calls.proofs.Passing.{lengths-of}
+use Rattle.rules.specs.Shape.{Shaped}
 use Rattle.rules.specs.Answers.{OtherLength, Damaged, oneOf, TakeAnswers, TickAnswers, GiveAnswers, PressAnswers}
 use Rattle.rules.proofs.Answers.{take-answers, take-still, take-most, tick-answers, tick-still, tick-most, give-answers, give-still, give-most, press-answers, press-still, press-most}
 use Rattle.rules.proofs.NeverDamaged as never
-use Rattle.rules.proofs.FreshStart.{fresh-done, fresh-guarded, fresh-paper}
+use Rattle.rules.proofs.FreshStart.{fresh-done, fresh-guarded, fresh-paper, fresh-tape}
 use Rattle.demands.specs.Bytes.{UndamagedState}
 use Rattle.demands.specs.Demand1.{DamagedBuffers, BytesAnswers, FreshBytesAnswers}
 use Rattle.demands.proofs.Bytes.{lengths-true, over-done, over-stray, over-short, fresh-fitting, fresh-short, lent-lengths}
@@ -37,7 +39,7 @@ pub record Ruled (call : Stick → Lent → Outcome) (Answers : Stick → Lent �
   pub two : (s : Stick) (l : Lent) → call s l .answer ≡ 2 → OtherLength l
   pub three : (s : Stick) (l : Lent) → (call s l .answer ≡ 3) ↔ Damaged s l
   pub still : (s : Stick) (l : Lent) → (call s l .answer ≡ 0 → ⊥) → call s l ≡ refused (call s l .answer) s l
-  pub keeps : Ok → (s : Stick) (l : Lent) → stickFits s l ≡ true → stickFits (call s l .stick) (call s l .lent) ≡ true
+  pub keeps : Ok → (s : Stick) (l : Lent) → Shaped s → stickFits s l ≡ true → stickFits (call s l .stick) (call s l .lent) ≡ true
 
 take-ruled : (port byte : ℕ) → Ruled (λ s l. takeCall s l port byte) (λ s l. TakeAnswers s l port) (byte < 256)
 take-ruled port byte = record {
@@ -96,13 +98,19 @@ left-undamaged o e =
     let r = drop-at (headOf (o .stick)) (l .rooms) roomsPlace (head-length (o .stick)) in
     record {
       stick = o .stick;
-      fits = subst (λ (xs : List ℕ). stickFits (o .stick) (lent xs (l .area) (l .screen) (l .paper)) ≡ true) (sym r) e;
+      fits = subst (λ (xs : List ℕ). stickFits (o .stick) (lent xs (l .area) (l .screen) (l .paper) (l .tape)) ≡ true) (sym r) e;
       written = sym (ap (λ (xs : List ℕ). headOf (o .stick) ++ xs) r);
     }
 
 refused-ruled : (b : Buffers) (Ok : Type 0) (n : ℕ) → 1 ≤ n → n ≤ 8 → LeftRuled b Ok (leftAlone n b)
 refused-ruled b Ok n h m =
     record { low = m; stays = λ w z. refl; kept = λ k z. let e : n ≡ 0 = z in absurd (omega (arith, e, h)) }
+
+-- a stick that bytes of their length stand for
+shaped-by : (b : Buffers) → Lengths b → Shaped (stickBy b)
+shaped-by b f =
+    let long : roomsPlace ≤ length (b .state) = omega (arith, f .long) in
+    record { table0 = own-count 0 (omega arith) (b .state); table1 = own-count 1 (omega arith) (b .state); pending = own-pending (b .state) long }
 
 -- by the two tests
 module _ (call : Stick → Lent → Outcome) (b : Buffers) where
@@ -160,10 +168,10 @@ module _ (call : Stick → Lent → Outcome) (b : Buffers) where
           low = k .most s (lentBy b);
           stays =
               λ w z. ap leftOf (k .still s (lentBy b) z)
-              ∙ ap (λ (xs : List ℕ). left (o .answer) 0 (buffers xs (b .area) (b .screen) (b .paper))) (w f t);
+              ∙ ap (λ (xs : List ℕ). left (o .answer) 0 (buffers xs (b .area) (b .screen) (b .paper) (b .tape))) (w f t);
           -- a call that is not refused with 3 is of an undamaged stick
           kept = λ h e. by-test (stickFits s (lentBy b))
-              (λ u. left-undamaged o (k .keeps h s (lentBy b) u))
+              (λ u. left-undamaged o (k .keeps h s (lentBy b) (shaped-by b f) u))
               (λ u. let d : Damaged s (lentBy b) = record { lengths = lent-lengths b f; damaged = u } in
               let z : _≡_ {A = ℕ} 3 0 = sym (k .three s (lentBy b) .1 d) ∙ e in absurd (omega (arith, z)));
         })
@@ -242,3 +250,6 @@ module _ (b : Buffers) where
 
   pub paper-stays : freshBytes b .buffers .paper ≡ b .paper
   paper-stays = fresh-by (λ l. l .buffers .paper ≡ b .paper) (λ n. refl) (λ f. fresh-paper freshStick (lentBy b))
+
+  pub tape-stays : freshBytes b .buffers .tape ≡ b .tape
+  tape-stays = fresh-by (λ l. l .buffers .tape ≡ b .tape) (λ n. refl) (λ f. fresh-tape freshStick (lentBy b))

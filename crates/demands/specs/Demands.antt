@@ -38,7 +38,7 @@ use Rattle.serial.specs.Demand2.{Demand2}
 use Rattle.serial.specs.Demand3.{Demand3, UnfinishedRule}
 use Rattle.serial.specs.Follows.{Follows}
 use Rattle.machine.specs.Real.{real}
-use Rattle.machine.specs.Statuses.{StatusRule, FieldsRule, NeedsRule}
+use Rattle.machine.specs.Statuses.{MarkRule, StatusRule, FieldsRule, NeedsRule}
 use Rattle.machine.specs.Course.{CourseRule}
 use Rattle.demands.specs.Bytes.{leftBy, bytes, SoundBuffers, UndamagedState}
 use Rattle.demands.specs.Told.{lends, leaves, answerIn, replyByteIn, FreshCall, GiveCall, portNamed, TranslateCall, codeAsked, lockAsked, inverseAsked, translation, AnyCall, CallByC, returnedBy, RunByC}
@@ -53,11 +53,11 @@ pub record Demands : Type 0 where
   -- 1. "Whatever bytes the two hosts send, whatever keys are pressed and in whatever order the core is called, every call
   -- returns, nothing is read or written outside its buffer [the check itself], and each refusal gives the number in the tables of
   -- document 01 and changes only what they say. No entry point trusts its caller to have checked."
-  pub fresh-open : Open 4 fresh-kinds.ps fresh-kinds.r fresh-reads.Pre fresh-reads.Learnt
-  pub take-open : Open 4 take-kinds.ps take-kinds.r take-reads.Pre take-reads.Learnt
-  pub tick-open : Open 4 tick-kinds.ps tick-kinds.r tick-reads.Pre tick-reads.Learnt
-  pub give-open : Open 4 give-kinds.ps give-kinds.r give-reads.Pre give-reads.Learnt
-  pub press-open : Open 4 press-kinds.ps press-kinds.r press-reads.Pre press-reads.Learnt
+  pub fresh-open : Open 5 fresh-kinds.ps fresh-kinds.r fresh-reads.Pre fresh-reads.Learnt
+  pub take-open : Open 5 take-kinds.ps take-kinds.r take-reads.Pre take-reads.Learnt
+  pub tick-open : Open 5 tick-kinds.ps tick-kinds.r tick-reads.Pre tick-reads.Learnt
+  pub give-open : Open 5 give-kinds.ps give-kinds.r give-reads.Pre give-reads.Learnt
+  pub press-open : Open 5 press-kinds.ps press-kinds.r press-reads.Pre press-reads.Learnt
   pub translate-open : Open 0 translate-kinds.ps translate-kinds.r translate-reads.Pre translate-reads.Learnt
   pub exactly : {b : Buffers} {r : Returned} (c : AnyCall b r) → Exactly c
   -- "Numbers 1 to 8 change nothing"; "A byte beside a refusal is 0.": every byte of every buffer stays. That a lent state is made
@@ -69,6 +69,8 @@ pub record Demands : Type 0 where
   pub translates : (o : TranslateCall) → TranslateAnswers (codeAsked o) (lockAsked o) (inverseAsked o) (translation o)
   -- the statuses' table: each request's, with its count, its A and the blocks that it leaves; each refused field's
   pub statuses : StatusRule bytes
+  -- "while any block of either port has C open", as the table reads it
+  pub marks : MarkRule bytes
   pub fields : FieldsRule
   -- the same within a run, by what each port does; `presses` there is 2's taken key
   pub demand1-run : Demand1 real bytes
@@ -78,6 +80,7 @@ pub record Demands : Type 0 where
   pub demand2 : Demand2 real bytes
   pub demand2-course : CourseRule bytes
   pub demand2-needs : NeedsRule
+  -- Document 02: "Demands 2 and 3 now read over three groups and the tape."
   -- 3. "The replies made for each port, both memory areas, both control-block tables, the console and the paper are those of the
   -- run in which the started requests and the taken keys go one at a time .. The bytes taken on a port spell its started requests
   -- .. the bytes given on it are those of its own replies"
@@ -98,11 +101,11 @@ pub record Demands : Type 0 where
   pub fits-in : (s : Stick) (l : Lent) → Typed s → stickFits s l ≡ true → InBytes s
   pub one-head : (x y : List ℕ) → Bytes x → Bytes y → length x ≡ stateLength → length y ≡ stateLength
       → stands x ≡ true → stands y ≡ true → stickIn x ≡ stickIn y → take roomsPlace x ≡ take roomsPlace y
-  -- a fresh start writes every byte of the state, whatever it held, and leaves the paper's bytes
+  -- a fresh start writes every byte of the state, whatever it held, and leaves the paper's and the tape's bytes
   pub fresh-is : (o : FreshCall) → leaves o ≡ answerOf (freshBytes (lends o))
   pub fresh-writes : (o : FreshCall) → leaves o .number ≡ 0
       → leaves o .buffers .state ≡ headOf freshStick ++ replicate (2 * roomLength) 0
-  pub fresh-spares : (o : FreshCall) → leaves o .buffers .paper ≡ lends o .paper
+  pub fresh-spares : (o : FreshCall) → (leaves o .buffers .paper ≡ lends o .paper) × (leaves o .buffers .tape ≡ lends o .tape)
   -- the link: what a function returns and leaves is what the run's call does: answer, byte, state and buffers; the run's answers
   -- are those numbers; and each can be called
   pub call-is : {b : Buffers} {c : CoreCall real} {r : Returned} → CallByC b c r → r ≡ returnedBy c (leftBy c b)

@@ -39,9 +39,9 @@ pub record Tells (n : ℕ) (ps : List (PK n)) (r : RK n) (Asked : In n ps) (Lear
       → Known (w .𝓤) (w .H) (w .𝓖 .A) (givenOf (w .𝓤) (w .H) (w .𝓜) (w .𝓖)) (Over (w .𝓤) (w .H) (w .𝓜) (w .𝓖) (w .𝓡) γ) n ps r Asked Learnt k
 
 pub record Routines : Type 2 where
-  pub fresh : Tells 4 fresh-kinds.ps fresh-kinds.r fresh-reads.Asked fresh-reads.Learnt fresh-symbol.routine
-  pub take : Tells 4 take-kinds.ps take-kinds.r take-reads.Asked take-reads.Learnt take-symbol.routine
-  pub tick : Tells 4 tick-kinds.ps tick-kinds.r tick-reads.Asked tick-reads.Learnt tick-symbol.routine
-  pub give : Tells 4 give-kinds.ps give-kinds.r give-reads.Asked give-reads.Learnt give-symbol.routine
-  pub press : Tells 4 press-kinds.ps press-kinds.r press-reads.Asked press-reads.Learnt press-symbol.routine
+  pub fresh : Tells 5 fresh-kinds.ps fresh-kinds.r fresh-reads.Asked fresh-reads.Learnt fresh-symbol.routine
+  pub take : Tells 5 take-kinds.ps take-kinds.r take-reads.Asked take-reads.Learnt take-symbol.routine
+  pub tick : Tells 5 tick-kinds.ps tick-kinds.r tick-reads.Asked tick-reads.Learnt tick-symbol.routine
+  pub give : Tells 5 give-kinds.ps give-kinds.r give-reads.Asked give-reads.Learnt give-symbol.routine
+  pub press : Tells 5 press-kinds.ps press-kinds.r press-reads.Asked press-reads.Learnt press-symbol.routine
   pub translate : Tells 0 translate-kinds.ps translate-kinds.r translate-reads.Asked translate-reads.Learnt translate-symbol.routine

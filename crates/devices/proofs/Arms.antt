@@ -8,7 +8,7 @@ use native.Mathlib.Nat.{add-zero}
 use native.Mathlib.Omega.{arith}
 use lib.Dec.{eqb}
 use borrow.Author.Tests.{lt-ltb, le-ltb}
-use lib.ListN.{length, take, drop, take-append-drop}
+use lib.ListN.{length, take, drop, replicate, length-drop, take-append-drop}
 use lib.Seq.{sets}
 use Rattle.base.proofs.Lists.{part-tail, back-tail}
 use Rattle.base.proofs.Parts.{cat, take-before, drop-into}
@@ -17,7 +17,7 @@ use Rattle.handler.specs.declared.Got.{Got}
 use Rattle.handler.specs.declared.Got.the-variants as got
 use Rattle.handler.specs.declared.Done.{Done}
 use Rattle.handler.specs.declared.Done.the-variants as done
-use Rattle.handler.specs.Answer.{answer, seen}
+use Rattle.handler.specs.Answer.{Answer, answer, seen}
 use Rattle.blocks.specs.declared.Device.{Device}
 use Rattle.console.specs.declared.Handler.{Handler}
 use Rattle.console.specs.declared.state.Console.{Console}
@@ -26,15 +26,21 @@ use Rattle.console.specs.Handlers as console
 use Rattle.printer.specs.declared.Printer.{Printer}
 use Rattle.printer.specs.Printer.{printerGroup, freshPrinter}
 use Rattle.printer.specs.Printer as printer
-use Rattle.layout.specs.Places.{consolePlace, printerPlace}
-use Rattle.layout.specs.Layout.{consoleBytes, printerBytes, consoleIn, printerIn}
+use Rattle.cassette.specs.Cassette.{freshCassette}
+use Rattle.cassette.specs.Cassette as cassette
+use Rattle.layout.specs.Places.{consolePlace, printerPlace, printerLength, pendingLength, devicesLength, Numbers}
+use Rattle.layout.specs.Stick.{devices}
+use Rattle.layout.specs.Layout.{consoleBytes, printerBytes, cassetteBytes, pendingBytes, devicesBytes, consoleIn, printerIn}
+use Rattle.layout.specs.InBytes.{Bytes}
+use Rattle.recorder.specs.Recorder.{tapeLent, getTape, putTape}
+use Rattle.recorder.proofs.Laws.{sets-part, tape-still}
 use Rattle.devices.specs.declared.Group.{Group}
 use Rattle.devices.specs.declared.Group.the-variants as groups
 use Rattle.devices.specs.declared.Owner.{Owner}
 use Rattle.devices.specs.declared.Owner.the-variants as owner
 use Rattle.devices.specs.Groups.{groupNumber, clash, ownerOf}
-use Rattle.devices.specs.Lent.{Numbers, Freshens, devicesLent, putLent, lentActs, lentOf, freshGroups}
-use Rattle.layout.proofs.Ports.{devices-written}
+use Rattle.devices.specs.Lent.{DevicesLent, devicesLent, printerWith, withTape, getLent, putLent, lentActs, lentOf, freshGroups, Lends, Freshens}
+use Rattle.layout.proofs.WriteRead.{bytes-drop, printer-back, Known, bytes-of}
 
 -- the numbers of two groups compared
 module _ (one other : Group) (n m : ℕ) (is-n : n ≡ groupNumber one) where
@@ -62,63 +68,111 @@ stored p bytes b part e =
     ∙ cat (sym (take-before bytes b p p (omega arith))) (sym (drop-into bytes b p 0) ∙ ap (λ (k : ℕ). drop p (sets b k bytes)) (add-zero p))
     ∙ take-append-drop p (sets b p bytes)
 
-module _ (d : Device) (asked : Asked) (o : Owner) (own : o ≡ ownerOf d) (b after screen paper : List ℕ) where
+-- numbers that an act leaves alone, put back as they were read
+printer-still : (b : List ℕ) → Bytes b → Numbers b → sets b printerPlace (printerBytes (printerWith (printerIn (drop printerPlace b) .used))) ≡ b
+printer-still b w h =
+    let l : printerLength ≤ length (drop printerPlace b) = simp length-drop (omega (arith, h .long)) in
+    ap (sets b printerPlace) (printer-back (drop printerPlace b) (bytes-drop printerPlace b w) l) ∙ sets-part printerPlace printerLength b (omega (arith, h .long))
+
+module _ (d : Device) (asked : Asked) (o : Owner) (own : o ≡ ownerOf d) (b after screen paper tape : List ℕ) where
+  abbrev lent : DevicesLent
+  lent = devicesLent b screen paper tape
+
   module _ (h : Handler) (is : o ≡ owner.Console h) (c n : Console) (t : List ℕ) (in-c : c ≡ consoleIn (drop consolePlace b)) (in-n : after ≡ sets b consolePlace (consoleBytes n)) where
-    pub open-console : (x : Done) → answer x (group n t) ≡ console.openOf h (asked .aux1) (asked .aux2) (group c screen) → answer x (devicesLent after t paper) ≡ lentActs d asked .opens (devicesLent b screen paper)
-    open-console x q = rw (in-n, ← own, is) (ap (seen (putLent groups.Console (devicesLent b screen paper))) (q ∙ ap (λ (y : Console). console.openOf h (asked .aux1) (asked .aux2) (group y screen)) in-c))
+    console-arm : {A : Type 0} (f : ConsoleGroup → Answer A ConsoleGroup) (x : A) → answer x (group n t) ≡ f (group c screen)
+        → answer x (devicesLent after t paper tape) ≡ seen (putLent groups.Console lent) (f (getLent groups.Console lent))
+    console-arm f x q = rw in-n (ap (seen (putLent groups.Console lent)) (q ∙ ap (λ (y : Console). f (group y screen)) in-c))
 
-    pub prepare-console : (x : Done) → answer x (group n t) ≡ console.prepareOf h (group c screen) → answer x (devicesLent after t paper) ≡ lentActs d asked .prepares (devicesLent b screen paper)
-    prepare-console x q = rw (in-n, ← own, is) (ap (seen (putLent groups.Console (devicesLent b screen paper))) (q ∙ ap (λ (y : Console). console.prepareOf h (group y screen)) in-c))
+    pub open-console : (x : Done) → answer x (group n t) ≡ console.openOf h (asked .aux1) (asked .aux2) (group c screen) → answer x (devicesLent after t paper tape) ≡ lentActs d asked .opens lent
+    open-console x q = rw (← own, is) (console-arm (console.openOf h (asked .aux1) (asked .aux2)) x q)
 
-    pub read-console : (x : Got) → answer x (group n t) ≡ console.readOf h (group c screen) → answer x (devicesLent after t paper) ≡ lentActs d asked .reads (devicesLent b screen paper)
-    read-console x q = rw (in-n, ← own, is) (ap (seen (putLent groups.Console (devicesLent b screen paper))) (q ∙ ap (λ (y : Console). console.readOf h (group y screen)) in-c))
+    pub prepare-console : (x : Done) → answer x (group n t) ≡ console.prepareOf h (group c screen) → answer x (devicesLent after t paper tape) ≡ lentActs d asked .prepares lent
+    prepare-console x q = rw (← own, is) (console-arm (console.prepareOf h) x q)
 
-    pub write-console : (byte : ℕ) (x : Done) → answer x (group n t) ≡ console.writeOf h byte (group c screen) → answer x (devicesLent after t paper) ≡ lentActs d asked .writes byte (devicesLent b screen paper)
-    write-console byte x q = rw (in-n, ← own, is) (ap (seen (putLent groups.Console (devicesLent b screen paper))) (q ∙ ap (λ (y : Console). console.writeOf h byte (group y screen)) in-c))
+    pub read-console : (x : Got) → answer x (group n t) ≡ console.readOf h (group c screen) → answer x (devicesLent after t paper tape) ≡ lentActs d asked .reads lent
+    read-console x q = rw (← own, is) (console-arm (console.readOf h) x q)
+
+    pub write-console : (byte : ℕ) (x : Done) → answer x (group n t) ≡ console.writeOf h byte (group c screen) → answer x (devicesLent after t paper tape) ≡ lentActs d asked .writes byte lent
+    write-console byte x q = rw (← own, is) (console-arm (console.writeOf h byte) x q)
 
   module _ (h : Handler) (is : o ≡ owner.Console h) where
     module _ (c : Console) (in-c : c ≡ consoleIn (drop consolePlace b)) (in-n : after ≡ sets b consolePlace (consoleBytes c)) where
-      pub close-console : devicesLent after screen paper ≡ lentActs d asked .closes (devicesLent b screen paper)
+      pub close-console : devicesLent after screen paper tape ≡ lentActs d asked .closes lent
       close-console = rw (in-n, in-c, ← own, is)
 
-      pub special-console : answer (done.Refused 0x84) (devicesLent after screen paper) ≡ lentActs d asked .specials (devicesLent b screen paper)
+      pub special-console : answer (done.Refused 0x84) (devicesLent after screen paper tape) ≡ lentActs d asked .specials lent
       special-console = rw (in-n, in-c, ← own, is)
 
-    pub status-console : done.Success ≡ lentActs d asked .statuses (devicesLent b screen paper)
+    pub status-console : done.Success ≡ lentActs d asked .statuses lent
     status-console = rw (← own, is)
 
   module _ (is : o ≡ owner.Printer) where
-    module _ (p : Printer) (in-p : p ≡ printerIn (drop printerPlace b)) (in-n : after ≡ sets b printerPlace (printerBytes p)) where
-      pub open-printer : answer done.Success (devicesLent after screen paper) ≡ lentActs d asked .opens (devicesLent b screen paper)
-      open-printer = rw (in-n, in-p, ← own, is)
+    module _ (w : Known b) (r : Lends b screen tape) where
+      still : lent ≡ putLent groups.Printer lent (getLent groups.Printer lent)
+      still = ap (λ (x : List ℕ). devicesLent x screen paper tape) (sym (printer-still b (bytes-of b w) (r .all)))
 
-      pub close-printer : devicesLent after screen paper ≡ lentActs d asked .closes (devicesLent b screen paper)
-      close-printer = rw (in-n, in-p, ← own, is)
+      pub open-printer : answer done.Success lent ≡ lentActs d asked .opens lent
+      open-printer = rw (← own, is) (ap (answer done.Success) still)
 
-      pub prepare-printer : answer done.Success (devicesLent after screen paper) ≡ lentActs d asked .prepares (devicesLent b screen paper)
-      prepare-printer = rw (in-n, in-p, ← own, is)
+      pub close-printer : lent ≡ lentActs d asked .closes lent
+      close-printer = rw (← own, is) still
 
-      pub read-printer : answer (got.Refused 0x83) (devicesLent after screen paper) ≡ lentActs d asked .reads (devicesLent b screen paper)
-      read-printer = rw (in-n, in-p, ← own, is)
+      pub prepare-printer : answer done.Success lent ≡ lentActs d asked .prepares lent
+      prepare-printer = rw (← own, is) (ap (answer done.Success) still)
 
-      pub special-printer : answer (done.Refused 0x84) (devicesLent after screen paper) ≡ lentActs d asked .specials (devicesLent b screen paper)
-      special-printer = rw (in-n, in-p, ← own, is)
+      pub read-printer : answer (got.Refused 0x83) lent ≡ lentActs d asked .reads lent
+      read-printer = rw (← own, is) (ap (answer (got.Refused 0x83)) still)
+
+      pub special-printer : answer (done.Refused 0x84) lent ≡ lentActs d asked .specials lent
+      special-printer = rw (← own, is) (ap (answer (done.Refused 0x84)) still)
 
     pub write-printer : (p n : Printer) (t : List ℕ) (byte : ℕ) (x : Done) → p ≡ printerIn (drop printerPlace b) → after ≡ sets b printerPlace (printerBytes n)
-        → answer x (printerGroup (n .used) t) ≡ printer.putOf byte (printerGroup (p .used) paper) → answer x (devicesLent after screen t) ≡ lentActs d asked .writes byte (devicesLent b screen paper)
-    write-printer p n t byte x in-p in-n q = rw (in-n, ← own, is) (ap (seen (putLent groups.Printer (devicesLent b screen paper))) (q ∙ ap (λ (y : Printer). printer.putOf byte (printerGroup (y .used) paper)) in-p))
+        → answer x (printerGroup (n .used) t) ≡ printer.putOf byte (printerGroup (p .used) paper) → answer x (devicesLent after screen t tape) ≡ lentActs d asked .writes byte lent
+    write-printer p n t byte x in-p in-n q = rw (in-n, ← own, is) (ap (seen (putLent groups.Printer lent)) (q ∙ ap (λ (y : Printer). printer.putOf byte (printerGroup (y .used) paper)) in-p))
 
-    pub status-printer : done.Success ≡ lentActs d asked .statuses (devicesLent b screen paper)
+    pub status-printer : done.Success ≡ lentActs d asked .statuses lent
     status-printer = rw (← own, is)
+
+  module _ (is : o ≡ owner.Cassette) where
+    module _ (t : List ℕ) where
+      pub open-cassette : (x : Done) → answer x (tapeLent after tape) ≡ seen (putTape b) (cassette.openOf (asked .aux1) (getTape b tape)) → answer x (devicesLent after screen paper tape) ≡ lentActs d asked .opens lent
+      open-cassette x q = rw (← own, is) (ap (seen (withTape lent)) q)
+
+      pub close-cassette : tapeLent after t ≡ putTape b (cassette.closeOf (getTape b tape)) → devicesLent after screen paper t ≡ lentActs d asked .closes lent
+      close-cassette q = rw (← own, is) (ap (withTape lent) q)
+
+      pub read-cassette : (x : Got) → answer x (tapeLent after tape) ≡ seen (putTape b) (cassette.readOf (getTape b tape)) → answer x (devicesLent after screen paper tape) ≡ lentActs d asked .reads lent
+      read-cassette x q = rw (← own, is) (ap (seen (withTape lent)) q)
+
+      pub write-cassette : (byte : ℕ) (x : Done) → answer x (tapeLent after t) ≡ seen (putTape b) (cassette.writeOf byte (getTape b tape)) → answer x (devicesLent after screen paper t) ≡ lentActs d asked .writes byte lent
+      write-cassette byte x q = rw (← own, is) (ap (seen (withTape lent)) q)
+
+    module _ (r : Lends b screen tape) where
+      rests : lent ≡ putLent groups.Cassette lent (getLent groups.Cassette lent)
+      rests = ap (withTape lent) (sym (tape-still b (r .all) tape))
+
+      pub prepare-cassette : answer done.Success lent ≡ lentActs d asked .prepares lent
+      prepare-cassette = rw (← own, is) (ap (answer done.Success) rests)
+
+      pub special-cassette : answer (done.Refused 0x84) lent ≡ lentActs d asked .specials lent
+      special-cassette = rw (← own, is) (ap (answer (done.Refused 0x84)) rests)
+
+    pub status-cassette : done.Success ≡ lentActs d asked .statuses lent
+    status-cassette = rw (← own, is)
 
 -- a fresh start writes every number
 module _ (numbers screen : List ℕ) (f : Freshens numbers screen) where
   pub freshens-long : Numbers numbers
   freshens-long = record { long = omega (arith, f .exact) }
 
-  pub fresh-law : (c : Console) (p : Printer) (mid after screen′ paper : List ℕ) → group c screen′ ≡ freshGroup → mid ≡ sets numbers consolePlace (consoleBytes c) → p ≡ freshPrinter
-      → after ≡ sets mid printerPlace (printerBytes p) → devicesLent after screen′ paper ≡ lentOf (freshGroups paper)
-  fresh-law c p mid after screen′ paper q m u a =
-      ap (λ (x : List ℕ). devicesLent x screen′ paper)
-      (a ∙ ap (λ (x : List ℕ). sets x printerPlace (printerBytes p)) m ∙ devices-written numbers c p (f .exact) ∙ ap (λ (x : Printer). consoleBytes c ++ printerBytes x) u)
-      ∙ ap (λ (x : ConsoleGroup). devicesLent (consoleBytes (x .console) ++ printerBytes freshPrinter) (x .screen) paper) q
+  -- of a fresh printer and a fresh cassette every byte is 0
+  zeros : (c : Console) → sets (replicate devicesLength 0) consolePlace (consoleBytes c) ≡ devicesBytes (devices c freshPrinter freshCassette (replicate pendingLength 0))
+  unfolding devicesBytes consoleBytes printerBytes cassetteBytes pendingBytes
+  zeros c = refl
+
+  pub fresh-law : (c : Console) (mid after screen′ paper tape : List ℕ) → mid ≡ replicate (length numbers) 0 → group c screen′ ≡ freshGroup → after ≡ sets mid consolePlace (consoleBytes c)
+      → devicesLent after screen′ paper tape ≡ lentOf (freshGroups paper tape)
+  fresh-law c mid after screen′ paper tape m q a =
+      ap (λ (x : List ℕ). devicesLent x screen′ paper tape)
+      (a ∙ ap (λ (x : List ℕ). sets x consolePlace (consoleBytes c)) (m ∙ ap (λ (k : ℕ). replicate k 0) (f .exact)) ∙ zeros c)
+      ∙ ap (λ (x : ConsoleGroup). devicesLent (devicesBytes (devices (x .console) freshPrinter freshCassette (replicate pendingLength 0))) (x .screen) paper tape) q

@@ -65,52 +65,52 @@ clashes-decides κs a z z′ ws ws′ p e e′ = (e ∙ sym e′, refl)
 pub clashes-allows : Allows 0 clashes-kinds.ps clashes-kinds.r clashes-reads.Pre clashes-reads.Learnt
 clashes-allows κs a p = (_, (_, refl))
 
-pub open-decides : Decides 3 open-kinds.ps open-kinds.r open-reads.Pre open-reads.Learnt
-open-decides κs a z z′ ws ws′ p e e′ = let q = e ∙ sym e′ in (ap (λ (w : Answer Done DevicesLent). w .says) q, ap (λ (w : Answer Done DevicesLent). (tt, (tt, (w .leaves .numbers, (w .leaves .screen, (w .leaves .paper, tt)))))) q)
+pub open-decides : Decides 4 open-kinds.ps open-kinds.r open-reads.Pre open-reads.Learnt
+open-decides κs a z z′ ws ws′ p e e′ = let q = e ∙ sym e′ in (ap (λ (w : Answer Done DevicesLent). w .says) q, ap (λ (w : Answer Done DevicesLent). (tt, (tt, (w .leaves .numbers, (w .leaves .screen, (w .leaves .paper, (w .leaves .tape, tt))))))) q)
 
-pub open-allows : Allows 3 open-kinds.ps open-kinds.r open-reads.Pre open-reads.Learnt
+pub open-allows : Allows 4 open-kinds.ps open-kinds.r open-reads.Pre open-reads.Learnt
 open-allows κs a p = (_, (_, refl))
 
-pub close-decides : Decides 3 close-kinds.ps close-kinds.r close-reads.Pre close-reads.Learnt
-close-decides κs a z z′ ws ws′ p e e′ = (refl, ap (λ (w : DevicesLent). (tt, (tt, (w .numbers, (w .screen, (w .paper, tt)))))) (e ∙ sym e′))
+pub close-decides : Decides 4 close-kinds.ps close-kinds.r close-reads.Pre close-reads.Learnt
+close-decides κs a z z′ ws ws′ p e e′ = (refl, ap (λ (w : DevicesLent). (tt, (tt, (w .numbers, (w .screen, (w .paper, (w .tape, tt))))))) (e ∙ sym e′))
 
-pub close-allows : Allows 3 close-kinds.ps close-kinds.r close-reads.Pre close-reads.Learnt
+pub close-allows : Allows 4 close-kinds.ps close-kinds.r close-reads.Pre close-reads.Learnt
 close-allows κs a p = (_, (_, refl))
 
-pub prepare-decides : Decides 3 prepare-kinds.ps prepare-kinds.r prepare-reads.Pre prepare-reads.Learnt
-prepare-decides κs a z z′ ws ws′ p e e′ = let q = e ∙ sym e′ in (ap (λ (w : Answer Done DevicesLent). w .says) q, ap (λ (w : Answer Done DevicesLent). (tt, (tt, (w .leaves .numbers, (w .leaves .screen, (w .leaves .paper, tt)))))) q)
+pub prepare-decides : Decides 4 prepare-kinds.ps prepare-kinds.r prepare-reads.Pre prepare-reads.Learnt
+prepare-decides κs a z z′ ws ws′ p e e′ = let q = e ∙ sym e′ in (ap (λ (w : Answer Done DevicesLent). w .says) q, ap (λ (w : Answer Done DevicesLent). (tt, (tt, (w .leaves .numbers, (w .leaves .screen, (w .leaves .paper, (w .leaves .tape, tt))))))) q)
 
-pub prepare-allows : Allows 3 prepare-kinds.ps prepare-kinds.r prepare-reads.Pre prepare-reads.Learnt
+pub prepare-allows : Allows 4 prepare-kinds.ps prepare-kinds.r prepare-reads.Pre prepare-reads.Learnt
 prepare-allows κs a p = (_, (_, refl))
 
-pub read-decides : Decides 3 read-kinds.ps read-kinds.r read-reads.Pre read-reads.Learnt
-read-decides κs a z z′ ws ws′ p e e′ = let q = e ∙ sym e′ in (ap (λ (w : Answer Got DevicesLent). w .says) q, ap (λ (w : Answer Got DevicesLent). (tt, (tt, (w .leaves .numbers, (w .leaves .screen, (w .leaves .paper, tt)))))) q)
+pub read-decides : Decides 4 read-kinds.ps read-kinds.r read-reads.Pre read-reads.Learnt
+read-decides κs a z z′ ws ws′ p e e′ = let q = e ∙ sym e′ in (ap (λ (w : Answer Got DevicesLent). w .says) q, ap (λ (w : Answer Got DevicesLent). (tt, (tt, (w .leaves .numbers, (w .leaves .screen, (w .leaves .paper, (w .leaves .tape, tt))))))) q)
 
-pub read-allows : Allows 3 read-kinds.ps read-kinds.r read-reads.Pre read-reads.Learnt
+pub read-allows : Allows 4 read-kinds.ps read-kinds.r read-reads.Pre read-reads.Learnt
 read-allows κs a p = (_, (_, refl))
 
-pub write-decides : Decides 3 write-kinds.ps write-kinds.r write-reads.Pre write-reads.Learnt
-write-decides κs a z z′ ws ws′ p e e′ = let q = e ∙ sym e′ in (ap (λ (w : Answer Done DevicesLent). w .says) q, ap (λ (w : Answer Done DevicesLent). (tt, (tt, (tt, (w .leaves .numbers, (w .leaves .screen, (w .leaves .paper, tt))))))) q)
+pub write-decides : Decides 4 write-kinds.ps write-kinds.r write-reads.Pre write-reads.Learnt
+write-decides κs a z z′ ws ws′ p e e′ = let q = e ∙ sym e′ in (ap (λ (w : Answer Done DevicesLent). w .says) q, ap (λ (w : Answer Done DevicesLent). (tt, (tt, (tt, (w .leaves .numbers, (w .leaves .screen, (w .leaves .paper, (w .leaves .tape, tt)))))))) q)
 
-pub write-allows : Allows 3 write-kinds.ps write-kinds.r write-reads.Pre write-reads.Learnt
+pub write-allows : Allows 4 write-kinds.ps write-kinds.r write-reads.Pre write-reads.Learnt
 write-allows κs a p = (_, (_, refl))
 
-pub status-decides : Decides 3 status-kinds.ps status-kinds.r status-reads.Pre status-reads.Learnt
+pub status-decides : Decides 4 status-kinds.ps status-kinds.r status-reads.Pre status-reads.Learnt
 status-decides κs a z z′ ws ws′ p e e′ = (e ∙ sym e′, refl)
 
-pub status-allows : Allows 3 status-kinds.ps status-kinds.r status-reads.Pre status-reads.Learnt
+pub status-allows : Allows 4 status-kinds.ps status-kinds.r status-reads.Pre status-reads.Learnt
 status-allows κs a p = (_, (_, refl))
 
-pub special-decides : Decides 3 special-kinds.ps special-kinds.r special-reads.Pre special-reads.Learnt
-special-decides κs a z z′ ws ws′ p e e′ = let q = e ∙ sym e′ in (ap (λ (w : Answer Done DevicesLent). w .says) q, ap (λ (w : Answer Done DevicesLent). (tt, (tt, (w .leaves .numbers, (w .leaves .screen, (w .leaves .paper, tt)))))) q)
+pub special-decides : Decides 4 special-kinds.ps special-kinds.r special-reads.Pre special-reads.Learnt
+special-decides κs a z z′ ws ws′ p e e′ = let q = e ∙ sym e′ in (ap (λ (w : Answer Done DevicesLent). w .says) q, ap (λ (w : Answer Done DevicesLent). (tt, (tt, (w .leaves .numbers, (w .leaves .screen, (w .leaves .paper, (w .leaves .tape, tt))))))) q)
 
-pub special-allows : Allows 3 special-kinds.ps special-kinds.r special-reads.Pre special-reads.Learnt
+pub special-allows : Allows 4 special-kinds.ps special-kinds.r special-reads.Pre special-reads.Learnt
 special-allows κs a p = (_, (_, refl))
 
-pub fresh-decides : Decides 3 fresh-kinds.ps fresh-kinds.r fresh-reads.Pre fresh-reads.Learnt
-fresh-decides κs a z z′ ws ws′ p e e′ = (refl, ap (λ (w : DevicesLent). (w .numbers, (w .screen, (tt, tt)))) (e ∙ sym e′))
+pub fresh-decides : Decides 4 fresh-kinds.ps fresh-kinds.r fresh-reads.Pre fresh-reads.Learnt
+fresh-decides κs a z z′ ws ws′ p e e′ = (refl, ap (λ (w : DevicesLent). (w .numbers, (w .screen, (tt, (tt, tt))))) (e ∙ sym e′))
 
-pub fresh-allows : Allows 3 fresh-kinds.ps fresh-kinds.r fresh-reads.Pre fresh-reads.Learnt
+pub fresh-allows : Allows 4 fresh-kinds.ps fresh-kinds.r fresh-reads.Pre fresh-reads.Learnt
 fresh-allows κs a p = (_, (_, refl))
 
 pub console-of-decides : Decides 1 console-of-kinds.ps console-of-kinds.r console-of-reads.Pre console-of-reads.Learnt

@@ -17,6 +17,7 @@ use Rattle.console.specs.declared.state.Console.{Console}
 use Rattle.console.specs.Fit.{cursorFits, readingFits, keysFit, fitOf, FitGroup}
 use Rattle.layout.specs.InBytes.{ReadingInBytes}
 use Rattle.console.proofs.Keeps.{open-fit}
+use Rattle.cassette.proofs.Keeps as cassette-keeps
 use Rattle.devices.specs.declared.Owner.{Owner}
 use Rattle.devices.specs.declared.Owner.the-variants as owner
 use Rattle.devices.specs.Groups.{Groups, Part, getGroup, groupIn, ownActs}
@@ -25,14 +26,17 @@ use Rattle.devices.specs.Fit.{FitPart, FitGroups, GoesIn}
 pub fit-at : (o : Owner) (s : Groups) → FitGroups s → FitPart (groupIn o) (getGroup (groupIn o) s)
 fit-at (owner.Console h) s f = f .console
 fit-at owner.Printer s f = f .printer
+fit-at owner.Cassette s f = f .cassette
 
 pub opens-fit : (o : Owner) (asked : Asked) (x : Part (groupIn o)) → FitPart (groupIn o) x → FitPart (groupIn o) (ownActs o asked .opens x .leaves)
 opens-fit (owner.Console h) asked x f = open-fit x f h (asked .aux1) (asked .aux2)
 opens-fit owner.Printer asked x f = f
+opens-fit owner.Cassette asked x f = cassette-keeps.open-fit (asked .aux1) x f
 
 pub specials-fit : (o : Owner) (asked : Asked) (x : Part (groupIn o)) → FitPart (groupIn o) x → FitPart (groupIn o) (ownActs o asked .specials x .leaves)
 specials-fit (owner.Console h) asked x f = f
 specials-fit owner.Printer asked x f = f
+specials-fit owner.Cassette asked x f = f
 
 row-in : (mode row column : ℕ) → cursorFits mode row column ≡ true → row < 256
 unfolding cursorFits
@@ -71,3 +75,4 @@ module _ (c : Console) (e : fitOf c ≡ true) where
 pub goes-in : (o : Owner) (x : Part (groupIn o)) → FitPart (groupIn o) x → GoesIn (groupIn o) x
 goes-in (owner.Console h) x f = (console-row (x .console) (f .fit), console-reading (x .console) (f .fit))
 goes-in owner.Printer x f = tt
+goes-in owner.Cassette x f = f .pending

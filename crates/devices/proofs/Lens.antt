@@ -3,11 +3,11 @@
 -- Assumes nothing.
 use mathlib.Core.Path.{_≡_, _∙_, refl, sym, ap}
 use mathlib.Core.Bool.{Bool, true, false}
-use mathlib.Core.List.{List, [], _∷_, _++_}
+use mathlib.Core.List.{List, [], _++_, append-assoc, append-nil}
 use Prim.Native.Nat.{ℕ, _≤_, _<_}
 use native.Mathlib.Omega.{arith}
-use lib.ListN.{length, drop}
-use lib.Seq.{sets, drop-at}
+use lib.ListN.{length, drop, length-append}
+use lib.Seq.{sets}
 use Rattle.base.proofs.Parts.{sets-over}
 use Rattle.handler.specs.declared.Asked.{Asked}
 use Rattle.handler.specs.Acts.{Acts}
@@ -19,43 +19,89 @@ use Rattle.console.specs.Group.{ConsoleGroup, group}
 use Rattle.console.specs.Fit.{FitGroup}
 use Rattle.printer.specs.declared.Printer.{Printer}
 use Rattle.printer.specs.Printer.{PrinterGroup, printerGroup}
-use Rattle.layout.specs.Places.{consolePlace, consoleLength, printerPlace}
-use Rattle.layout.specs.Layout.{consoleBytes, printerBytes, consoleIn, printerIn}
-use Rattle.layout.proofs.Lengths.{console-length}
-use Rattle.layout.proofs.ReadWrite.{console-same, printer-same}
+use Rattle.cassette.specs.declared.Cassette.{Cassette}
+use Rattle.layout.specs.Places.{consolePlace, printerPlace, cassettePlace, pendingPlace, pendingLength}
+use Rattle.layout.specs.Stick.{Devices, devices}
+use Rattle.layout.specs.Layout.{consoleBytes, printerBytes, cassetteBytes, pendingBytes, devicesBytes, consoleIn, printerIn, cassetteIn, pendingIn}
+use Rattle.layout.specs.InBytes.{ReadingInBytes}
+use Rattle.layout.proofs.Lengths.{console-length, printer-length, cassette-length, pending-length}
+use Rattle.layout.proofs.ReadWrite.{console-in, printer-in, cassette-in, pending-in}
 use Rattle.devices.specs.declared.Group.{Group}
 use Rattle.devices.specs.declared.Group.the-variants as groups
 use Rattle.devices.specs.declared.Owner.{Owner}
 use Rattle.devices.specs.declared.Owner.the-variants as owner
 use Rattle.devices.specs.Groups.{Groups, Part, getGroup, putGroup, groupIn}
-use Rattle.devices.specs.Lent.{DevicesLent, devicesLent, printerWith, getLent, putLent, lentOf}
+use Rattle.devices.specs.Lent.{DevicesLent, devicesLent, printerWith, getLent, putLent, devicesOf, lentOf}
 use Rattle.devices.specs.Fit.{GoesIn}
 use Rattle.devices.proofs.Frame.{put-get, put-put}
 
-printers : (c : Console) (old new : Printer) → sets (consoleBytes c ++ printerBytes old) printerPlace (printerBytes new) ≡ consoleBytes c ++ printerBytes new
-unfolding consoleBytes printerBytes
-printers c old new = refl
+-- the devices' bytes with one device's stored in them
+module _ (d : Devices) where
+  abbrev c0 : List ℕ
+  c0 = consoleBytes (d .console)
+
+  abbrev u0 : List ℕ
+  u0 = printerBytes (d .printer)
+
+  abbrev t0 : List ℕ
+  t0 = cassetteBytes (d .cassette)
+
+  abbrev w0 : List ℕ
+  w0 = pendingBytes (d .pending)
+
+  consoles : (c : Console) → sets (devicesBytes d) consolePlace (consoleBytes c) ≡ devicesBytes (devices c (d .printer) (d .cassette) (d .pending))
+  unfolding devicesBytes
+  consoles c = sets-over [] c0 (consoleBytes c) (u0 ++ (t0 ++ w0)) 0 refl (console-length (d .console) ∙ sym (console-length c))
+
+  printers : (u : Printer) → sets (devicesBytes d) printerPlace (printerBytes u) ≡ devicesBytes (devices (d .console) u (d .cassette) (d .pending))
+  unfolding devicesBytes
+  printers u = sets-over c0 u0 (printerBytes u) (t0 ++ w0) printerPlace (console-length (d .console)) (printer-length (d .printer) ∙ sym (printer-length u))
+
+  two : (u : Cassette) (w : List ℕ) → length (t0 ++ w0) ≡ length (cassetteBytes u ++ pendingBytes w)
+  two u w = simp (length-append, cassette-length (d .cassette), pending-length (d .pending), cassette-length u, pending-length w)
+
+  cassettes : (u : Cassette) (w : List ℕ) → sets (devicesBytes d) cassettePlace (cassetteBytes u ++ pendingBytes w) ≡ devicesBytes (devices (d .console) (d .printer) u w)
+  unfolding devicesBytes
+  cassettes u w =
+      let new = cassetteBytes u ++ pendingBytes w in
+      let l : length (c0 ++ u0) ≡ cassettePlace = simp (length-append, console-length (d .console), printer-length (d .printer)) in
+      ap (λ (x : List ℕ). sets x cassettePlace new) (sym (append-assoc c0 u0 (t0 ++ w0)) ∙ ap (λ (x : List ℕ). (c0 ++ u0) ++ x) (sym (append-nil (t0 ++ w0))))
+      ∙ sets-over (c0 ++ u0) (t0 ++ w0) new [] cassettePlace l (two u w)
+      ∙ ap (λ (x : List ℕ). (c0 ++ u0) ++ x) (append-nil new) ∙ append-assoc c0 u0 new
 
 pub put-lent : (o : Owner) (y : Part (groupIn o)) (G : Groups) → putLent (groupIn o) (lentOf G) y ≡ lentOf (putGroup (groupIn o) G y)
 put-lent (owner.Console h) y G =
-    let old = consoleBytes (G .console .console) in
-    let new = consoleBytes (y .console) in
-    ap (λ (b : List ℕ). devicesLent b (y .screen) (G .printer .paper))
-    (sets-over [] old new (printerBytes (printerWith (G .printer .used))) 0 refl (console-length (G .console .console) ∙ sym (console-length (y .console))))
+    ap (λ (b : List ℕ). devicesLent b (y .screen) (G .printer .paper) (G .cassette .tape)) (consoles (devicesOf G) (y .console))
 put-lent owner.Printer y G =
-    ap (λ (b : List ℕ). devicesLent b (G .console .screen) (y .paper)) (printers (G .console .console) (printerWith (G .printer .used)) (printerWith (y .used)))
+    ap (λ (b : List ℕ). devicesLent b (G .console .screen) (y .paper) (G .cassette .tape)) (printers (devicesOf G) (printerWith (y .used)))
+put-lent owner.Cassette y G =
+    ap (λ (b : List ℕ). devicesLent b (G .console .screen) (G .printer .paper) (y .tape)) (cassettes (devicesOf G) (y .cassette) (y .pending))
+
+-- what is read of the devices' bytes, with nothing behind them
+module _ (d : Devices) where
+  end : devicesBytes d ++ [] ≡ devicesBytes d
+  end = append-nil (devicesBytes d)
+
+  pub own-console : d .console .row < 256 → ReadingInBytes (d .console .reading) → consoleIn (drop consolePlace (devicesBytes d)) ≡ d .console
+  own-console h k = ap (λ (b : List ℕ). consoleIn (drop consolePlace b)) (sym end) ∙ console-in d [] h k
+
+  pub own-printer : printerIn (drop printerPlace (devicesBytes d)) ≡ d .printer
+  own-printer = ap (λ (b : List ℕ). printerIn (drop printerPlace b)) (sym end) ∙ printer-in d []
+
+  own-cassette : cassetteIn (drop cassettePlace (devicesBytes d)) ≡ d .cassette
+  own-cassette = ap (λ (b : List ℕ). cassetteIn (drop cassettePlace b)) (sym end) ∙ cassette-in d []
+
+  own-pending : length (d .pending) ≡ pendingLength → pendingIn (drop pendingPlace (devicesBytes d)) ≡ d .pending
+  own-pending l = ap (λ (b : List ℕ). pendingIn (drop pendingPlace b)) (sym end) ∙ pending-in d [] l
 
 get-lent : (o : Owner) (y : Part (groupIn o)) (G : Groups) → GoesIn (groupIn o) y → getLent (groupIn o) (lentOf (putGroup (groupIn o) G y)) ≡ y
 get-lent (owner.Console h) y G k =
-    ap (λ (c : Console). group c (y .screen)) (console-same (y .console) (printerBytes (printerWith (G .printer .used))) (k .0) (k .1))
+    ap (λ (c : Console). group c (y .screen)) (own-console (devicesOf (putGroup groups.Console G y)) (k .0) (k .1))
 get-lent owner.Printer y G k =
-    let u = printerWith (y .used) in
-    ap (λ (p : Printer). printerGroup (p .used) (y .paper))
-    (ap printerIn (drop-at (consoleBytes (G .console .console)) (printerBytes u) printerPlace (console-length (G .console .console)) ∙ sym (nothing-more (printerBytes u))) ∙ printer-same u [])
-  where
-    nothing-more : (b : List ℕ) → b ++ [] ≡ b
-    nothing-more [] = refl
-    nothing-more (x ∷ b) = ap (λ (r : List ℕ). x ∷ r) (nothing-more b)
+    ap (λ (p : Printer). printerGroup (p .used) (y .paper)) (own-printer (devicesOf (putGroup groups.Printer G y)))
+get-lent owner.Cassette y G k =
+    let d = devicesOf (putGroup groups.Cassette G y) in
+    rw (own-cassette d, own-pending d k)
 
 -- of what is lent of these groups, and is read as them
 module _ (S : DevicesLent) (G : Groups) (is : S ≡ lentOf G) where

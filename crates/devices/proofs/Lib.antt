@@ -3,3 +3,4 @@ pub mod Arms
 pub mod Lens
 pub mod Keeps
 pub mod Decided
+pub mod Marks

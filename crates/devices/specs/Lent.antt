@@ -2,8 +2,8 @@
 -- put back into its own bytes and its own buffer.
 -- Assumes nothing.
 use mathlib.Core.Path.{_≡_}
-use mathlib.Core.List.{List, _++_}
-use Prim.Native.Nat.{ℕ, _≤_}
+use mathlib.Core.List.{List}
+use Prim.Native.Nat.{ℕ}
 use lib.ListN.{length, drop}
 use lib.Seq.{sets}
 use Rattle.handler.specs.declared.Asked.{Asked}
@@ -12,9 +12,13 @@ use Rattle.cells.specs.Cells.{Whole}
 use Rattle.blocks.specs.declared.Device.{Device}
 use Rattle.console.specs.Group as console
 use Rattle.printer.specs.declared.Printer.{Printer}
-use Rattle.printer.specs.Printer.{printerGroup, freshPrinter}
-use Rattle.layout.specs.Places.{consolePlace, printerPlace, devicesLength}
-use Rattle.layout.specs.Layout.{consoleBytes, printerBytes, consoleIn, printerIn}
+use Rattle.printer.specs.Printer.{printerGroup}
+use Rattle.records.specs.Records.{tapeLength}
+use Rattle.cassette.specs.Cassette.{cassetteGroup}
+use Rattle.layout.specs.Places.{consolePlace, printerPlace, devicesLength, Numbers}
+use Rattle.layout.specs.Stick.{Devices, devices, freshDevices}
+use Rattle.layout.specs.Layout.{consoleBytes, printerBytes, devicesBytes, consoleIn, printerIn}
+use Rattle.recorder.specs.Recorder.{TapeLent, getTape, putTape}
 use Rattle.devices.specs.declared.Group.{Group}
 use Rattle.devices.specs.declared.Group.the-variants as group
 use Rattle.devices.specs.Groups.{Groups, groups, Part, groupOf, deviceActs}
@@ -23,48 +27,54 @@ pub record DevicesLent : Type 0 where
   pub numbers : List ℕ
   pub screen : List ℕ
   pub paper : List ℕ
+  pub tape : List ℕ
 
-abbrev pub devicesLent : (numbers screen paper : List ℕ) → DevicesLent
-devicesLent numbers screen paper = record { numbers = numbers; screen = screen; paper = paper }
+abbrev pub devicesLent : (numbers screen paper tape : List ℕ) → DevicesLent
+devicesLent numbers screen paper tape = record { numbers = numbers; screen = screen; paper = paper; tape = tape }
 
 abbrev pub printerWith : ℕ → Printer
 printerWith used = record { used = used }
+
+-- what is lent, with another tape and the cassette's bytes
+abbrev pub withTape : DevicesLent → TapeLent → DevicesLent
+withTape s t = devicesLent (t .numbers) (s .screen) (s .paper) (t .tape)
 
 abbrev pub getLent : (g : Group) → DevicesLent → Part g
 getLent group.Nobody s = tt
 getLent group.Console s = console.group (consoleIn (drop consolePlace (s .numbers))) (s .screen)
 getLent group.Printer s = printerGroup (printerIn (drop printerPlace (s .numbers)) .used) (s .paper)
+getLent group.Cassette s = getTape (s .numbers) (s .tape)
 
 abbrev pub putLent : (g : Group) → DevicesLent → Part g → DevicesLent
 putLent group.Nobody s x = s
-putLent group.Console s x = devicesLent (sets (s .numbers) consolePlace (consoleBytes (x .console))) (x .screen) (s .paper)
-putLent group.Printer s x = devicesLent (sets (s .numbers) printerPlace (printerBytes (printerWith (x .used)))) (s .screen) (x .paper)
+putLent group.Console s x = devicesLent (sets (s .numbers) consolePlace (consoleBytes (x .console))) (x .screen) (s .paper) (s .tape)
+putLent group.Printer s x = devicesLent (sets (s .numbers) printerPlace (printerBytes (printerWith (x .used)))) (s .screen) (x .paper) (s .tape)
+putLent group.Cassette s x = withTape s (putTape (s .numbers) x)
 
 -- a device's handler over what is lent
 abbrev pub lentActs : Device → Asked → Acts DevicesLent
 lentActs device asked = through (getLent (groupOf device)) (putLent (groupOf device)) (deviceActs device asked)
 
--- the groups that the bytes and the buffers stand for, and what is lent of them
-abbrev pub groupsIn : DevicesLent → Groups
-groupsIn s = groups (getLent group.Console s) (getLent group.Printer s)
+-- the groups that numbers and buffers make, and what is lent of them
+abbrev pub groupsOf : Devices → (screen paper tape : List ℕ) → Groups
+groupsOf d screen paper tape = groups (console.group (d .console) screen) (printerGroup (d .printer .used) paper) (cassetteGroup (d .cassette) (d .pending) tape)
+
+abbrev pub devicesOf : Groups → Devices
+devicesOf g = devices (g .console .console) (printerWith (g .printer .used)) (g .cassette .cassette) (g .cassette .pending)
 
 abbrev pub lentOf : Groups → DevicesLent
-lentOf g =
-    devicesLent (consoleBytes (g .console .console) ++ printerBytes (printerWith (g .printer .used))) (g .console .screen) (g .printer .paper)
+lentOf g = devicesLent (devicesBytes (devicesOf g)) (g .console .screen) (g .printer .paper) (g .cassette .tape)
 
 -- "Fresh: .. paper used 0 (its bytes as lent), screen as after opening E with cells past 960 zero, no key, shift lock, inverse off, last
--- character 0"
-abbrev pub freshGroups : (paper : List ℕ) → Groups
-freshGroups paper = groups console.freshGroup (printerGroup (freshPrinter .used) paper)
+-- character 0"; the tape's bytes as lent
+abbrev pub freshGroups : (paper tape : List ℕ) → Groups
+freshGroups paper tape = groupsOf freshDevices (console.freshGroup .screen) paper tape
 
--- a list that has all the numbers
-pub record Numbers (numbers : List ℕ) : Type 0 where
-  pub long : devicesLength ≤ length numbers
-
--- what an act is lent: all the numbers, and the whole screen
-pub record Lends (numbers screen : List ℕ) : Type 0 where
+-- what an act is lent: all the numbers, and the whole screen and tape
+pub record Lends (numbers screen tape : List ℕ) : Type 0 where
   pub all : Numbers numbers
   pub whole : Whole screen
+  pub reel : length tape ≡ tapeLength
 
 -- what a fresh start is lent: the numbers and nothing else, and the whole screen
 pub record Freshens (numbers screen : List ℕ) : Type 0 where

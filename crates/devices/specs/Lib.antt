@@ -1,3 +1,4 @@
 pub mod Groups
 pub mod Lent
 pub mod Fit
+pub mod Marks

@@ -1,14 +1,14 @@
 // The devices as a fresh start leaves them.
 use crate::numbers;
-use printer::Printer;
 ghost use mathlib.Core.Path.{_≡_};
 ghost use Rattle.devices.specs.Lent.{Freshens, devicesLent, freshGroups, lentOf};
 
-pub fn fresh(numbers: &mut [u8], screen: &mut [u8], paper: &[u8])
+// Every number of a fresh printer and of a fresh cassette is 0, and no character is pending.
+pub fn fresh(numbers: &mut [u8], screen: &mut [u8], paper: &[u8], tape: &[u8])
     requires { ⌜ Freshens (now numbers) (now screen) ⌝ }
-    ensures { λ _. ⌜ devicesLent (now (numbers .exit)) (now (screen .exit)) (now (paper .entry)) ≡ lentOf (freshGroups (now (paper .entry))) ⌝ }
+    ensures { λ _. ⌜ devicesLent (now (numbers .exit)) (now (screen .exit)) (now (paper .entry)) (now (tape .entry)) ≡ lentOf (freshGroups (now (paper .entry)) (now (tape .entry))) ⌝ }
 {
+    cells::part::paint(numbers, 0);
     let console = acts::fresh(screen);
     numbers::set_console(numbers, console);
-    numbers::set_printer(numbers, Printer::fresh());
 }

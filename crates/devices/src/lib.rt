@@ -1,6 +1,6 @@
 // The devices: the one crate that calls a handler. Each act of a handler is one function with one match; an arm reads and
-// writes its own group's numbers, which are a part of the lent state, and is lent its own group's buffer alone. What an act does
-// not change is written back as it was read, so that one law serves every arm.
+// writes its own group's numbers, which are a part of the lent state, and is lent its own group's buffer alone. An arm of the console
+// that changes nothing writes back what it read.
 pub mod fresh;
 pub mod numbers;
 
@@ -20,12 +20,14 @@ pub enum Group {
     Nobody,
     Console,
     Printer,
+    Cassette,
 }
 
 // A device's group, and its handler there.
 pub enum Owner {
     Console(Handler),
     Printer,
+    Cassette,
 }
 
 pub fn owner_of(device: Device) -> Owner
@@ -36,6 +38,7 @@ pub fn owner_of(device: Device) -> Owner
         Device::S => Owner::Console(Handler::S),
         Device::K => Owner::Console(Handler::K),
         Device::P => Owner::Printer,
+        Device::C => Owner::Cassette,
     }
 }
 
@@ -47,6 +50,7 @@ pub fn group_of(device: Device) -> Group
         Device::S => Group::Console,
         Device::K => Group::Console,
         Device::P => Group::Printer,
+        Device::C => Group::Cassette,
     }
 }
 
@@ -72,6 +76,7 @@ fn group_number(group: Group) -> u8
         Group::Nobody => 0,
         Group::Console => 1,
         Group::Printer => 2,
+        Group::Cassette => 3,
     }
 }
 
@@ -93,9 +98,10 @@ pub fn open(
     numbers: &mut [u8],
     screen: &mut [u8],
     paper: &mut [u8],
+    tape: &mut [u8],
 ) -> Done
-    requires { ⌜ Lends (now numbers) (now screen) ⌝ }
-    ensures { λ r. ⌜ answer r (devicesLent (now (numbers .exit)) (now (screen .exit)) (now (paper .exit))) ≡ lentActs device asked .opens (devicesLent (now (numbers .entry)) (now (screen .entry)) (now (paper .entry))) ⌝ }
+    requires { ⌜ Lends (now numbers) (now screen) (now tape) ⌝ }
+    ensures { λ r. ⌜ answer r (devicesLent (now (numbers .exit)) (now (screen .exit)) (now (paper .exit)) (now (tape .exit))) ≡ lentActs device asked .opens (devicesLent (now (numbers .entry)) (now (screen .entry)) (now (paper .entry)) (now (tape .entry))) ⌝ }
 {
     let owner = owner_of(device);
     match owner {
@@ -107,18 +113,22 @@ pub fn open(
             numbers::set_console(numbers, next);
             done
         }
-        Owner::Printer => {
-            let printer = numbers::printer_of(numbers);
-            numbers::set_printer(numbers, printer);
-            Done::Success
-        }
+        Owner::Printer => Done::Success,
+        Owner::Cassette => recorder::open(numbers, tape, asked.aux1),
     }
 }
 
 // CLOSE.
-pub fn close(device: Device, asked: Asked, numbers: &mut [u8], screen: &mut [u8], paper: &mut [u8])
-    requires { ⌜ Lends (now numbers) (now screen) ⌝ }
-    ensures { λ _. ⌜ devicesLent (now (numbers .exit)) (now (screen .exit)) (now (paper .exit)) ≡ lentActs device asked .closes (devicesLent (now (numbers .entry)) (now (screen .entry)) (now (paper .entry))) ⌝ }
+pub fn close(
+    device: Device,
+    asked: Asked,
+    numbers: &mut [u8],
+    screen: &mut [u8],
+    paper: &mut [u8],
+    tape: &mut [u8],
+)
+    requires { ⌜ Lends (now numbers) (now screen) (now tape) ⌝ }
+    ensures { λ _. ⌜ devicesLent (now (numbers .exit)) (now (screen .exit)) (now (paper .exit)) (now (tape .exit)) ≡ lentActs device asked .closes (devicesLent (now (numbers .entry)) (now (screen .entry)) (now (paper .entry)) (now (tape .entry))) ⌝ }
 {
     let owner = owner_of(device);
     match owner {
@@ -126,10 +136,8 @@ pub fn close(device: Device, asked: Asked, numbers: &mut [u8], screen: &mut [u8]
             let console = numbers::console_of(numbers);
             numbers::set_console(numbers, console);
         }
-        Owner::Printer => {
-            let printer = numbers::printer_of(numbers);
-            numbers::set_printer(numbers, printer);
-        }
+        Owner::Printer => {}
+        Owner::Cassette => recorder::close(numbers, tape),
     }
 }
 
@@ -140,9 +148,10 @@ pub fn prepare(
     numbers: &mut [u8],
     screen: &mut [u8],
     paper: &mut [u8],
+    tape: &mut [u8],
 ) -> Done
-    requires { ⌜ Lends (now numbers) (now screen) ⌝ }
-    ensures { λ r. ⌜ answer r (devicesLent (now (numbers .exit)) (now (screen .exit)) (now (paper .exit))) ≡ lentActs device asked .prepares (devicesLent (now (numbers .entry)) (now (screen .entry)) (now (paper .entry))) ⌝ }
+    requires { ⌜ Lends (now numbers) (now screen) (now tape) ⌝ }
+    ensures { λ r. ⌜ answer r (devicesLent (now (numbers .exit)) (now (screen .exit)) (now (paper .exit)) (now (tape .exit))) ≡ lentActs device asked .prepares (devicesLent (now (numbers .entry)) (now (screen .entry)) (now (paper .entry)) (now (tape .entry))) ⌝ }
 {
     let owner = owner_of(device);
     match owner {
@@ -154,11 +163,8 @@ pub fn prepare(
             numbers::set_console(numbers, next);
             done
         }
-        Owner::Printer => {
-            let printer = numbers::printer_of(numbers);
-            numbers::set_printer(numbers, printer);
-            Done::Success
-        }
+        Owner::Printer => Done::Success,
+        Owner::Cassette => Done::Success,
     }
 }
 
@@ -169,9 +175,10 @@ pub fn read(
     numbers: &mut [u8],
     screen: &mut [u8],
     paper: &mut [u8],
+    tape: &mut [u8],
 ) -> Got
-    requires { ⌜ Lends (now numbers) (now screen) ⌝ }
-    ensures { λ r. ⌜ answer r (devicesLent (now (numbers .exit)) (now (screen .exit)) (now (paper .exit))) ≡ lentActs device asked .reads (devicesLent (now (numbers .entry)) (now (screen .entry)) (now (paper .entry))) ⌝ }
+    requires { ⌜ Lends (now numbers) (now screen) (now tape) ⌝ }
+    ensures { λ r. ⌜ answer r (devicesLent (now (numbers .exit)) (now (screen .exit)) (now (paper .exit)) (now (tape .exit))) ≡ lentActs device asked .reads (devicesLent (now (numbers .entry)) (now (screen .entry)) (now (paper .entry)) (now (tape .entry))) ⌝ }
 {
     let owner = owner_of(device);
     match owner {
@@ -183,11 +190,8 @@ pub fn read(
             numbers::set_console(numbers, next);
             got
         }
-        Owner::Printer => {
-            let printer = numbers::printer_of(numbers);
-            numbers::set_printer(numbers, printer);
-            Got::Refused(0x83)
-        }
+        Owner::Printer => Got::Refused(0x83),
+        Owner::Cassette => recorder::read(numbers, tape),
     }
 }
 
@@ -199,9 +203,10 @@ pub fn write(
     numbers: &mut [u8],
     screen: &mut [u8],
     paper: &mut [u8],
+    tape: &mut [u8],
 ) -> Done
-    requires { ⌜ Lends (now numbers) (now screen) ⌝ }
-    ensures { λ r. ⌜ answer r (devicesLent (now (numbers .exit)) (now (screen .exit)) (now (paper .exit))) ≡ lentActs device asked .writes byte (devicesLent (now (numbers .entry)) (now (screen .entry)) (now (paper .entry))) ⌝ }
+    requires { ⌜ Lends (now numbers) (now screen) (now tape) ⌝ }
+    ensures { λ r. ⌜ answer r (devicesLent (now (numbers .exit)) (now (screen .exit)) (now (paper .exit)) (now (tape .exit))) ≡ lentActs device asked .writes byte (devicesLent (now (numbers .entry)) (now (screen .entry)) (now (paper .entry)) (now (tape .entry))) ⌝ }
 {
     let owner = owner_of(device);
     match owner {
@@ -221,17 +226,26 @@ pub fn write(
             numbers::set_printer(numbers, next);
             done
         }
+        Owner::Cassette => recorder::write(numbers, tape, byte),
     }
 }
 
 // GET STATUS.
-pub fn status(device: Device, asked: Asked, numbers: &[u8], screen: &[u8], paper: &[u8]) -> Done
-    ensures { λ r. ⌜ r ≡ lentActs device asked .statuses (devicesLent (now (numbers .entry)) (now (screen .entry)) (now (paper .entry))) ⌝ }
+pub fn status(
+    device: Device,
+    asked: Asked,
+    numbers: &[u8],
+    screen: &[u8],
+    paper: &[u8],
+    tape: &[u8],
+) -> Done
+    ensures { λ r. ⌜ r ≡ lentActs device asked .statuses (devicesLent (now (numbers .entry)) (now (screen .entry)) (now (paper .entry)) (now (tape .entry))) ⌝ }
 {
     let owner = owner_of(device);
     match owner {
         Owner::Console(handler) => Done::Success,
         Owner::Printer => Done::Success,
+        Owner::Cassette => Done::Success,
     }
 }
 
@@ -242,9 +256,10 @@ pub fn special(
     numbers: &mut [u8],
     screen: &mut [u8],
     paper: &mut [u8],
+    tape: &mut [u8],
 ) -> Done
-    requires { ⌜ Lends (now numbers) (now screen) ⌝ }
-    ensures { λ r. ⌜ answer r (devicesLent (now (numbers .exit)) (now (screen .exit)) (now (paper .exit))) ≡ lentActs device asked .specials (devicesLent (now (numbers .entry)) (now (screen .entry)) (now (paper .entry))) ⌝ }
+    requires { ⌜ Lends (now numbers) (now screen) (now tape) ⌝ }
+    ensures { λ r. ⌜ answer r (devicesLent (now (numbers .exit)) (now (screen .exit)) (now (paper .exit)) (now (tape .exit))) ≡ lentActs device asked .specials (devicesLent (now (numbers .entry)) (now (screen .entry)) (now (paper .entry)) (now (tape .entry))) ⌝ }
 {
     let owner = owner_of(device);
     match owner {
@@ -253,10 +268,7 @@ pub fn special(
             numbers::set_console(numbers, console);
             Done::Refused(0x84)
         }
-        Owner::Printer => {
-            let printer = numbers::printer_of(numbers);
-            numbers::set_printer(numbers, printer);
-            Done::Refused(0x84)
-        }
+        Owner::Printer => Done::Refused(0x84),
+        Owner::Cassette => Done::Refused(0x84),
     }
 }

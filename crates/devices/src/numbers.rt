@@ -6,9 +6,8 @@ use printer::Printer;
 ghost use mathlib.Core.Path.{_≡_};
 ghost use lib.ListN.{drop};
 ghost use lib.Seq.{sets};
-ghost use Rattle.layout.specs.Places.{consolePlace, printerPlace};
+ghost use Rattle.layout.specs.Places.{consolePlace, printerPlace, Numbers};
 ghost use Rattle.layout.specs.Layout.{consoleBytes, printerBytes, consoleIn, printerIn};
-ghost use Rattle.devices.specs.Lent.{Numbers};
 
 pub fn console_of(numbers: &[u8]) -> Console
     requires { ⌜ Numbers (now numbers) ⌝ }

@@ -5,13 +5,15 @@ use layout::places::AREA;
 use layout::places::STATE;
 ghost use mathlib.Core.Path.{_≡_};
 ghost use Rattle.keys.specs.Translation.{translateOf};
-ghost use Rattle.calls.specs.Bytes.{buffers, fourFit, bytesRefusal, freshBytes, takeBytes, tickBytes, giveBytes, pressBytes};
+ghost use Rattle.calls.specs.Bytes.{buffers, fiveFit, bytesRefusal, freshBytes, takeBytes, tickBytes, giveBytes, pressBytes};
 ghost use Rattle.calls.specs.Returned.{returned, answerOf, bothOf};
 
-// The cells of the lent screen, and the bytes of the lent paper.
+// The cells of the lent screen, and the bytes of the lent paper and of the lent tape.
 pub const SCREEN: usize = 61440;
 
 pub const PAPER: usize = printer::PAPER as usize;
+
+pub const TAPE: usize = cassette::TAPE;
 
 // uint16_t fixlomand_translate(uint8_t code, uint8_t lock, uint8_t inverse)
 #[no_mangle]
@@ -21,14 +23,14 @@ pub extern "C" fn fixlomand_translate(code: u8, lock: u8, inverse: u8) -> u16
     keys::translate(code, lock, inverse)
 }
 
-fn lengths_fit(state: usize, area: usize, screen: usize, paper: usize) -> bool
-    ensures { λ r. ⌜ r ≡ fourFit state area screen paper ⌝ }
+fn lengths_fit(state: usize, area: usize, screen: usize, paper: usize, tape: usize) -> bool
+    ensures { λ r. ⌜ r ≡ fiveFit state area screen paper tape ⌝ }
 {
     if state == STATE {
         if area == 2 * AREA {
             if screen == SCREEN {
                 if paper == PAPER {
-                    return true;
+                    return tape == TAPE;
                 }
                 return false;
             }
@@ -40,11 +42,17 @@ fn lengths_fit(state: usize, area: usize, screen: usize, paper: usize) -> bool
 }
 
 // 2, 3 or 1, in this order, or 0.
-fn guard(state: &[u8], area: &[u8], screen: &[u8], paper: &[u8], port: u8) -> u8
-    ensures { λ r. ⌜ r ≡ bytesRefusal (buffers (now (state .entry)) (now (area .entry)) (now (screen .entry)) (now (paper .entry))) port ⌝ }
+fn guard(state: &[u8], area: &[u8], screen: &[u8], paper: &[u8], tape: &[u8], port: u8) -> u8
+    ensures { λ r. ⌜ r ≡ bytesRefusal (buffers (now (state .entry)) (now (area .entry)) (now (screen .entry)) (now (paper .entry)) (now (tape .entry))) port ⌝ }
 {
-    if lengths_fit(state.len(), area.len(), screen.len(), paper.len()) {
-        if judge::undamaged(&state[..], &area[..], &screen[..], &paper[..]) {
+    if lengths_fit(
+        state.len(),
+        area.len(),
+        screen.len(),
+        paper.len(),
+        tape.len(),
+    ) {
+        if judge::undamaged(&state[..], &area[..], &screen[..], &paper[..], &tape[..]) {
             if port < 2 {
                 return 0;
             }
@@ -55,7 +63,7 @@ fn guard(state: &[u8], area: &[u8], screen: &[u8], paper: &[u8], port: u8) -> u8
     2
 }
 
-// uint8_t fixlomand_fresh(state, area, screen, paper), each a pointer and a length; the same eight in each call
+// uint8_t fixlomand_fresh(state, area, screen, paper, tape), each a pointer and a length; the same ten in each call
 // Everything as it is when the stick is plugged in, whatever the state held.
 #[no_mangle]
 pub extern "C" fn fixlomand_fresh(
@@ -63,11 +71,18 @@ pub extern "C" fn fixlomand_fresh(
     area: &mut [u8],
     screen: &mut [u8],
     paper: &mut [u8],
+    tape: &mut [u8],
 ) -> u8
-    ensures { λ r. ⌜ returned r (buffers (now (state .exit)) (now (area .exit)) (now (screen .exit)) (now (paper .exit))) ≡ answerOf (freshBytes (buffers (now (state .entry)) (now (area .entry)) (now (screen .entry)) (now (paper .entry)))) ⌝ }
+    ensures { λ r. ⌜ returned r (buffers (now (state .exit)) (now (area .exit)) (now (screen .exit)) (now (paper .exit)) (now (tape .exit))) ≡ answerOf (freshBytes (buffers (now (state .entry)) (now (area .entry)) (now (screen .entry)) (now (paper .entry)) (now (tape .entry)))) ⌝ }
 {
-    if lengths_fit(state.len(), area.len(), screen.len(), paper.len()) {
-        stick::started::fresh_all(state, area, screen, paper);
+    if lengths_fit(
+        state.len(),
+        area.len(),
+        screen.len(),
+        paper.len(),
+        tape.len(),
+    ) {
+        stick::started::fresh_all(state, area, screen, paper, tape);
         return 0;
     }
     2
@@ -81,14 +96,15 @@ pub extern "C" fn fixlomand_take(
     area: &mut [u8],
     screen: &mut [u8],
     paper: &mut [u8],
+    tape: &mut [u8],
     port: u8,
     byte: u8,
 ) -> u8
-    ensures { λ r. ⌜ returned r (buffers (now (state .exit)) (now (area .exit)) (now (screen .exit)) (now (paper .exit))) ≡ answerOf (takeBytes (buffers (now (state .entry)) (now (area .entry)) (now (screen .entry)) (now (paper .entry))) port byte) ⌝ }
+    ensures { λ r. ⌜ returned r (buffers (now (state .exit)) (now (area .exit)) (now (screen .exit)) (now (paper .exit)) (now (tape .exit))) ≡ answerOf (takeBytes (buffers (now (state .entry)) (now (area .entry)) (now (screen .entry)) (now (paper .entry)) (now (tape .entry))) port byte) ⌝ }
 {
-    let refused = guard(state, area, screen, paper, port);
+    let refused = guard(state, area, screen, paper, tape, port);
     if refused == 0 {
-        return stick::served::take_at(port, byte, state, area, screen, paper);
+        return stick::served::take_at(port, byte, state, area, screen, paper, tape);
     }
     refused
 }
@@ -101,13 +117,14 @@ pub extern "C" fn fixlomand_tick(
     area: &mut [u8],
     screen: &mut [u8],
     paper: &mut [u8],
+    tape: &mut [u8],
     port: u8,
 ) -> u8
-    ensures { λ r. ⌜ returned r (buffers (now (state .exit)) (now (area .exit)) (now (screen .exit)) (now (paper .exit))) ≡ answerOf (tickBytes (buffers (now (state .entry)) (now (area .entry)) (now (screen .entry)) (now (paper .entry))) port) ⌝ }
+    ensures { λ r. ⌜ returned r (buffers (now (state .exit)) (now (area .exit)) (now (screen .exit)) (now (paper .exit)) (now (tape .exit))) ≡ answerOf (tickBytes (buffers (now (state .entry)) (now (area .entry)) (now (screen .entry)) (now (paper .entry)) (now (tape .entry))) port) ⌝ }
 {
-    let refused = guard(state, area, screen, paper, port);
+    let refused = guard(state, area, screen, paper, tape, port);
     if refused == 0 {
-        return ticks::tick_at(port, state, area, screen, paper);
+        return ticks::tick_at(port, state, area, screen, paper, tape);
     }
     refused
 }
@@ -120,13 +137,14 @@ pub extern "C" fn fixlomand_give(
     area: &mut [u8],
     screen: &mut [u8],
     paper: &mut [u8],
+    tape: &mut [u8],
     port: u8,
 ) -> u16
-    ensures { λ r. ⌜ returned r (buffers (now (state .exit)) (now (area .exit)) (now (screen .exit)) (now (paper .exit))) ≡ bothOf (giveBytes (buffers (now (state .entry)) (now (area .entry)) (now (screen .entry)) (now (paper .entry))) port) ⌝ }
+    ensures { λ r. ⌜ returned r (buffers (now (state .exit)) (now (area .exit)) (now (screen .exit)) (now (paper .exit)) (now (tape .exit))) ≡ bothOf (giveBytes (buffers (now (state .entry)) (now (area .entry)) (now (screen .entry)) (now (paper .entry)) (now (tape .entry))) port) ⌝ }
 {
-    let refused = guard(state, area, screen, paper, port);
+    let refused = guard(state, area, screen, paper, tape, port);
     if refused == 0 {
-        return stick::served::give_at(port, state, area, screen, paper);
+        return stick::served::give_at(port, state, area, screen, paper, tape);
     }
     refused as u16
 }
@@ -139,13 +157,14 @@ pub extern "C" fn fixlomand_press(
     area: &mut [u8],
     screen: &mut [u8],
     paper: &mut [u8],
+    tape: &mut [u8],
     code: u8,
 ) -> u8
-    ensures { λ r. ⌜ returned r (buffers (now (state .exit)) (now (area .exit)) (now (screen .exit)) (now (paper .exit))) ≡ answerOf (pressBytes (buffers (now (state .entry)) (now (area .entry)) (now (screen .entry)) (now (paper .entry))) code) ⌝ }
+    ensures { λ r. ⌜ returned r (buffers (now (state .exit)) (now (area .exit)) (now (screen .exit)) (now (paper .exit)) (now (tape .exit))) ≡ answerOf (pressBytes (buffers (now (state .entry)) (now (area .entry)) (now (screen .entry)) (now (paper .entry)) (now (tape .entry))) code) ⌝ }
 {
-    let refused = guard(state, area, screen, paper, 0);
+    let refused = guard(state, area, screen, paper, tape, 0);
     if refused == 0 {
-        return stick::served::press_at(code, state, area, screen, paper);
+        return stick::served::press_at(code, state, area, screen, paper, tape);
     }
     refused
 }

@@ -5,22 +5,25 @@ use mathlib.Core.Bool.{Bool, true, false, not}
 use mathlib.Core.List.{List}
 use Prim.Native.Nat.{ℕ, zero, suc, _+_, _-_, _*_, _≤_, _<_}
 use native.Mathlib.Omega.{arith}
-use borrow.Author.Tests.{eq-eqb, ne-eqb, le-leb, lt-leb}
-use lib.Dec.{leb, ltb}
+use borrow.Author.Tests.{eq-eqb, ne-eqb, lt-ltb, le-ltb, le-leb, lt-leb}
+use lib.Dec.{eqb, leb, ltb}
 use lib.ListN.{length, take, drop}
-use Rattle.base.specs.Choice.{and}
+use Rattle.base.specs.Choice.{pick, and}
 use Rattle.base.proofs.Tests.{tests}
 use Rattle.base.proofs.Lists.{part-tail}
 use Rattle.cells.specs.declared.Shape.{Shape}
 use Rattle.cells.specs.Modes.{shapeOf}
 use Rattle.printer.specs.Printer.{paperLength}
+use Rattle.cassette.specs.declared.Cassette.{Cassette}
+use Rattle.cassette.specs.Cassette.{markOf}
+use Rattle.cassette.specs.Fit.{fitsCassette}
 use Rattle.wire.specs.Messages.{wordOf, wordAt}
 use Rattle.wire.specs.Fits.{gatherFits, replyFits}
-use Rattle.layout.specs.Places.{blockLength, portLength, portPlace, devicesPlace, consolePlace, printerPlace}
-use Rattle.layout.specs.Layout.{byteAt, gatherIn, replyIn, stickIn, lentIn}
+use Rattle.layout.specs.Places.{phaseLength, blockLength, portLength, portPlace, devicesPlace, consolePlace, printerPlace, cassettePlace}
+use Rattle.layout.specs.Layout.{byteAt, gatherIn, replyIn, cassetteIn, stickIn, lentIn}
 use Rattle.layout.specs.Stands.{unused, stands}
 use Rattle.damage.specs.Fits.{stickFits}
-use Rattle.damage.specs.Whole.{twoWhole, allFrom, tableWhole, portAtWhole, gatherWhole, replyWhole, spanWhole, portWhole, textWhole, pictureWhole, cursorWhole, consoleWhole, devicesWhole, onConsole, apartGroups, apartWhole, headWhole}
+use Rattle.damage.specs.Whole.{markWhole, twoWhole, allFrom, tableWhole, portAtWhole, gatherWhole, replyWhole, spanWhole, portWhole, textWhole, pictureWhole, cursorWhole, consoleWhole, devicesWhole, tapesFrom, tapesWhole, groupWhole, apartGroups, apartWhole, headWhole}
 use Rattle.damage.proofs.Heads.{head-is}
 
 module _ (a b t : Bool) (e : t ≡ a) where
@@ -52,30 +55,30 @@ module _ (test : ℕ → Bool) (step place : ℕ) where
     turn-last h = let none : left ≡ 0 = omega arith in e ∙ rw none
 
 -- of a port's table, and of the ports
-module _ (b : List ℕ) (place left : ℕ) where
-  abbrev pub TableFrom : Type 0
-  TableFrom = tableWhole b ≡ allFrom (twoWhole b) (2 * blockLength) place left
+abbrev pub TableFrom : (mark : ℕ) → List ℕ → (place left : ℕ) → Type 0
+TableFrom mark b place left = tableWhole mark b ≡ allFrom (twoWhole mark b) (2 * blockLength) place left
 
+module _ (b : List ℕ) (place left : ℕ) where
   abbrev pub PortsFrom : Type 0
   PortsFrom = allFrom (portAtWhole b) portLength (portPlace 0) 2 ≡ allFrom (portAtWhole b) portLength place left
 
-pub table-last : (b : List ℕ) (place left : ℕ) → TableFrom b place left → left ≤ 0 → true ≡ tableWhole b
-table-last b place left e h = sym (turn-last (twoWhole b) (2 * blockLength) place left (tableWhole b) e h)
+pub table-last : (mark : ℕ) (b : List ℕ) (place left : ℕ) → TableFrom mark b place left → left ≤ 0 → true ≡ tableWhole mark b
+table-last mark b place left e h = sym (turn-last (twoWhole mark b) (2 * blockLength) place left (tableWhole mark b) e h)
+
+module _ (mark : ℕ) (b : List ℕ) (place left : ℕ) (r : Bool) (e : TableFrom mark b place left) where
+  pub table-yes : r ≡ twoWhole mark b place → 0 < left → r ≡ true → TableFrom mark b (place + 2 * blockLength) (left - 1)
+  table-yes = turn-yes (twoWhole mark b) (2 * blockLength) place left (tableWhole mark b) e r
+
+  pub table-no : r ≡ twoWhole mark b place → 0 < left → r ≡ false → false ≡ tableWhole mark b
+  table-no = turn-no (twoWhole mark b) (2 * blockLength) place left (tableWhole mark b) e r
 
 module _ (b : List ℕ) (place left : ℕ) (r : Bool) where
-  module _ (e : TableFrom b place left) where
-    pub table-yes : r ≡ twoWhole b place → 0 < left → r ≡ true → TableFrom b (place + 2 * blockLength) (left - 1)
-    table-yes = turn-yes (twoWhole b) (2 * blockLength) place left (tableWhole b) e r
-
-    pub table-no : r ≡ twoWhole b place → 0 < left → r ≡ false → false ≡ tableWhole b
-    table-no = turn-no (twoWhole b) (2 * blockLength) place left (tableWhole b) e r
-
   module _ (e : PortsFrom b place left) where
     abbrev ports : Bool
     ports = allFrom (portAtWhole b) portLength (portPlace 0) 2
 
     abbrev behind-ports : Bool
-    behind-ports = and (devicesWhole (drop devicesPlace b)) (apartWhole b)
+    behind-ports = and (devicesWhole (drop devicesPlace b)) (and (tapesWhole b) (apartWhole b))
 
     pub ports-yes : r ≡ portAtWhole b place → 0 < left → r ≡ true → PortsFrom b (place + portLength) (left - 1)
     ports-yes = turn-yes (portAtWhole b) portLength place left ports e r
@@ -124,18 +127,42 @@ module _ (mode row column : ℕ) (l : 3 ≤ mode) (h : mode ≤ 8) (s : Shape) (
   unfolding pictureWhole
   picture-past z = rw (le-leb 3 mode l, le-leb mode 8 h, ← e, lt-leb row (s .rows) z)
 
-module _ (one other : ℕ) (t u : Bool) (e : t ≡ onConsole one) (f : u ≡ onConsole other) where
-  pub groups-console : t ≡ true → not u ≡ apartGroups one other
-  unfolding apartGroups
-  groups-console z = rw (← e, ← f, z)
+pub mark-told : (mark device aux1 n : ℕ) → 5 ≤ device → n ≡ markOf aux1 → eqb n mark ≡ markWhole mark device aux1
+unfolding markWhole
+mark-told mark device aux1 n h e = rw (e, le-ltb device 5 h)
 
-  pub groups-paper : t ≡ false → u ≡ apartGroups one other
-  unfolding apartGroups
-  groups-paper z = rw (← e, ← f, z)
+pub groups-told : (one other n m : ℕ) → n ≡ groupWhole one → m ≡ groupWhole other → not (eqb n m) ≡ apartGroups one other
+unfolding apartGroups
+groups-told one other n m e f = rw (e, f)
+
+-- a turn over the blocks of a table: those that have C open are counted
+module _ (b : List ℕ) (goal at left tapes : ℕ) (e : tapes + tapesFrom b at left ≡ goal) where
+  pub tapes-on : (n : ℕ) → 0 < left → n ≡ pick (ltb (byteAt b at) 5) 0 1 → tapes + n + tapesFrom b (at + blockLength) (left - 1) ≡ goal
+  unfolding tapesFrom
+  tapes-on n h q =
+      let z : left ≡ suc (left - 1) = omega arith in
+      let k : tapesFrom b at left ≡ n + tapesFrom b (at + blockLength) (left - 1) = ap (tapesFrom b at) z ∙ rw q in
+      omega (arith, k)
+
+  pub tapes-all : left ≤ 0 → tapes ≡ goal
+  unfolding tapesFrom
+  tapes-all h = let z : left ≡ 0 = omega arith in omega (arith, ap (tapesFrom b at) z)
+
+abbrev markPlace : ℕ
+markPlace = devicesPlace + cassettePlace
+
+module _ (b : List ℕ) where
+  pub tapes-none : byteAt b markPlace ≡ 0 → true ≡ tapesWhole b
+  unfolding tapesWhole
+  tapes-none e = rw (eq-eqb (byteAt b markPlace) 0 e)
+
+  pub tapes-some : (n m : ℕ) → (byteAt b markPlace ≡ 0 → ⊥) → n ≡ tapesFrom b phaseLength 8 → m ≡ tapesFrom b (portLength + phaseLength) 8 → eqb (n + m) 1 ≡ tapesWhole b
+  unfolding tapesWhole
+  tapes-some n m e p q = rw (ne-eqb (byteAt b markPlace) 0 e, p, q)
 
 -- a part of the bytes
-pub port-there : (b : List ℕ) (place mode : ℕ) (r : Bool) → r ≡ portWhole (take (length b - place) (drop place b)) mode → r ≡ portWhole (drop place b) mode
-port-there b place mode r e = e ∙ ap (λ (x : List ℕ). portWhole x mode) (part-tail place b)
+pub port-there : (b : List ℕ) (place mode mark : ℕ) (r : Bool) → r ≡ portWhole (take (length b - place) (drop place b)) mode mark → r ≡ portWhole (drop place b) mode mark
+port-there b place mode mark r e = e ∙ ap (λ (x : List ℕ). portWhole x mode mark) (part-tail place b)
 
 module _ (b : List ℕ) (t : Bool) (e : t ≡ consoleWhole (take (length b - consolePlace) (drop consolePlace b))) where
   there : t ≡ consoleWhole (drop consolePlace b)
@@ -143,22 +170,32 @@ module _ (b : List ℕ) (t : Bool) (e : t ≡ consoleWhole (take (length b - con
 
   pub numbers-console : t ≡ false → false ≡ devicesWhole b
   unfolding devicesWhole
-  numbers-console = and-no (consoleWhole (drop consolePlace b)) (leb (wordAt b printerPlace) paperLength) t there
+  numbers-console = and-no (consoleWhole (drop consolePlace b)) (and (leb (wordAt b printerPlace) paperLength) (fitsCassette (cassetteIn (drop cassettePlace b)))) t there
 
-  pub numbers-used : (r : Bool) → t ≡ true → r ≡ leb (wordAt b printerPlace) paperLength → r ≡ devicesWhole b
+  pub numbers-others : (r : Bool) → t ≡ true → r ≡ and (leb (wordAt b printerPlace) paperLength) (fitsCassette (cassetteIn (drop cassettePlace b))) → r ≡ devicesWhole b
   unfolding devicesWhole
-  numbers-used = and-yes (consoleWhole (drop consolePlace b)) (leb (wordAt b printerPlace) paperLength) t there
+  numbers-others = and-yes (consoleWhole (drop consolePlace b)) (and (leb (wordAt b printerPlace) paperLength) (fitsCassette (cassetteIn (drop cassettePlace b)))) t there
+
+pub others-fit : (b : List ℕ) (t r : Bool) (c : Cassette) → t ≡ leb (wordAt b printerPlace) paperLength → t ≡ true → c ≡ cassetteIn (take (length b - cassettePlace) (drop cassettePlace b)) → r ≡ fitsCassette c
+    → r ≡ and (leb (wordAt b printerPlace) paperLength) (fitsCassette (cassetteIn (drop cassettePlace b)))
+others-fit b t r c e z p q =
+    and-yes (leb (wordAt b printerPlace) paperLength) (fitsCassette (cassetteIn (drop cassettePlace b))) t e r z
+    (q ∙ ap fitsCassette (p ∙ ap cassetteIn (part-tail cassettePlace b)))
 
 module _ (b : List ℕ) (t : Bool) (e : t ≡ devicesWhole (take (length b - devicesPlace) (drop devicesPlace b))) where
   behind : t ≡ devicesWhole (drop devicesPlace b)
   behind = e ∙ ap devicesWhole (part-tail devicesPlace b)
 
-  pub groups-numbers : t ≡ false → false ≡ and (devicesWhole (drop devicesPlace b)) (apartWhole b)
-  groups-numbers = and-no (devicesWhole (drop devicesPlace b)) (apartWhole b) t behind
+  pub groups-numbers : t ≡ false → false ≡ and (devicesWhole (drop devicesPlace b)) (and (tapesWhole b) (apartWhole b))
+  groups-numbers = and-no (devicesWhole (drop devicesPlace b)) (and (tapesWhole b) (apartWhole b)) t behind
 
-  pub groups-apart : (r : Bool) → t ≡ true → r ≡ apartWhole b → r ≡ and (devicesWhole (drop devicesPlace b)) (apartWhole b)
-  groups-apart = and-yes (devicesWhole (drop devicesPlace b)) (apartWhole b) t behind
+  module _ (z : t ≡ true) (u : Bool) (q : u ≡ tapesWhole b) where
+    pub groups-tapes : u ≡ false → false ≡ and (devicesWhole (drop devicesPlace b)) (and (tapesWhole b) (apartWhole b))
+    groups-tapes y = and-yes (devicesWhole (drop devicesPlace b)) (and (tapesWhole b) (apartWhole b)) t behind false z (and-no (tapesWhole b) (apartWhole b) u q y)
+
+    pub groups-apart : (r : Bool) → u ≡ true → r ≡ apartWhole b → r ≡ and (devicesWhole (drop devicesPlace b)) (and (tapesWhole b) (apartWhole b))
+    groups-apart r y p = and-yes (devicesWhole (drop devicesPlace b)) (and (tapesWhole b) (apartWhole b)) t behind r z (and-yes (tapesWhole b) (apartWhole b) u q r y p)
 
 -- and all of them
-pub undamaged-is : (state area screen paper : List ℕ) (r : Bool) → r ≡ headWhole state → r ≡ and (stands state) (stickFits (stickIn state) (lentIn state area screen paper))
-undamaged-is state area screen paper r e = e ∙ head-is state (lentIn state area screen paper)
+pub undamaged-is : (state area screen paper tape : List ℕ) (r : Bool) → r ≡ headWhole state → r ≡ and (stands state) (stickFits (stickIn state) (lentIn state area screen paper tape))
+undamaged-is state area screen paper tape r e = e ∙ head-is state (lentIn state area screen paper tape)

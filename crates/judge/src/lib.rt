@@ -2,6 +2,7 @@
 use blocks::Gather;
 use blocks::Reply;
 use layout::places::BLOCK;
+use layout::places::CASSETTE;
 use layout::places::CONSOLE;
 use layout::places::DEVICES;
 use layout::places::PHASE;
@@ -10,22 +11,26 @@ use layout::places::PRINTER;
 use printer::PAPER;
 ghost use mathlib.Core.Path.{_≡_};
 ghost use Prim.Native.Nat.{_+_, _*_, _≤_};
-ghost use lib.Dec.{leb};
+ghost use lib.Dec.{leb, ltb};
 ghost use lib.ListN.{length, drop};
-ghost use Rattle.base.specs.Choice.{and};
+ghost use Rattle.base.specs.Choice.{pick, and};
 ghost use Rattle.printer.specs.Printer.{paperLength};
-ghost use Rattle.wire.specs.Messages.{wordOf};
-ghost use Rattle.layout.specs.Places.{blockLength, portLength, consoleLength, devicesPlace, devicesLength, Headed};
-ghost use Rattle.layout.specs.Layout.{stickIn, lentIn};
+ghost use Rattle.cassette.specs.Cassette.{markOf};
+ghost use Rattle.cassette.specs.Fit.{fitsCassette};
+ghost use Rattle.wire.specs.Messages.{wordOf, wordAt};
+ghost use Rattle.layout.specs.Places.{blockLength, tableLength, portLength, consoleLength, printerPlace, cassettePlace, devicesPlace, devicesLength, Headed};
+ghost use Rattle.layout.specs.Layout.{cassetteIn, stickIn, lentIn};
 ghost use Rattle.layout.specs.Stands.{unused, restUnused, runStands, stands};
 ghost use Rattle.damage.specs.Fits.{stickFits};
-ghost use Rattle.damage.specs.Whole.{aux1Whole, openWhole, blockWhole, blockWholeIn, twoWhole, tableWhole, gatherWhole, readyWhole, replyWhole, directionWhole, openedWhole, modeWhole, someLeft, bufferWhole, spanWhole, runWhole, phaseWhole, portWhole, textWhole, pictureWhole, cursorWhole, readingWhole, consoleWhole, devicesWhole, onConsole, apartGroups, apartWhole, headWhole};
+ghost use Rattle.damage.specs.Whole.{aux1Whole, markWhole, openWhole, blockWhole, blockWholeIn, twoWhole, tableWhole, gatherWhole, readyWhole, replyWhole, directionWhole, openedWhole, modeWhole, someLeft, bufferWhole, spanWhole, runWhole, phaseWhole, portWhole, textWhole, pictureWhole, cursorWhole, readingWhole, consoleWhole, devicesWhole, tapesFrom, tapesWhole, groupWhole, apartGroups, apartWhole, headWhole};
 ghost use Rattle.judge.specs.Ported.{Ported};
 
-// The bytes of two blocks, and where the console's mode stands.
+// The bytes of two blocks, and where the console's mode and the cassette's mark stand.
 const PAIR: usize = 2 * BLOCK;
 
 const MODE: usize = DEVICES + CONSOLE;
+
+const MARK: usize = DEVICES + CASSETTE;
 
 // Four bytes as a number, the low one first.
 fn four(a: u8, b: u8, c: u8, d: u8) -> u32
@@ -64,17 +69,56 @@ fn aux1_whole(device: u8, aux1: u8) -> bool
     if device == 3 {
         return !(aux1 / 8 % 2 == 1);
     }
-    !(aux1 / 4 % 2 == 1)
+    if device == 4 {
+        return !(aux1 / 4 % 2 == 1);
+    }
+    if aux1 / 4 % 2 == 1 {
+        return !(aux1 / 8 % 2 == 1);
+    }
+    true
+}
+
+// How a block has C open, by its AUX1.
+fn mark_of(aux1: u8) -> u8
+    ensures { λ r. ⌜ r ≡ markOf aux1 ⌝ }
+{
+    if aux1 / 4 % 2 == 1 {
+        return 1;
+    }
+    if aux1 / 8 % 2 == 1 {
+        return 2;
+    }
+    3
+}
+
+// A block that has C open has it open as the cassette's mark says.
+fn mark_whole(mark: u8, device: u8, aux1: u8) -> bool
+    ensures { λ r. ⌜ r ≡ markWhole mark device aux1 ⌝ }
+{
+    if device < 5 {
+        return true;
+    }
+    mark_of(aux1) == mark
+}
+
+// Both of AUX1.
+fn directed(mark: u8, device: u8, aux1: u8) -> bool
+    ensures { λ r. ⌜ r ≡ and (aux1Whole device aux1) (markWhole mark device aux1) ⌝ }
+{
+    if aux1_whole(device, aux1) {
+        return mark_whole(mark, device, aux1);
+    }
+    false
 }
 
 // Some OPEN makes this block.
-fn open_whole(device: u8, number: u8, aux1: u8) -> bool
-    ensures { λ r. ⌜ r ≡ openWhole device number aux1 ⌝ }
+fn open_whole(mark: u8, device: u8, number: u8, aux1: u8) -> bool
+    ensures { λ r. ⌜ r ≡ openWhole mark device number aux1 ⌝ }
 {
-    if device < 5 {
+    if device < 6 {
         if 1 <= number {
             if number <= 8 {
-                return aux1_whole(device, aux1);
+                return directed(mark, device, aux1);
             }
             return false;
         }
@@ -83,27 +127,27 @@ fn open_whole(device: u8, number: u8, aux1: u8) -> bool
     false
 }
 
-fn block_whole(device: u8, number: u8, aux1: u8) -> bool
-    ensures { λ r. ⌜ r ≡ blockWhole device number aux1 ⌝ }
+fn block_whole(mark: u8, device: u8, number: u8, aux1: u8) -> bool
+    ensures { λ r. ⌜ r ≡ blockWhole mark device number aux1 ⌝ }
 {
     if device == 0 {
         return none(0, 0, number, aux1);
     }
-    open_whole(device, number, aux1)
+    open_whole(mark, device, number, aux1)
 }
 
 // The block whose three bytes begin at this place.
-fn block(bytes: &[u8], place: usize) -> bool
+fn block(bytes: &[u8], place: usize, mark: u8) -> bool
     requires { ⌜ place + blockLength ≤ length (now bytes) ⌝ }
-    ensures { λ r. ⌜ r ≡ blockWholeIn (now (bytes .entry)) place ⌝ }
+    ensures { λ r. ⌜ r ≡ blockWholeIn mark (now (bytes .entry)) place ⌝ }
 {
-    block_whole(bytes[place], bytes[place + 1], bytes[place + 2])
+    block_whole(mark, bytes[place], bytes[place + 1], bytes[place + 2])
 }
 
 // Two blocks, from this place on: most are closed both, and their other bytes then 0, by two comparisons.
-fn two(bytes: &[u8], place: usize) -> bool
+fn two(bytes: &[u8], place: usize, mark: u8) -> bool
     requires { ⌜ place + 2 * blockLength ≤ length (now bytes) ⌝ }
-    ensures { λ r. ⌜ r ≡ twoWhole (now (bytes .entry)) place ⌝ }
+    ensures { λ r. ⌜ r ≡ twoWhole mark (now (bytes .entry)) place ⌝ }
 {
     if neither(bytes[place], bytes[place + BLOCK]) {
         return none(
@@ -113,21 +157,21 @@ fn two(bytes: &[u8], place: usize) -> bool
             bytes[place + BLOCK + 2],
         );
     }
-    if block(bytes, place) {
-        return block(bytes, place + BLOCK);
+    if block(bytes, place, mark) {
+        return block(bytes, place + BLOCK, mark);
     }
     false
 }
 
 // A port's eight, by two.
-fn table(bytes: &[u8]) -> bool
+fn table(bytes: &[u8], mark: u8) -> bool
     requires { ⌜ portLength ≤ length (now bytes) ⌝ }
-    ensures { λ r. ⌜ r ≡ tableWhole (now (bytes .entry)) ⌝ }
+    ensures { λ r. ⌜ r ≡ tableWhole mark (now (bytes .entry)) ⌝ }
 {
     let mut place = PHASE;
     let mut left: u8 = 4;
     while 0 < left {
-        if two(bytes, place) {
+        if two(bytes, place, mark) {
             place += PAIR;
             left -= 1;
         } else {
@@ -185,13 +229,13 @@ fn replies(bytes: &[u8]) -> bool
     false
 }
 
-// A running request's kind is 0 to 5, its device 1 to 4.
+// A running request's kind is 0 to 5, its device 1 to 5.
 fn run_stands(kind: u8, device: u8) -> bool
     ensures { λ r. ⌜ r ≡ runStands kind device ⌝ }
 {
     if kind < 6 {
         if 1 <= device {
-            return device <= 4;
+            return device <= 5;
         }
         return false;
     }
@@ -327,22 +371,22 @@ fn phase(bytes: &[u8], mode: u8) -> bool
     false
 }
 
-fn port(bytes: &[u8], mode: u8) -> bool
+fn port(bytes: &[u8], mode: u8, mark: u8) -> bool
     requires { ⌜ portLength ≤ length (now bytes) ⌝ }
-    ensures { λ r. ⌜ r ≡ portWhole (now (bytes .entry)) mode ⌝ }
+    ensures { λ r. ⌜ r ≡ portWhole (now (bytes .entry)) mode mark ⌝ }
 {
-    if table(bytes) {
+    if table(bytes, mark) {
         return phase(bytes, mode);
     }
     false
 }
 
 // The port whose bytes begin at this place.
-fn port_at(state: &[u8], place: usize, mode: u8) -> bool
+fn port_at(state: &[u8], place: usize, mode: u8, mark: u8) -> bool
     requires { ⌜ place + portLength ≤ length (now state) ⌝ }
-    ensures { λ r. ⌜ r ≡ portWhole (drop place (now (state .entry))) mode ⌝ }
+    ensures { λ r. ⌜ r ≡ portWhole (drop place (now (state .entry))) mode mark ⌝ }
 {
-    port(&state[place..], mode)
+    port(&state[place..], mode, mark)
 }
 
 fn text(row: u8, column: u16) -> bool
@@ -421,33 +465,85 @@ fn used(low: u8, high: u8) -> bool
     reading::word(low, high) <= PAPER
 }
 
+// The numbers behind the console's.
+fn others(bytes: &[u8]) -> bool
+    requires { ⌜ devicesLength ≤ length (now bytes) ⌝ }
+    ensures { λ r. ⌜ r ≡ and (leb (wordAt (now (bytes .entry)) printerPlace) paperLength) (fitsCassette (cassetteIn (drop cassettePlace (now (bytes .entry))))) ⌝ }
+{
+    if used(bytes[PRINTER], bytes[PRINTER + 1]) {
+        return recorder::fits(reading::cassette(&bytes[CASSETTE..]));
+    }
+    false
+}
+
 fn numbers(bytes: &[u8]) -> bool
     requires { ⌜ devicesLength ≤ length (now bytes) ⌝ }
     ensures { λ r. ⌜ r ≡ devicesWhole (now (bytes .entry)) ⌝ }
 {
     if console(&bytes[CONSOLE..]) {
-        return used(bytes[PRINTER], bytes[PRINTER + 1]);
+        return others(bytes);
     }
     false
 }
 
-fn on_console(device: u8) -> bool
-    ensures { λ r. ⌜ r ≡ onConsole device ⌝ }
+// 1 for a block that has C open, by its device's number.
+fn tape(device: u8) -> u8
+    ensures { λ r. ⌜ r ≡ pick (ltb device 5) 0 1 ⌝ }
 {
-    if 1 <= device {
-        return device <= 3;
+    if device < 5 {
+        return 0;
     }
-    false
+    1
+}
+
+// How many of the eight blocks from this place on have C open.
+fn tapes_from(state: &[u8], place: usize) -> u16
+    requires { ⌜ place + tableLength ≤ length (now state) ⌝ }
+    ensures { λ r. ⌜ r ≡ tapesFrom (now (state .entry)) place 8 ⌝ }
+{
+    let mut at = place;
+    let mut left: u8 = 8;
+    let mut tapes: u16 = 0;
+    while 0 < left {
+        tapes += tape(state[at]) as u16;
+        at += BLOCK;
+        left -= 1;
+    }
+    tapes
+}
+
+// Where the tape is open one block has it open; where it is not, no block was found to.
+fn tapes(state: &[u8]) -> bool
+    requires { ⌜ Headed (now state) ⌝ }
+    ensures { λ r. ⌜ r ≡ tapesWhole (now (state .entry)) ⌝ }
+{
+    if state[MARK] == 0 {
+        return true;
+    }
+    tapes_from(state, PHASE) as u32 + tapes_from(state, PORT + PHASE) as u32 == 1
+}
+
+// The number of a device's group.
+fn group(device: u8) -> u8
+    ensures { λ r. ⌜ r ≡ groupWhole device ⌝ }
+{
+    if device == 4 {
+        return 2;
+    }
+    if 1 <= device {
+        if device <= 3 {
+            return 1;
+        }
+        return 3;
+    }
+    3
 }
 
 // The groups of two devices are not one.
 fn apart_groups(one: u8, other: u8) -> bool
     ensures { λ r. ⌜ r ≡ apartGroups one other ⌝ }
 {
-    if on_console(one) {
-        return !on_console(other);
-    }
-    on_console(other)
+    !(group(one) == group(other))
 }
 
 // The two ports hold no group both: only a running request holds one.
@@ -464,13 +560,16 @@ fn apart(state: &[u8]) -> bool
     true
 }
 
-// Behind the ports: the devices' numbers, and the groups.
+// Behind the ports: the devices' numbers, the tape's blocks, and the groups.
 fn groups(state: &[u8]) -> bool
     requires { ⌜ Headed (now state) ⌝ }
-    ensures { λ r. ⌜ r ≡ and (devicesWhole (drop devicesPlace (now (state .entry)))) (apartWhole (now (state .entry))) ⌝ }
+    ensures { λ r. ⌜ r ≡ and (devicesWhole (drop devicesPlace (now (state .entry)))) (and (tapesWhole (now (state .entry))) (apartWhole (now (state .entry)))) ⌝ }
 {
     if numbers(&state[DEVICES..]) {
-        return apart(state);
+        if tapes(state) {
+            return apart(state);
+        }
+        return false;
     }
     false
 }
@@ -480,10 +579,11 @@ fn head(state: &[u8]) -> bool
     ensures { λ r. ⌜ r ≡ headWhole (now (state .entry)) ⌝ }
 {
     let mode = state[MODE];
+    let mark = state[MARK];
     let mut place: usize = 0;
     let mut left: u8 = 2;
     while 0 < left {
-        if port_at(state, place, mode) {
+        if port_at(state, place, mode, mark) {
             place += PORT;
             left -= 1;
         } else {
@@ -494,9 +594,9 @@ fn head(state: &[u8]) -> bool
 }
 
 // Whether a state, with what is lent beside it, stands for an undamaged stick.
-pub fn undamaged(state: &[u8], area: &[u8], screen: &[u8], paper: &[u8]) -> bool
+pub fn undamaged(state: &[u8], area: &[u8], screen: &[u8], paper: &[u8], tape: &[u8]) -> bool
     requires { ⌜ Headed (now state) ⌝ }
-    ensures { λ r. ⌜ r ≡ and (stands (now (state .entry))) (stickFits (stickIn (now (state .entry))) (lentIn (now (state .entry)) (now (area .entry)) (now (screen .entry)) (now (paper .entry)))) ⌝ }
+    ensures { λ r. ⌜ r ≡ and (stands (now (state .entry))) (stickFits (stickIn (now (state .entry))) (lentIn (now (state .entry)) (now (area .entry)) (now (screen .entry)) (now (paper .entry)) (now (tape .entry)))) ⌝ }
 {
     head(state)
 }

@@ -2,13 +2,21 @@
 -- Assumes nothing.
 use mathlib.Core.Path.{_≡_, ap}
 use native.Mathlib.Omega.{arith}
+use mathlib.Core.List.{List}
+use Prim.Native.Nat.{ℕ, _+_, _≤_}
+use lib.ListN.{drop}
+use lib.Seq.{take-take}
 use Rattle.base.specs.Parts.{Looks}
 use Rattle.base.proofs.Readers.{take-firsts, looks-more, looks-behind}
 use Rattle.blocks.specs.declared.Table.{Table}
 use Rattle.blocks.specs.declared.Phase.{Phase}
 use Rattle.blocks.specs.declared.Port.{Port}
-use Rattle.layout.specs.Places.{phaseLength, tableLength, portLength, consoleLength, printerLength}
-use Rattle.layout.specs.Layout.{blocksIn, tableIn, phaseIn, portIn, consoleIn, printerIn}
+use Rattle.console.specs.declared.state.Console.{Console}
+use Rattle.printer.specs.declared.Printer.{Printer}
+use Rattle.cassette.specs.declared.Cassette.{Cassette}
+use Rattle.layout.specs.Places.{phaseLength, tableLength, portLength, consolePlace, consoleLength, printerPlace, printerLength, cassettePlace, cassetteLength, pendingPlace, pendingLength, devicesLength}
+use Rattle.layout.specs.Stick.{devices}
+use Rattle.layout.specs.Layout.{blocksIn, tableIn, phaseIn, portIn, consoleIn, printerIn, cassetteIn, pendingIn, devicesIn}
 
 pub phase-looks : Looks phaseLength phaseIn
 unfolding phaseIn
@@ -31,3 +39,21 @@ console-looks xs h = ap consoleIn (take-firsts 0 consoleLength 0 xs (omega arith
 
 pub printer-looks : Looks printerLength printerIn
 printer-looks xs h = ap printerIn (take-firsts 0 printerLength 0 xs (omega arith))
+
+pub cassette-looks : Looks cassetteLength cassetteIn
+cassette-looks xs h = ap cassetteIn (take-firsts 0 cassetteLength 0 xs (omega arith))
+
+pub pending-looks : Looks pendingLength pendingIn
+pending-looks xs h = take-take pendingLength pendingLength xs (omega arith)
+
+four : {c d : Console} {p q : Printer} {a b : Cassette} {x y : List ℕ} → c ≡ d → p ≡ q → a ≡ b → x ≡ y → devices c p a x ≡ devices d q b y
+four e f g h = rw (e, f, g, h)
+
+pub devices-looks : Looks devicesLength devicesIn
+unfolding devicesIn
+devices-looks xs h =
+    four (looks-at consoleIn consoleLength console-looks consolePlace (omega arith) xs h) (looks-at printerIn printerLength printer-looks printerPlace (omega arith) xs h)
+    (looks-at cassetteIn cassetteLength cassette-looks cassettePlace (omega arith) xs h) (looks-at pendingIn pendingLength pending-looks pendingPlace (omega arith) xs h)
+  where
+    looks-at : {A : Type 0} (f : List ℕ → A) (n : ℕ) → Looks n f → (p : ℕ) → p + n ≤ devicesLength → Looks devicesLength (λ (b : List ℕ). f (drop p b))
+    looks-at f n l p k = looks-more (λ (b : List ℕ). f (drop p b)) (p + n) (looks-behind f n l p) devicesLength k

@@ -1,19 +1,21 @@
 -- How many bytes each part of a stick has.
 -- Assumes nothing.
 use mathlib.Core.Path.{_≡_, _∙_, refl, ap}
-use mathlib.Core.List.{_++_}
-use Prim.Native.Nat.{ℕ, zero, suc, _*_}
+use mathlib.Core.List.{List, _++_}
+use Prim.Native.Nat.{ℕ, zero, suc, _*_, _≤_}
 use native.Mathlib.Omega.{arith}
-use lib.ListN.{length, length-append}
+use lib.ListN.{length, replicate, length-append, length-replicate}
+use lib.Seq.{length-take-le}
 use Rattle.blocks.specs.declared.Table.{Table}
 use Rattle.blocks.specs.declared.Phase.{Phase}
 use Rattle.blocks.specs.declared.Phase.the-variants.{Gathering, Ready, Running, Replying}
 use Rattle.blocks.specs.declared.Port.{Port}
 use Rattle.console.specs.declared.state.Console.{Console}
 use Rattle.printer.specs.declared.Printer.{Printer}
-use Rattle.layout.specs.Places.{phaseLength, blockLength, tableLength, portLength, devicesLength, consoleLength, printerLength, roomsPlace}
-use Rattle.layout.specs.Stick.{Stick}
-use Rattle.layout.specs.Layout.{blocksBytes, tableBytes, phaseBytes, portBytes, consoleBytes, printerBytes, headOf}
+use Rattle.cassette.specs.declared.Cassette.{Cassette}
+use Rattle.layout.specs.Places.{phaseLength, blockLength, tableLength, portLength, devicesLength, consoleLength, printerLength, cassetteLength, pendingLength, roomsPlace}
+use Rattle.layout.specs.Stick.{Devices, Stick}
+use Rattle.layout.specs.Layout.{blocksBytes, tableBytes, phaseBytes, portBytes, consoleBytes, printerBytes, cassetteBytes, pendingBytes, devicesBytes, headOf}
 
 pub phase-length : (p : Phase) → length (phaseBytes p) ≡ phaseLength
 unfolding phaseBytes
@@ -42,9 +44,20 @@ pub printer-length : (p : Printer) → length (printerBytes p) ≡ printerLength
 unfolding printerBytes
 printer-length p = refl
 
-pub devices-length : (c : Console) (p : Printer) → length (consoleBytes c ++ printerBytes p) ≡ devicesLength
-devices-length c p = simp (length-append, console-length c, printer-length p)
+pub cassette-length : (c : Cassette) → length (cassetteBytes c) ≡ cassetteLength
+unfolding cassetteBytes
+cassette-length c = refl
+
+pub pending-length : (xs : List ℕ) → length (pendingBytes xs) ≡ pendingLength
+unfolding pendingBytes
+pending-length xs =
+    let l : pendingLength ≤ length (xs ++ replicate pendingLength 0) = simp (length-append, length-replicate) (omega arith) in
+    length-take-le pendingLength (xs ++ replicate pendingLength 0) l
+
+pub devices-length : (d : Devices) → length (devicesBytes d) ≡ devicesLength
+unfolding devicesBytes
+devices-length d = simp (length-append, console-length (d .console), printer-length (d .printer), cassette-length (d .cassette), pending-length (d .pending))
 
 pub head-length : (s : Stick) → length (headOf s) ≡ roomsPlace
 unfolding headOf
-head-length s = simp (length-append, port-length (s .port0), port-length (s .port1), console-length (s .console), printer-length (s .printer))
+head-length s = simp (length-append, port-length (s .port0), port-length (s .port1), devices-length (s .devices))

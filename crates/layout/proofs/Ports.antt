@@ -8,7 +8,7 @@ use Prim.Native.Nat.{ℕ, _+_, _*_, _≤_, _<_}
 use native.Mathlib.Nat.{add-zero, add-assoc, zero-add, mul-zero, mul-one}
 use native.Mathlib.Omega.{arith}
 use lib.ListN.{length, take, drop, length-append, length-drop, drop-of-length-le, take-append-drop}
-use lib.Seq.{sets, sets-eq, take-at, take-all, drop-at, drop-drop}
+use lib.Seq.{sets, sets-eq, take-at, take-all, drop-at, drop-drop, length-take-le}
 use Rattle.base.specs.Parts.{part}
 use Rattle.base.proofs.Choices.{by-eq}
 use Rattle.base.proofs.Parts.{sets-more, sets-over, sets-right, sets-within}
@@ -18,13 +18,17 @@ use Rattle.blocks.specs.declared.Phase.{Phase}
 use Rattle.blocks.specs.declared.Port.{Port}
 use Rattle.blocks.specs.Blocks.{blockAt, withBlock}
 use Rattle.console.specs.declared.state.Console.{Console}
-use Rattle.printer.specs.declared.Printer.{Printer}
-use Rattle.layout.specs.Places.{phaseLength, blockLength, portLength, devicesPlace, consolePlace, consoleLength, printerPlace, printerLength, devicesLength, roomsPlace, portPlace, phasePlace, tablePlace, blockPlace}
-use Rattle.layout.specs.Stick.{Stick, withConsole, withPrinter, portAt, withPort, withPhase, withTable, partAt, withPart}
-use Rattle.layout.specs.Layout.{blockBytes, tableBytes, phaseBytes, portBytes, consoleBytes, printerBytes, headOf, tableIn, phaseIn, portIn, consoleIn, printerIn, stickIn}
+use Rattle.layout.specs.Places.{phaseLength, blockLength, portLength, devicesPlace, consolePlace, pendingPlace, pendingLength, devicesLength, roomsPlace, portPlace, phasePlace, tablePlace, blockPlace}
+use Rattle.layout.specs.Stick.{Devices, devices, Stick, withDevices, withConsole, portAt, withPort, withPhase, withTable, partAt, withPart}
+use Rattle.layout.specs.Layout.{blockBytes, tableBytes, phaseBytes, portBytes, consoleBytes, printerBytes, cassetteBytes, pendingBytes, devicesBytes, headOf, tableIn, phaseIn, portIn, devicesIn, stickIn}
 use Rattle.layout.proofs.Lengths.{phase-length, port-length, console-length, devices-length, head-length}
 use Rattle.layout.proofs.Tables.{blocks-count, table-stored}
-use Rattle.layout.proofs.Fields.{console-looks, printer-looks}
+use Rattle.layout.proofs.Fields.{devices-looks}
+
+sets-all : (xs ys : List ℕ) → length xs ≡ length ys → sets xs 0 ys ≡ ys
+sets-all xs ys e =
+    let k : length xs ≤ 0 + length ys = omega arith in
+    sets-eq ys xs 0 (omega arith) ∙ rw (drop-of-length-le xs k) (append-nil ys)
 
 pub by-port : (P : ℕ → Type 0) → P 0 → P 1 → (port : ℕ) → port < 2 → P port
 by-port P a b port h = by-eq port 0 (λ e. subst P (sym e) a) (λ n. let e : port ≡ 1 = omega arith in subst P (sym e) b)
@@ -64,7 +68,7 @@ module _ (port : ℕ) (h : port < 2) where
   own-part s =
       let p0 = portBytes (s .port0) in
       let p1 = portBytes (s .port1) in
-      let rest = consoleBytes (s .console) ++ printerBytes (s .printer) in
+      let rest = devicesBytes (s .devices) in
       by-port (λ (n : ℕ). part (portPlace n) portLength (headOf s) ≡ portBytes (portAt n s))
       (take-at p0 (p1 ++ rest) portLength (port-length (s .port0)))
       (ap (take portLength) (drop-at p0 (p1 ++ rest) portLength (port-length (s .port0))) ∙ take-at p1 rest portLength (port-length (s .port1)))
@@ -76,7 +80,7 @@ module _ (port : ℕ) (h : port < 2) where
   head-port p s =
       let p0 = portBytes (s .port0) in
       let p1 = portBytes (s .port1) in
-      let rest = consoleBytes (s .console) ++ printerBytes (s .printer) in
+      let rest = devicesBytes (s .devices) in
       by-port (λ (n : ℕ). headOf (withPort n p s) ≡ sets (headOf s) (portPlace n) (portBytes p))
       (sym (sets-over [] p0 (portBytes p) (p1 ++ rest) 0 refl (port-length (s .port0) ∙ sym (port-length p))))
       (sym (sets-over p0 p1 (portBytes p) rest portLength (port-length (s .port0)) (port-length (s .port1) ∙ sym (port-length p))))
@@ -104,12 +108,9 @@ module _ (port : ℕ) (h : port < 2) where
   pub port-back : (s : Stick) → withPort port (portAt port s) s ≡ s
   port-back s = by-port (λ (n : ℕ). withPort n (portAt n s) s ≡ s) refl refl port h
 
-  -- a port and a device stored, in either order
-  pub also-console : (p : Port) (c : Console) (s : Stick) → withPort port p (withConsole c s) ≡ withConsole c (withPort port p s)
-  also-console p c s = by-port (λ (n : ℕ). withPort n p (withConsole c s) ≡ withConsole c (withPort n p s)) refl refl port h
-
-  pub also-printer : (p : Port) (u : Printer) (s : Stick) → withPort port p (withPrinter u s) ≡ withPrinter u (withPort port p s)
-  also-printer p u s = by-port (λ (n : ℕ). withPort n p (withPrinter u s) ≡ withPrinter u (withPort n p s)) refl refl port h
+  -- a port and the devices stored, in either order
+  pub also-devices : (p : Port) (d : Devices) (s : Stick) → withPort port p (withDevices d s) ≡ withDevices d (withPort port p s)
+  also-devices p d s = by-port (λ (n : ℕ). withPort n p (withDevices d s) ≡ withDevices d (withPort n p s)) refl refl port h
 
   -- a port's own part of a lent buffer
   module _ (n : ℕ) where
@@ -136,13 +137,13 @@ module _ (port : ℕ) (h : port < 2) where
 
 -- the devices: what is read of their part, and what is stored of them in the head
 module _ (b : List ℕ) (h : roomsPlace ≤ length b) where
-  pub own-console : consoleIn (drop consolePlace (part devicesPlace devicesLength b)) ≡ stickIn b .console
+  pub own-devices : devicesIn (part devicesPlace devicesLength b) ≡ stickIn b .devices
   unfolding stickIn
-  own-console = looks-part consoleIn consoleLength console-looks devicesPlace devicesLength consolePlace b (omega arith) (omega arith)
+  own-devices = looks-part devicesIn devicesLength devices-looks devicesPlace devicesLength 0 b (omega arith) (omega arith) ∙ ap (λ (k : ℕ). devicesIn (drop k b)) (add-zero devicesPlace)
 
-  pub own-printer : printerIn (drop printerPlace (part devicesPlace devicesLength b)) ≡ stickIn b .printer
-  unfolding stickIn
-  own-printer = looks-part printerIn printerLength printer-looks devicesPlace devicesLength printerPlace b (omega arith) (omega arith)
+  pub own-pending : length (stickIn b .devices .pending) ≡ pendingLength
+  unfolding stickIn devicesIn
+  own-pending = length-take-le pendingLength (drop pendingPlace (drop devicesPlace b)) (simp length-drop (omega arith))
 
 module _ (s : Stick) where
   abbrev ports : List ℕ
@@ -151,44 +152,36 @@ module _ (s : Stick) where
   pub ports-length : length ports ≡ devicesPlace
   ports-length = simp (length-append, port-length (s .port0), port-length (s .port1))
 
-  two-parts : (c : Console) (u : Printer) → headOf (withPrinter u (withConsole c s)) ≡ ports ++ (consoleBytes c ++ printerBytes u)
+  two-parts : (d : Devices) → headOf (withDevices d s) ≡ ports ++ devicesBytes d
   unfolding headOf
-  two-parts c u = sym (append-assoc (portBytes (s .port0)) (portBytes (s .port1)) (consoleBytes c ++ printerBytes u))
+  two-parts d = sym (append-assoc (portBytes (s .port0)) (portBytes (s .port1)) (devicesBytes d))
 
-  pub own-devices : part devicesPlace devicesLength (headOf s) ≡ consoleBytes (s .console) ++ printerBytes (s .printer)
-  own-devices =
-      let own = consoleBytes (s .console) ++ printerBytes (s .printer) in
-      ap (part devicesPlace devicesLength) (two-parts (s .console) (s .printer))
-      ∙ ap (take devicesLength) (drop-at ports own devicesPlace ports-length) ∙ take-all devicesLength own (omega (arith, devices-length (s .console) (s .printer)))
+  pub part-devices : part devicesPlace devicesLength (headOf s) ≡ devicesBytes (s .devices)
+  part-devices =
+      let own = devicesBytes (s .devices) in
+      ap (part devicesPlace devicesLength) (two-parts (s .devices))
+      ∙ ap (take devicesLength) (drop-at ports own devicesPlace ports-length) ∙ take-all devicesLength own (omega (arith, devices-length (s .devices)))
 
-  head-stores : (c : Console) (u : Printer) (i : ℕ) (ys : List ℕ) → sets (consoleBytes (s .console) ++ printerBytes (s .printer)) i ys ≡ consoleBytes c ++ printerBytes u
-      → headOf (withPrinter u (withConsole c s)) ≡ sets (headOf s) (devicesPlace + i) ys
-  head-stores c u i ys e =
-      two-parts c u
+  head-stores : (d : Devices) (i : ℕ) (ys : List ℕ) → sets (devicesBytes (s .devices)) i ys ≡ devicesBytes d → headOf (withDevices d s) ≡ sets (headOf s) (devicesPlace + i) ys
+  head-stores d i ys e =
+      two-parts d
       ∙ ap (λ (r : List ℕ). ports ++ r) (sym e)
-      ∙ sym (sets-right ports (consoleBytes (s .console) ++ printerBytes (s .printer)) ys i)
-      ∙ ap (λ (k : ℕ). sets (ports ++ (consoleBytes (s .console) ++ printerBytes (s .printer))) (k + i) ys) ports-length
-      ∙ ap (λ (l : List ℕ). sets l (devicesPlace + i) ys) (sym (two-parts (s .console) (s .printer)))
+      ∙ sym (sets-right ports (devicesBytes (s .devices)) ys i)
+      ∙ ap (λ (k : ℕ). sets (ports ++ devicesBytes (s .devices)) (k + i) ys) ports-length
+      ∙ ap (λ (l : List ℕ). sets l (devicesPlace + i) ys) (sym (two-parts (s .devices)))
 
   pub head-console : (c : Console) → headOf (withConsole c s) ≡ sets (headOf s) (devicesPlace + consolePlace) (consoleBytes c)
+  unfolding devicesBytes
   head-console c =
-      head-stores c (s .printer) consolePlace (consoleBytes c)
-      (sets-over [] (consoleBytes (s .console)) (consoleBytes c) (printerBytes (s .printer)) 0 refl (console-length (s .console) ∙ sym (console-length c)))
+      let d = s .devices in
+      head-stores (devices c (d .printer) (d .cassette) (d .pending)) consolePlace (consoleBytes c)
+      (sets-over [] (consoleBytes (d .console)) (consoleBytes c) (printerBytes (d .printer) ++ (cassetteBytes (d .cassette) ++ pendingBytes (d .pending))) 0 refl (console-length (d .console) ∙ sym (console-length c)))
 
-  pub head-printer : (u : Printer) → headOf (withPrinter u s) ≡ sets (headOf s) (devicesPlace + printerPlace) (printerBytes u)
-  unfolding consoleBytes printerBytes
-  head-printer u = head-stores (s .console) u printerPlace (printerBytes u) refl
+  pub head-devices : (d : Devices) → headOf (withDevices d s) ≡ sets (headOf s) devicesPlace (devicesBytes d)
+  head-devices d =
+      head-stores d 0 (devicesBytes d) (sets-all (devicesBytes (s .devices)) (devicesBytes d) (devices-length (s .devices) ∙ sym (devices-length d)))
+      ∙ ap (λ (k : ℕ). sets (headOf s) k (devicesBytes d)) (add-zero devicesPlace)
 
-  pub head-devices : (c : Console) (u : Printer) → headOf (withPrinter u (withConsole c s)) ≡ sets (headOf s) devicesPlace (consoleBytes c ++ printerBytes u)
-  unfolding consoleBytes printerBytes
-  head-devices c u = head-stores c u 0 (consoleBytes c ++ printerBytes u) refl
-
--- the devices' numbers written one after the other, into a part of their length
-module _ (numbers : List ℕ) (c : Console) (u : Printer) (e : length numbers ≡ devicesLength) where
-  pub devices-written : sets (sets numbers consolePlace (consoleBytes c)) printerPlace (printerBytes u) ≡ consoleBytes c ++ printerBytes u
-  unfolding consoleBytes
-  devices-written =
-      let cu = consoleBytes c ++ printerBytes u in
-      let l = devices-length c u in
-      let k : length numbers ≤ 0 + length cu = omega arith in
-      sets-more numbers (consoleBytes c) (printerBytes u) 0 ∙ sets-eq cu numbers 0 (omega arith) ∙ rw (drop-of-length-le numbers k) (append-nil cu)
+-- numbers of the devices' length, written whole
+pub devices-written : (numbers : List ℕ) (d : Devices) → length numbers ≡ devicesLength → sets numbers 0 (devicesBytes d) ≡ devicesBytes d
+devices-written numbers d e = sets-all numbers (devicesBytes d) (e ∙ sym (devices-length d))

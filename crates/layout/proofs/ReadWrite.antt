@@ -9,12 +9,12 @@ use native.Mathlib.Nat.{mod-eq-of-lt, mod-add-div}
 use native.Mathlib.Omega.{arith}
 use borrow.Author.Tests.{ne-eqb}
 use lib.Dec.{eqb, ltb}
-use lib.ListN.{length, drop}
-use lib.Seq.{drop-at, drop-drop}
+use lib.ListN.{length, drop, replicate}
+use lib.Seq.{take-at, drop-at, drop-drop}
 use Rattle.base.specs.Choice.{pick, within}
 use Rattle.base.proofs.Readers.{all-firsts}
 use Rattle.blocks.specs.declared.Device.{Device}
-use Rattle.blocks.specs.declared.Device.the-variants.{E, S, K, P}
+use Rattle.blocks.specs.declared.Device.the-variants.{E, S, K, P, C}
 use Rattle.blocks.specs.declared.BlockState.{BlockState}
 use Rattle.blocks.specs.declared.BlockState.the-variants.{Closed, Open}
 use Rattle.blocks.specs.declared.ControlBlock.{ControlBlock}
@@ -31,12 +31,13 @@ use Rattle.editor.specs.declared.ReadColumn.{ReadColumn}
 use Rattle.editor.specs.declared.ReadColumn.the-variants.{Dropped, At}
 use Rattle.console.specs.declared.state.Console.{Console}
 use Rattle.printer.specs.declared.Printer.{Printer}
-use Rattle.layout.specs.Places.{phaseLength, portLength, devicesPlace, consolePlace, consoleLength, printerPlace, portPlace}
-use Rattle.layout.specs.Stick.{Stick}
-use Rattle.layout.specs.Layout.{lowByte, highByte, deviceNumber, kindNumber, deviceByte, numberByte, aux1Byte, blocksBytes, tableBytes, phaseBytes, portBytes, consoleBytes, printerBytes, headOf, deviceIn, kindIn, blockOf, blocksIn, tableIn, phaseIn, portIn, readingIn, readingByte, consoleIn, printerIn, stickIn}
+use Rattle.cassette.specs.declared.Cassette.{Cassette}
+use Rattle.layout.specs.Places.{phaseLength, portLength, devicesPlace, consolePlace, consoleLength, printerPlace, printerLength, cassettePlace, cassetteLength, pendingPlace, pendingLength, portPlace}
+use Rattle.layout.specs.Stick.{Devices, Stick}
+use Rattle.layout.specs.Layout.{lowByte, highByte, deviceNumber, kindNumber, deviceByte, numberByte, aux1Byte, blocksBytes, tableBytes, phaseBytes, portBytes, consoleBytes, printerBytes, cassetteBytes, pendingBytes, devicesBytes, headOf, deviceIn, kindIn, blockOf, blocksIn, tableIn, phaseIn, portIn, readingIn, readingByte, consoleIn, printerIn, cassetteIn, pendingIn, devicesIn, stickIn}
 use Rattle.layout.specs.InBytes.{PhaseInBytes, ReadingInBytes, InBytes}
-use Rattle.layout.specs.Stands.{blockStands, blocksStand, tableStands, unused, runStands, phaseStands, portStands, stands}
-use Rattle.layout.proofs.Lengths.{phase-length, port-length, console-length}
+use Rattle.layout.specs.Stands.{blockStands, blocksStand, tableStands, unused, runStands, phaseStands, portStands, consoleStands, stands}
+use Rattle.layout.proofs.Lengths.{phase-length, port-length, console-length, printer-length, cassette-length, pending-length}
 
 word-same : (n : ℕ) → wordOf (lowByte n) (highByte n) ≡ n
 word-same n = mod-add-div n 256
@@ -53,6 +54,7 @@ device-same E = refl
 device-same S = refl
 device-same K = refl
 device-same P = refl
+device-same C = refl
 
 kind-same : (k : Kind) → kindIn (kindNumber k) ≡ k
 unfolding kindIn
@@ -70,6 +72,7 @@ state-same (Open E number aux1) = refl
 state-same (Open S number aux1) = refl
 state-same (Open K number aux1) = refl
 state-same (Open P number aux1) = refl
+state-same (Open C number aux1) = refl
 
 state-stands : (s : BlockState) → blockStands (deviceByte s) (numberByte s) (aux1Byte s) ≡ true
 unfolding blockStands
@@ -78,6 +81,7 @@ state-stands (Open E number aux1) = refl
 state-stands (Open S number aux1) = refl
 state-stands (Open K number aux1) = refl
 state-stands (Open P number aux1) = refl
+state-stands (Open C number aux1) = refl
 
 module _ (t : Table) (r : List ℕ) where
   abbrev own : ℕ → BlockState
@@ -109,11 +113,12 @@ kind-stands (Put One) = refl
 kind-stands (Put Characters) = refl
 kind-stands (Put Record) = refl
 
-device-stands : (d : Device) → within 1 4 (deviceNumber d) ≡ true
+device-stands : (d : Device) → within 1 5 (deviceNumber d) ≡ true
 device-stands E = refl
 device-stands S = refl
 device-stands K = refl
 device-stands P = refl
+device-stands C = refl
 
 phase-stands : (p : Phase) (r : List ℕ) → phaseStands (phaseBytes p ++ r) ≡ true
 unfolding phaseStands phaseBytes unused runStands
@@ -162,6 +167,65 @@ pub printer-same : (p : Printer) (r : List ℕ) → printerIn (printerBytes p ++
 unfolding printerBytes
 printer-same p r = rw (word-same (p .used))
 
+pub cassette-same : (c : Cassette) (r : List ℕ) → cassetteIn (cassetteBytes c ++ r) ≡ c
+unfolding cassetteBytes
+cassette-same c r = refl
+
+-- 128 characters are their bytes
+pub pending-is : (xs : List ℕ) → length xs ≡ pendingLength → pendingBytes xs ≡ xs
+unfolding pendingBytes
+pending-is xs e = take-at xs (replicate pendingLength 0) pendingLength e
+
+pub pending-same : (xs r : List ℕ) → length xs ≡ pendingLength → pendingIn (pendingBytes xs ++ r) ≡ xs
+pending-same xs r e = take-at (pendingBytes xs) r pendingLength (pending-length xs) ∙ pending-is xs e
+
+-- the devices, part by part
+module _ (d : Devices) (r : List ℕ) where
+  abbrev c0 : List ℕ
+  c0 = consoleBytes (d .console)
+
+  abbrev u0 : List ℕ
+  u0 = printerBytes (d .printer)
+
+  abbrev t0 : List ℕ
+  t0 = cassetteBytes (d .cassette)
+
+  abbrev w0 : List ℕ
+  w0 = pendingBytes (d .pending)
+
+  parts : devicesBytes d ++ r ≡ c0 ++ (u0 ++ (t0 ++ (w0 ++ r)))
+  unfolding devicesBytes
+  parts = simp append-assoc
+
+  past-console : drop printerPlace (devicesBytes d ++ r) ≡ u0 ++ (t0 ++ (w0 ++ r))
+  past-console = rw parts (drop-at c0 (u0 ++ (t0 ++ (w0 ++ r))) consoleLength (console-length (d .console)))
+
+  past-printer : drop cassettePlace (devicesBytes d ++ r) ≡ t0 ++ (w0 ++ r)
+  past-printer = sym (drop-drop printerLength printerPlace (devicesBytes d ++ r)) ∙ ap (drop printerLength) past-console ∙ drop-at u0 (t0 ++ (w0 ++ r)) printerLength (printer-length (d .printer))
+
+  past-cassette : drop pendingPlace (devicesBytes d ++ r) ≡ w0 ++ r
+  past-cassette = sym (drop-drop cassetteLength cassettePlace (devicesBytes d ++ r)) ∙ ap (drop cassetteLength) past-printer ∙ drop-at t0 (w0 ++ r) cassetteLength (cassette-length (d .cassette))
+
+  pub console-in : d .console .row < 256 → ReadingInBytes (d .console .reading) → consoleIn (drop consolePlace (devicesBytes d ++ r)) ≡ d .console
+  console-in h k = ap consoleIn parts ∙ console-same (d .console) (u0 ++ (t0 ++ (w0 ++ r))) h k
+
+  pub printer-in : printerIn (drop printerPlace (devicesBytes d ++ r)) ≡ d .printer
+  printer-in = ap printerIn past-console ∙ printer-same (d .printer) (t0 ++ (w0 ++ r))
+
+  pub cassette-in : cassetteIn (drop cassettePlace (devicesBytes d ++ r)) ≡ d .cassette
+  cassette-in = ap cassetteIn past-printer ∙ cassette-same (d .cassette) (w0 ++ r)
+
+  pub pending-in : length (d .pending) ≡ pendingLength → pendingIn (drop pendingPlace (devicesBytes d ++ r)) ≡ d .pending
+  pending-in l = ap pendingIn past-cassette ∙ pending-same (d .pending) r l
+
+  pub devices-same : d .console .row < 256 → ReadingInBytes (d .console .reading) → length (d .pending) ≡ pendingLength → devicesIn (devicesBytes d ++ r) ≡ d
+  unfolding devicesIn
+  devices-same h k l = rw (console-in h k, printer-in, cassette-in, pending-in l)
+
+  devices-stand : consoleStands (drop consolePlace (devicesBytes d ++ r)) ≡ true
+  unfolding consoleBytes
+  devices-stand = rw parts (escape-stands (d .console .escape))
+
 module _ (s : Stick) (r : List ℕ) where
   abbrev p0 : List ℕ
   p0 = portBytes (s .port0)
@@ -169,30 +233,24 @@ module _ (s : Stick) (r : List ℕ) where
   abbrev p1 : List ℕ
   p1 = portBytes (s .port1)
 
-  abbrev c0 : List ℕ
-  c0 = consoleBytes (s .console)
+  abbrev d0 : List ℕ
+  d0 = devicesBytes (s .devices)
 
-  abbrev u0 : List ℕ
-  u0 = printerBytes (s .printer)
-
-  parts : headOf s ++ r ≡ p0 ++ (p1 ++ (c0 ++ (u0 ++ r)))
+  head-parts : headOf s ++ r ≡ p0 ++ (p1 ++ (d0 ++ r))
   unfolding headOf
-  parts = simp append-assoc
+  head-parts = simp append-assoc
 
-  past-0 : drop (portPlace 1) (headOf s ++ r) ≡ p1 ++ (c0 ++ (u0 ++ r))
-  past-0 = rw parts (drop-at p0 (p1 ++ (c0 ++ (u0 ++ r))) portLength (port-length (s .port0)))
+  past-0 : drop (portPlace 1) (headOf s ++ r) ≡ p1 ++ (d0 ++ r)
+  past-0 = rw head-parts (drop-at p0 (p1 ++ (d0 ++ r)) portLength (port-length (s .port0)))
 
-  past-1 : drop (devicesPlace + consolePlace) (headOf s ++ r) ≡ c0 ++ (u0 ++ r)
-  past-1 = sym (drop-drop portLength portLength (headOf s ++ r)) ∙ ap (drop portLength) past-0 ∙ drop-at p1 (c0 ++ (u0 ++ r)) portLength (port-length (s .port1))
-
-  past-2 : drop (devicesPlace + printerPlace) (headOf s ++ r) ≡ u0 ++ r
-  past-2 = sym (drop-drop consoleLength (devicesPlace + consolePlace) (headOf s ++ r)) ∙ ap (drop consoleLength) past-1 ∙ drop-at c0 (u0 ++ r) consoleLength (console-length (s .console))
+  past-1 : drop devicesPlace (headOf s ++ r) ≡ d0 ++ r
+  past-1 = sym (drop-drop portLength portLength (headOf s ++ r)) ∙ ap (drop portLength) past-0 ∙ drop-at p1 (d0 ++ r) portLength (port-length (s .port1))
 
   pub read-write : InBytes s → stickIn (headOf s ++ r) ≡ s
   unfolding stickIn
   read-write w =
-      rw (past-0, past-1, past-2, parts, port-same (s .port0) (p1 ++ (c0 ++ (u0 ++ r))) (w .phase0) (w .table0), port-same (s .port1) (c0 ++ (u0 ++ r)) (w .phase1) (w .table1), console-same (s .console) (u0 ++ r) (w .row) (w .reading), printer-same (s .printer) r)
+      rw (past-0, past-1, head-parts, port-same (s .port0) (p1 ++ (d0 ++ r)) (w .phase0) (w .table0), port-same (s .port1) (d0 ++ r) (w .phase1) (w .table1), devices-same (s .devices) r (w .row) (w .reading) (w .pending))
 
   pub head-stands : stands (headOf s ++ r) ≡ true
-  unfolding stands consoleBytes
-  head-stands = rw (past-0, past-1, parts, port-stands (s .port0) (p1 ++ (c0 ++ (u0 ++ r))), port-stands (s .port1) (c0 ++ (u0 ++ r)), escape-stands (s .console .escape))
+  unfolding stands
+  head-stands = rw (past-0, past-1, head-parts, port-stands (s .port0) (p1 ++ (d0 ++ r)), port-stands (s .port1) (d0 ++ r), devices-stand (s .devices) r)

@@ -11,13 +11,10 @@ use lib.Seq.{sets, sets-eq, drop-drop}
 use Rattle.base.specs.Parts.{part}
 use Rattle.base.proofs.Parts.{cat, take-before, drop-into, sets-more, sets-left, lent-part}
 use Rattle.blocks.specs.Opening.{areaLength}
-use Rattle.blocks.specs.Blocks.{freshPort}
 use Rattle.wire.specs.Messages.{roomLength}
-use Rattle.console.specs.Group.{freshConsole}
-use Rattle.printer.specs.Printer.{freshPrinter}
-use Rattle.layout.specs.Places.{portLength, devicesPlace, consolePlace, printerPlace, roomsPlace, stateLength, portPlace, roomPlace, areaPlace}
-use Rattle.layout.specs.Stick.{Stick, freshStick, partAt, withPart}
-use Rattle.layout.specs.Layout.{portBytes, consoleBytes, printerBytes, headOf, stickIn}
+use Rattle.layout.specs.Places.{portLength, devicesPlace, roomsPlace, stateLength, portPlace, roomPlace, areaPlace}
+use Rattle.layout.specs.Stick.{Stick, partAt, withPart}
+use Rattle.layout.specs.Layout.{portBytes, devicesBytes, headOf, stickIn}
 use Rattle.layout.specs.InBytes.{Bytes}
 use Rattle.layout.specs.Stands.{stands}
 use Rattle.layout.proofs.Lengths.{port-length, head-length}
@@ -68,25 +65,16 @@ after : (l xs ys : List ℕ) (n : ℕ) → length xs ≡ n → sets (sets l 0 xs
 after l xs ys n e = let z : n ≡ 0 + length xs = omega arith in rw z (sets-more l xs ys 0)
 
 module _ (s : Stick) (state : List ℕ) (h : roomsPlace ≤ length state) where
-  pub head-written : sets (sets (sets state (portPlace 0) (portBytes (s .port0))) (portPlace 1) (portBytes (s .port1))) devicesPlace (consoleBytes (s .console) ++ printerBytes (s .printer))
+  pub head-written : sets (sets (sets state (portPlace 0) (portBytes (s .port0))) (portPlace 1) (portBytes (s .port1))) devicesPlace (devicesBytes (s .devices))
       ≡ headOf s ++ drop roomsPlace state
   unfolding headOf
   head-written =
       let p0 = portBytes (s .port0) in
       let p1 = portBytes (s .port1) in
-      let devices = consoleBytes (s .console) ++ printerBytes (s .printer) in
+      let d = devicesBytes (s .devices) in
       let l = head-length s in
       let z : 0 + length (headOf s) ≡ roomsPlace = omega arith in
-      ap (λ (x : List ℕ). sets x devicesPlace devices) (after state p0 p1 portLength (port-length (s .port0)))
-      ∙ after state (p0 ++ p1) devices devicesPlace (ports-length s)
-      ∙ ap (sets state 0) (append-assoc p0 p1 devices)
+      ap (λ (x : List ℕ). sets x devicesPlace d) (after state p0 p1 portLength (port-length (s .port0)))
+      ∙ after state (p0 ++ p1) d devicesPlace (ports-length s)
+      ∙ ap (sets state 0) (append-assoc p0 p1 d)
       ∙ sets-eq (headOf s) state 0 (omega arith) ∙ ap (λ (k : ℕ). headOf s ++ drop k state) z
-
--- a fresh state
-pub fresh-head : (state : List ℕ) → roomsPlace ≤ length state
-    → sets (sets (sets (sets state (portPlace 0) (portBytes freshPort)) (portPlace 1) (portBytes freshPort)) (devicesPlace + consolePlace) (consoleBytes freshConsole)) (devicesPlace + printerPlace) (printerBytes freshPrinter)
-    ≡ headOf freshStick ++ drop roomsPlace state
-unfolding consoleBytes
-fresh-head state h =
-    sets-more (sets (sets state (portPlace 0) (portBytes freshPort)) (portPlace 1) (portBytes freshPort)) (consoleBytes freshConsole) (printerBytes freshPrinter) devicesPlace
-    ∙ head-written freshStick state h

@@ -6,10 +6,12 @@ use mathlib.Core.List.{List, [], _∷_, _++_}
 use Prim.Native.Nat.{ℕ, zero, suc, _+_, _*_, _/_, _%_, _≤_, _<_}
 use native.Mathlib.Nat.{add-zero, zero-add, mod-eq-of-lt}
 use native.Mathlib.Omega.{arith}
+use mir.Syntax.{w8}
+use mir.Val.{Fits}
 use borrow.Author.Tests.{eq-eqb, ne-eqb, eqb-true, ltb-true, leb-true}
 use lib.Dec.{T, eqb, leb, ltb}
-use lib.ListN.{length, take, drop, length-drop, take-append-drop}
-use lib.Seq.{getD-drop, take-add, take-all}
+use lib.ListN.{length, getD, take, drop, length-drop, take-append-drop}
+use lib.Seq.{getD-drop, take-add, take-all, length-take-le}
 use Rattle.base.specs.Choice.{pick, and, within}
 use Rattle.base.specs.Parts.{part}
 use Rattle.base.proofs.Choices.{and-left, and-right, by-eq}
@@ -19,13 +21,21 @@ use Rattle.base.proofs.Readers.{firsts, take-firsts}
 use Rattle.blocks.specs.declared.Table.{Table}
 use Rattle.blocks.specs.Blocks.{blockAt}
 use Rattle.wire.specs.Messages.{wordOf}
-use Rattle.layout.specs.Places.{phaseLength, blockLength, tableLength, portLength, devicesPlace, consolePlace, consoleLength, printerPlace, printerLength, devicesLength, roomsPlace, portPlace}
-use Rattle.layout.specs.Layout.{lowByte, highByte, deviceNumber, kindNumber, blockBytes, blocksBytes, tableBytes, phaseBytes, portBytes, consoleBytes, printerBytes, headOf, byteAt, deviceIn, kindIn, blockOf, blockIn, tableIn, phaseIn, portIn, readingIn, readingByte, consoleIn, printerIn, stickIn}
+use Rattle.layout.specs.Places.{phaseLength, blockLength, tableLength, portLength, devicesPlace, consolePlace, consoleLength, printerPlace, printerLength, cassettePlace, cassetteLength, pendingPlace, pendingLength, devicesLength, roomsPlace, portPlace}
+use Rattle.layout.specs.Layout.{lowByte, highByte, deviceNumber, kindNumber, blockBytes, blocksBytes, tableBytes, phaseBytes, portBytes, consoleBytes, printerBytes, cassetteBytes, pendingBytes, devicesBytes, headOf, byteAt, deviceIn, kindIn, blockOf, blockIn, tableIn, phaseIn, portIn, readingIn, readingByte, consoleIn, printerIn, cassetteIn, pendingIn, devicesIn, stickIn}
 use Rattle.layout.specs.InBytes.{Bytes}
 use Rattle.layout.specs.Stands.{blockStands, blockStandsIn, blocksStand, tableStands, unused, runStands, phaseStands, portStands, consoleStands, stands}
 use Rattle.layout.proofs.Tables.{block-there}
+use Rattle.layout.proofs.ReadWrite.{pending-is}
 
-bytes-drop : (n : ℕ) (xs : List ℕ) → Bytes xs → Bytes (drop n xs)
+-- what is known of a lent slice of bytes: each element is a byte
+abbrev pub Known : List ℕ → Type 0
+Known xs = (i : ℕ) → Fits w8 (getD xs i 0)
+
+pub bytes-of : (xs : List ℕ) → Known xs → Bytes xs
+bytes-of xs k i = omega (arith, k i)
+
+pub bytes-drop : (n : ℕ) (xs : List ℕ) → Bytes xs → Bytes (drop n xs)
 bytes-drop n xs w i = rw (getD-drop n xs i 0) (w (n + i))
 
 low-word : (a b : ℕ) → a < 256 → lowByte (wordOf a b) ≡ a
@@ -48,9 +58,9 @@ tested : (t : Bool) → T t → t ≡ true
 tested true u = refl
 tested false u = absurd u
 
-device-back : (n : ℕ) → 1 ≤ n → n < 5 → deviceNumber (deviceIn n) ≡ n
+device-back : (n : ℕ) → 1 ≤ n → n < 6 → deviceNumber (deviceIn n) ≡ n
 unfolding deviceIn
-device-back n l h = eqb-true _ _ (tested _ (on (λ (k : ℕ). eqb (deviceNumber (deviceIn k)) k) 1 4 tt n l h))
+device-back n l h = eqb-true _ _ (tested _ (on (λ (k : ℕ). eqb (deviceNumber (deviceIn k)) k) 1 5 tt n l h))
 
 kind-back : (n : ℕ) → n < 6 → kindNumber (kindIn n) ≡ n
 unfolding kindIn
@@ -67,8 +77,8 @@ module _ (device number aux1 : ℕ) where
       let a = eqb-true aux1 0 (and-right (eqb number 0) (eqb aux1 0) u) in
       rw (eq-eqb device 0 z, n, a, z))
       (λ z.
-      let u : ltb device 5 ≡ true = rw (ne-eqb device 0 z) at e in
-      rw (ne-eqb device 0 z, device-back device (omega arith) (ltb-true device 5 u)))
+      let u : ltb device 6 ≡ true = rw (ne-eqb device 0 z) at e in
+      rw (ne-eqb device 0 z, device-back device (omega arith) (ltb-true device 6 u)))
 
 module _ (b : List ℕ) where
   block-in-back : (place : ℕ) → blockStandsIn b place ≡ true → place + blockLength ≤ length b → blockBytes (blockIn b place) ≡ part place blockLength b
@@ -144,11 +154,11 @@ module _ (b : List ℕ) (w : Bytes b) where
       let s0 = ne-eqb (byteAt b 0) 0 n0 in
       let s1 = ne-eqb (byteAt b 0) 1 n1 in
       let s2 = eq-eqb (byteAt b 0) 2 z in
-      let m : and (ltb (byteAt b 1) 6) (within 1 4 (byteAt b 2)) ≡ true = rw (s0, s1, s2) at e in
-      let k = ltb-true (byteAt b 1) 6 (and-left (ltb (byteAt b 1) 6) (within 1 4 (byteAt b 2)) m) in
-      let d = and-right (ltb (byteAt b 1) 6) (within 1 4 (byteAt b 2)) m in
-      let l = leb-true 1 (byteAt b 2) (and-left (leb 1 (byteAt b 2)) (leb (byteAt b 2) 4) d) in
-      let h = leb-true (byteAt b 2) 4 (and-right (leb 1 (byteAt b 2)) (leb (byteAt b 2) 4) d) in
+      let m : and (ltb (byteAt b 1) 6) (within 1 5 (byteAt b 2)) ≡ true = rw (s0, s1, s2) at e in
+      let k = ltb-true (byteAt b 1) 6 (and-left (ltb (byteAt b 1) 6) (within 1 5 (byteAt b 2)) m) in
+      let d = and-right (ltb (byteAt b 1) 6) (within 1 5 (byteAt b 2)) m in
+      let l = leb-true 1 (byteAt b 2) (and-left (leb 1 (byteAt b 2)) (leb (byteAt b 2) 5) d) in
+      let h = leb-true (byteAt b 2) 5 (and-right (leb 1 (byteAt b 2)) (leb (byteAt b 2) 5) d) in
       rw (s0, s1, s2, kind-back (byteAt b 1) k, device-back (byteAt b 2) l (omega arith), low-word (byteAt b 4) (byteAt b 5) (w 4), high-word (byteAt b 4) (byteAt b 5) (w 4), low-word (byteAt b 6) (byteAt b 7) (w 6), high-word (byteAt b 6) (byteAt b 7) (w 6), low-word (byteAt b 8) (byteAt b 9) (w 8), high-word (byteAt b 8) (byteAt b 9) (w 8), z))
       (λ n2. by-eq (byteAt b 0) 3
       (λ z.
@@ -189,9 +199,33 @@ module _ (b : List ℕ) (w : Bytes b) where
       rw (mod-eq-of-lt (w 1), low-word (byteAt b 2) (byteAt b 3) (w 2), high-word (byteAt b 2) (byteAt b 3) (w 2), escape-back (byteAt b 5) (ltb-true (byteAt b 5) 2 e), reading-back (byteAt b 6) (w 6))
       (sym (take-firsts 0 consoleLength 0 b (omega arith)))
 
-  printer-back : printerLength ≤ length b → printerBytes (printerIn b) ≡ take printerLength b
+  pub printer-back : printerLength ≤ length b → printerBytes (printerIn b) ≡ take printerLength b
   unfolding printerBytes
   printer-back h = rw (low-word (byteAt b 0) (byteAt b 1) (w 0), high-word (byteAt b 0) (byteAt b 1) (w 0)) (sym (take-firsts 0 printerLength 0 b (omega arith)))
+
+  cassette-back : cassetteLength ≤ length b → cassetteBytes (cassetteIn b) ≡ take cassetteLength b
+  unfolding cassetteBytes
+  cassette-back h = sym (take-firsts 0 cassetteLength 0 b (omega arith))
+
+  pending-back : pendingLength ≤ length b → pendingBytes (pendingIn b) ≡ take pendingLength b
+  pending-back h = pending-is (take pendingLength b) (length-take-le pendingLength b h)
+
+-- the devices, of a list that begins with their numbers
+module _ (b : List ℕ) (w : Bytes b) (e : consoleStands (drop consolePlace b) ≡ true) (h : devicesLength ≤ length b) where
+  devices-back : devicesBytes (devicesIn b) ≡ take devicesLength b
+  unfolding devicesBytes devicesIn
+  devices-back =
+      let l1 : printerLength ≤ length (drop printerPlace b) = simp length-drop (omega arith) in
+      let l2 : cassetteLength ≤ length (drop cassettePlace b) = simp length-drop (omega arith) in
+      let l3 : pendingLength ≤ length (drop pendingPlace b) = simp length-drop (omega arith) in
+      cat (console-back b w e (omega arith))
+      (cat (printer-back (drop printerPlace b) (bytes-drop printerPlace b w) l1)
+      (cat (cassette-back (drop cassettePlace b) (bytes-drop cassettePlace b w) l2) (pending-back (drop pendingPlace b) (bytes-drop pendingPlace b w) l3)))
+      ∙ sym (
+      part-add 0 consoleLength (printerLength + (cassetteLength + pendingLength)) b
+      ∙ ap (λ (r : List ℕ). part 0 consoleLength b ++ r)
+      (part-add printerPlace printerLength (cassetteLength + pendingLength) b ∙ ap (λ (r : List ℕ). part printerPlace printerLength b ++ r) (part-add cassettePlace cassetteLength pendingLength b))
+      )
 
 module _ (b : List ℕ) (w : Bytes b) (e : stands b ≡ true) (h : roomsPlace ≤ length b) where
   -- the head of a longer list of bytes
@@ -200,20 +234,14 @@ module _ (b : List ℕ) (w : Bytes b) (e : stands b ≡ true) (h : roomsPlace �
   head-back =
       let t0 = portStands b in
       let t1 = portStands (drop (portPlace 1) b) in
-      let t2 = consoleStands (drop (devicesPlace + consolePlace) b) in
+      let t2 = consoleStands (drop consolePlace (drop devicesPlace b)) in
       let e1 = and-right t0 (and t1 t2) e in
       let l1 : portLength ≤ length (drop (portPlace 1) b) = simp length-drop (omega arith) in
-      let l2 : consoleLength ≤ length (drop (devicesPlace + consolePlace) b) = simp length-drop (omega arith) in
-      let l3 : printerLength ≤ length (drop (devicesPlace + printerPlace) b) = simp length-drop (omega arith) in
+      let l2 : devicesLength ≤ length (drop devicesPlace b) = simp length-drop (omega arith) in
       cat (port-back b w (and-left t0 (and t1 t2) e) (omega arith))
       (cat (port-back (drop (portPlace 1) b) (bytes-drop (portPlace 1) b w) (and-left t1 t2 e1) l1)
-      (cat (console-back (drop (devicesPlace + consolePlace) b) (bytes-drop (devicesPlace + consolePlace) b w) (and-right t1 t2 e1) l2)
-      (printer-back (drop (devicesPlace + printerPlace) b) (bytes-drop (devicesPlace + printerPlace) b w) l3)))
-      ∙ sym (
-      part-add 0 portLength (portLength + devicesLength) b
-      ∙ ap (λ (r : List ℕ). part 0 portLength b ++ r)
-      (part-add portLength portLength devicesLength b ∙ ap (λ (r : List ℕ). part portLength portLength b ++ r) (part-add devicesPlace consoleLength printerLength b))
-      )
+      (devices-back (drop devicesPlace b) (bytes-drop devicesPlace b w) (and-right t1 t2 e1) l2))
+      ∙ sym (part-add 0 portLength (portLength + devicesLength) b ∙ ap (λ (r : List ℕ). part 0 portLength b ++ r) (part-add portLength portLength devicesLength b))
 
   -- two states that stand are two sticks: from the stick the bytes come back
   pub write-read : length b ≡ roomsPlace → headOf (stickIn b) ≡ b

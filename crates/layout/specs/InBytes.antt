@@ -9,6 +9,7 @@ use Rattle.blocks.specs.declared.Phase.{Phase}
 use Rattle.blocks.specs.declared.Phase.the-variants.{Gathering, Ready, Running, Replying}
 use Rattle.editor.specs.declared.ReadColumn.{ReadColumn}
 use Rattle.editor.specs.declared.ReadColumn.the-variants.{Dropped, At}
+use Rattle.layout.specs.Places.{pendingLength}
 use Rattle.layout.specs.Stick.{Stick}
 use Rattle.layout.specs.Layout.{byteAt}
 
@@ -28,16 +29,18 @@ abbrev pub ReadingInBytes : ReadColumn → Type 0
 ReadingInBytes Dropped = Unit
 ReadingInBytes (At column) = column < 255
 
--- the numbers of a stick go into their bytes, and its tables have eight blocks
+-- the numbers of a stick go into their bytes, its tables have eight blocks, and its pending characters 128 bytes
 pub record InBytes (s : Stick) : Type 0 where
   pub phase0 : PhaseInBytes (s .port0 .phase)
   pub phase1 : PhaseInBytes (s .port1 .phase)
-  pub row : s .console .row < 256
-  pub reading : ReadingInBytes (s .console .reading)
+  pub row : s .devices .console .row < 256
+  pub reading : ReadingInBytes (s .devices .console .reading)
   pub table0 : length (s .port0 .table .blocks) ≡ 8
   pub table1 : length (s .port1 .table .blocks) ≡ 8
+  pub pending : length (s .devices .pending) ≡ pendingLength
 
--- what the types of its numbers say of a stick: a field's length has two bytes, a table eight blocks
+-- what the types of its numbers say of a stick: a field's length has two bytes, a table eight blocks; the pending characters
+-- are 128 bytes of the state
 abbrev pub LengthTyped : Phase → Type 0
 LengthTyped (Gathering g) = g .length < 65536
 LengthTyped (Ready h) = Unit
@@ -49,3 +52,4 @@ pub record Typed (s : Stick) : Type 0 where
   pub length1 : LengthTyped (s .port1 .phase)
   pub table0 : length (s .port0 .table .blocks) ≡ 8
   pub table1 : length (s .port1 .table .blocks) ≡ 8
+  pub pending : length (s .devices .pending) ≡ pendingLength

@@ -4,10 +4,10 @@
 use mathlib.Core.List.{List, [], _∷_, _++_}
 use Prim.Native.Nat.{ℕ, zero, suc, _+_, _*_, _/_, _%_}
 use lib.Dec.{eqb}
-use lib.ListN.{getD, drop}
+use lib.ListN.{getD, take, drop, replicate}
 use Rattle.base.specs.Choice.{pick}
 use Rattle.blocks.specs.declared.Device.{Device}
-use Rattle.blocks.specs.declared.Device.the-variants.{E, S, K, P}
+use Rattle.blocks.specs.declared.Device.the-variants.{E, S, K, P, C}
 use Rattle.blocks.specs.declared.BlockState.{BlockState}
 use Rattle.blocks.specs.declared.BlockState.the-variants.{Closed, Open}
 use Rattle.blocks.specs.declared.ControlBlock.{ControlBlock}
@@ -29,8 +29,9 @@ use Rattle.editor.specs.declared.ReadColumn.{ReadColumn}
 use Rattle.editor.specs.declared.ReadColumn.the-variants.{Dropped, At}
 use Rattle.console.specs.declared.state.Console.{Console}
 use Rattle.printer.specs.declared.Printer.{Printer}
-use Rattle.layout.specs.Places.{phaseLength, blockLength, devicesPlace, consolePlace, printerPlace, roomsPlace, portPlace}
-use Rattle.layout.specs.Stick.{Stick, Lent, lent}
+use Rattle.cassette.specs.declared.Cassette.{Cassette}
+use Rattle.layout.specs.Places.{phaseLength, blockLength, devicesPlace, consolePlace, printerPlace, cassettePlace, pendingPlace, pendingLength, roomsPlace, portPlace}
+use Rattle.layout.specs.Stick.{Devices, devices, Stick, stick, Lent, lent}
 
 -- of a number its low byte and its high byte
 abbrev pub lowByte : ℕ → ℕ
@@ -39,12 +40,13 @@ lowByte n = n % 256
 abbrev pub highByte : ℕ → ℕ
 highByte n = n / 256
 
--- 1 E, 2 S, 3 K, 4 P
+-- 1 E, 2 S, 3 K, 4 P, 5 C
 abbrev pub deviceNumber : Device → ℕ
 deviceNumber E = 1
 deviceNumber S = 2
 deviceNumber K = 3
 deviceNumber P = 4
+deviceNumber C = 5
 
 -- get one, characters, record: 0, 1, 2; put one, characters, record: 3, 4, 5
 abbrev pub wayNumber : Way → ℕ
@@ -113,16 +115,27 @@ consoleBytes c =
 unfoldable pub printerBytes : Printer → List ℕ
 printerBytes p = lowByte (p .used) ∷ highByte (p .used) ∷ []
 
+-- how the tape is open, the record that holds or takes the next character, and the place in it or the number pending
+unfoldable pub cassetteBytes : Cassette → List ℕ
+cassetteBytes c = c .mark ∷ c .«record» ∷ c .place ∷ []
+
+-- the pending characters have 128 bytes
+unfoldable pub pendingBytes : List ℕ → List ℕ
+pendingBytes pending = take pendingLength (pending ++ replicate pendingLength 0)
+
+unfoldable pub devicesBytes : Devices → List ℕ
+devicesBytes d = consoleBytes (d .console) ++ (printerBytes (d .printer) ++ (cassetteBytes (d .cassette) ++ pendingBytes (d .pending)))
+
 -- the head of a stick
 unfoldable pub headOf : Stick → List ℕ
-headOf s = portBytes (s .port0) ++ (portBytes (s .port1) ++ (consoleBytes (s .console) ++ printerBytes (s .printer)))
+headOf s = portBytes (s .port0) ++ (portBytes (s .port1) ++ devicesBytes (s .devices))
 
 -- And back: what the bytes say. Each of these looks at its own bytes only, from the first byte of the list on.
 abbrev pub byteAt : List ℕ → ℕ → ℕ
 byteAt bytes place = getD bytes place 0
 
 unfoldable pub deviceIn : ℕ → Device
-deviceIn n = pick (eqb n 1) E (pick (eqb n 2) S (pick (eqb n 3) K P))
+deviceIn n = pick (eqb n 1) E (pick (eqb n 2) S (pick (eqb n 3) K (pick (eqb n 4) P C)))
 
 unfoldable pub kindIn : ℕ → Kind
 kindIn n =
@@ -194,16 +207,20 @@ consoleIn b =
 abbrev pub printerIn : List ℕ → Printer
 printerIn b = record { used = wordAt b 0 }
 
+abbrev pub cassetteIn : List ℕ → Cassette
+cassetteIn b = record { mark = byteAt b 0; «record» = byteAt b 1; place = byteAt b 2 }
+
+abbrev pub pendingIn : List ℕ → List ℕ
+pendingIn b = take pendingLength b
+
+-- of a list that begins with the devices' numbers
+unfoldable pub devicesIn : List ℕ → Devices
+devicesIn b = devices (consoleIn (drop consolePlace b)) (printerIn (drop printerPlace b)) (cassetteIn (drop cassettePlace b)) (pendingIn (drop pendingPlace b))
+
 -- the stick that the bytes stand for, if they stand for one
 unfoldable pub stickIn : List ℕ → Stick
-stickIn b =
-    record {
-      port0 = portIn (drop (portPlace 0) b);
-      port1 = portIn (drop (portPlace 1) b);
-      console = consoleIn (drop (devicesPlace + consolePlace) b);
-      printer = printerIn (drop (devicesPlace + printerPlace) b);
-    }
+stickIn b = stick (portIn (drop (portPlace 0) b)) (portIn (drop (portPlace 1) b)) (devicesIn (drop devicesPlace b))
 
 -- and what is lent with it: the rooms follow the head
-abbrev pub lentIn : (state area screen paper : List ℕ) → Lent
-lentIn state area screen paper = lent (drop roomsPlace state) area screen paper
+abbrev pub lentIn : (state area screen paper tape : List ℕ) → Lent
+lentIn state area screen paper tape = lent (drop roomsPlace state) area screen paper tape

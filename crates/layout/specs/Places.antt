@@ -36,8 +36,21 @@ printerPlace = consolePlace + consoleLength
 abbrev pub printerLength : ℕ
 printerLength = 2
 
+abbrev pub cassettePlace : ℕ
+cassettePlace = printerPlace + printerLength
+
+abbrev pub cassetteLength : ℕ
+cassetteLength = 3
+
+-- behind the cassette's numbers its pending characters
+abbrev pub pendingPlace : ℕ
+pendingPlace = cassettePlace + cassetteLength
+
+abbrev pub pendingLength : ℕ
+pendingLength = 128
+
 abbrev pub devicesLength : ℕ
-devicesLength = printerPlace + printerLength
+devicesLength = pendingPlace + pendingLength
 
 abbrev pub roomsPlace : ℕ
 roomsPlace = devicesPlace + devicesLength
@@ -63,6 +76,10 @@ roomPlace port = roomsPlace + roomLength * port
 
 abbrev pub areaPlace : (port : ℕ) → ℕ
 areaPlace port = areaLength * port
+
+-- a list that has all the devices' numbers
+pub record Numbers (numbers : List ℕ) : Type 0 where
+  pub long : devicesLength ≤ length numbers
 
 -- a list that has a head
 pub record Headed (state : List ℕ) : Type 0 where

@@ -1,37 +1,55 @@
 -- The stick's state by value: what the bytes of a lent state stand for; and what else a call is lent. Document 01, "What the stick
--- holds": two ports, the console and the printer.
+-- holds": two ports, the console and the printer; and the cassette of document 02.
 -- Assumes nothing.
 use mathlib.Core.List.{List, _++_}
 use Prim.Native.Nat.{ℕ}
 use lib.Dec.{eqb}
-use lib.ListN.{take, drop}
+use lib.ListN.{take, drop, replicate}
 use Rattle.base.specs.Choice.{pick}
 use Rattle.console.specs.declared.state.Console.{Console}
 use Rattle.console.specs.Group.{freshConsole}
 use Rattle.printer.specs.declared.Printer.{Printer}
 use Rattle.printer.specs.Printer.{freshPrinter}
+use Rattle.cassette.specs.declared.Cassette.{Cassette}
+use Rattle.cassette.specs.Cassette.{freshCassette}
+use Rattle.layout.specs.Places.{pendingLength}
 use Rattle.blocks.specs.declared.Table.{Table}
 use Rattle.blocks.specs.declared.Phase.{Phase}
 use Rattle.blocks.specs.declared.Port.{Port}
 use Rattle.blocks.specs.Blocks.{freshPort}
 
+-- the devices' numbers, and the cassette's pending characters
+pub record Devices : Type 0 where
+  pub console : Console
+  pub printer : Printer
+  pub cassette : Cassette
+  pub pending : List ℕ
+
+abbrev pub devices : Console → Printer → Cassette → (pending : List ℕ) → Devices
+devices console printer cassette pending = record { console = console; printer = printer; cassette = cassette; pending = pending }
+
 pub record Stick : Type 0 where
   pub port0 : Port
   pub port1 : Port
-  pub console : Console
-  pub printer : Printer
+  pub devices : Devices
+
+abbrev pub stick : Port → Port → Devices → Stick
+stick port0 port1 devices = record { port0 = port0; port1 = port1; devices = devices }
 
 -- "Fresh: both ports gathering with no byte taken, no group held, blocks closed, .. paper used 0 .., no key, shift lock, inverse
--- off, last character 0"
+-- off, last character 0"; and no tape open, nothing pending
+abbrev pub freshDevices : Devices
+freshDevices = devices freshConsole freshPrinter freshCassette (replicate pendingLength 0)
+
 abbrev pub freshStick : Stick
-freshStick = record { port0 = freshPort; port1 = freshPort; console = freshConsole; printer = freshPrinter }
+freshStick = stick freshPort freshPort freshDevices
 
--- the stick with another console, with another printer
+-- the stick with other devices, and with another console
+abbrev pub withDevices : Devices → Stick → Stick
+withDevices d s = stick (s .port0) (s .port1) d
+
 abbrev pub withConsole : Console → Stick → Stick
-withConsole console s = record { port0 = s .port0; port1 = s .port1; console = console; printer = s .printer }
-
-abbrev pub withPrinter : Printer → Stick → Stick
-withPrinter printer s = record { port0 = s .port0; port1 = s .port1; console = s .console; printer = printer }
+withConsole console s = withDevices (devices console (s .devices .printer) (s .devices .cassette) (s .devices .pending)) s
 
 -- port 0 or port 1
 abbrev pub portAt : ℕ → Stick → Port
@@ -41,10 +59,10 @@ abbrev pub otherAt : ℕ → Stick → Port
 otherAt port s = pick (eqb port 0) (s .port1) (s .port0)
 
 abbrev pub withPort0 : Port → Stick → Stick
-withPort0 p s = record { port0 = p; port1 = s .port1; console = s .console; printer = s .printer }
+withPort0 p s = stick p (s .port1) (s .devices)
 
 abbrev pub withPort1 : Port → Stick → Stick
-withPort1 p s = record { port0 = s .port0; port1 = p; console = s .console; printer = s .printer }
+withPort1 p s = stick (s .port0) p (s .devices)
 
 abbrev pub withPort : ℕ → Port → Stick → Stick
 withPort port p s = pick (eqb port 0) (withPort0 p s) (withPort1 p s)
@@ -62,9 +80,10 @@ pub record Lent : Type 0 where
   pub area : List ℕ
   pub screen : List ℕ
   pub paper : List ℕ
+  pub tape : List ℕ
 
-abbrev pub lent : (rooms area screen paper : List ℕ) → Lent
-lent rooms area screen paper = record { rooms = rooms; area = area; screen = screen; paper = paper }
+abbrev pub lent : (rooms area screen paper tape : List ℕ) → Lent
+lent rooms area screen paper tape = record { rooms = rooms; area = area; screen = screen; paper = paper; tape = tape }
 
 -- a port's own part of a lent buffer: the first n bytes are port 0's, the others port 1's
 abbrev pub partAt : (n port : ℕ) → List ℕ → List ℕ

@@ -3,7 +3,7 @@
 ghost use mathlib.Core.Path.{_≡_};
 ghost use Rattle.blocks.specs.Opening.{areaLength};
 ghost use Rattle.wire.specs.Messages.{roomLength};
-ghost use Rattle.layout.specs.Places.{phaseLength, blockLength, tableLength, portLength, devicesPlace, consolePlace, printerPlace, devicesLength, roomsPlace, stateLength};
+ghost use Rattle.layout.specs.Places.{phaseLength, blockLength, tableLength, portLength, devicesPlace, consolePlace, printerPlace, cassettePlace, pendingPlace, pendingLength, devicesLength, roomsPlace, stateLength};
 
 pub const PHASE: usize = 11;
 
@@ -14,12 +14,18 @@ pub const TABLE: usize = 8 * BLOCK;
 pub const PORT: usize = PHASE + TABLE;
 
 pub const DEVICES: usize = 2 * PORT;
-// The console's and the printer's place in the devices' numbers, and the length of these.
+// Each device's place in the devices' numbers, and the length of these.
 pub const CONSOLE: usize = 0;
 
 pub const PRINTER: usize = CONSOLE + 10;
 
-pub const NUMBERS: usize = PRINTER + 2;
+pub const CASSETTE: usize = PRINTER + 2;
+// The cassette's pending characters.
+pub const PENDING: usize = CASSETTE + 3;
+
+pub const PENDED: usize = records::CHARACTERS as usize;
+
+pub const NUMBERS: usize = PENDING + PENDED;
 
 pub const ROOMS: usize = DEVICES + NUMBERS;
 
@@ -38,6 +44,9 @@ struct Places {
     devices: usize,
     console: usize,
     printer: usize,
+    cassette: usize,
+    pending: usize,
+    pended: usize,
     numbers: usize,
     rooms: usize,
     room: usize,
@@ -46,7 +55,7 @@ struct Places {
 }
 
 fn agree() -> Places
-    ensures { λ r. ⌜ r ≡ record { phase = phaseLength; block = blockLength; table = tableLength; port = portLength; devices = devicesPlace; console = consolePlace; printer = printerPlace; numbers = devicesLength; rooms = roomsPlace; room = roomLength; state = stateLength; area = areaLength } ⌝ }
+    ensures { λ r. ⌜ r ≡ record { phase = phaseLength; block = blockLength; table = tableLength; port = portLength; devices = devicesPlace; console = consolePlace; printer = printerPlace; cassette = cassettePlace; pending = pendingPlace; pended = pendingLength; numbers = devicesLength; rooms = roomsPlace; room = roomLength; state = stateLength; area = areaLength } ⌝ }
 {
     Places {
         phase: PHASE,
@@ -56,6 +65,9 @@ fn agree() -> Places
         devices: DEVICES,
         console: CONSOLE,
         printer: PRINTER,
+        cassette: CASSETTE,
+        pending: PENDING,
+        pended: PENDED,
         numbers: NUMBERS,
         rooms: ROOMS,
         room: ROOM,

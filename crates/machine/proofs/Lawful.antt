@@ -1,12 +1,10 @@
 -- The machine of document 01 meets the laws.
 -- Assumes nothing.
 use mathlib.Core.Path.{_≡_, refl, sym, _∙_, ap, subst}
-use mathlib.Core.Logic.{_↔_}
-use mathlib.Core.Bool.{true, true≢false}
+use mathlib.Core.Bool.{true}
 use mathlib.Core.Option.{some}
 use mathlib.Core.List.{List, []}
 use Prim.Native.Nat.{ℕ, zero, suc}
-use native.Mathlib.Omega.{arith}
 use lib.ListN.{length}
 use Rattle.handler.specs.declared.Asked.{Asked}
 use Rattle.handler.specs.Acts.{Acts}
@@ -23,8 +21,9 @@ use Rattle.devices.specs.declared.Group.{Group}
 use Rattle.devices.specs.declared.Group.the-variants as groups
 use Rattle.devices.specs.declared.Owner.{Owner}
 use Rattle.devices.specs.declared.Owner.the-variants as owner
-use Rattle.devices.specs.Groups.{Groups, Part, getGroup, putGroup, groupNumber, clash, ownerOf, groupIn, groupOf, ownActs, deviceActs}
+use Rattle.devices.specs.Groups.{Groups, Part, getGroup, putGroup, ownerOf, groupIn, groupOf, ownActs, deviceActs}
 use Rattle.devices.specs.Fit.{FitGroups, FitPart}
+use Rattle.devices.specs.Marks.{marksFit}
 use Rattle.devices.proofs.Frame.{get-put, put-put, get-apart, put-apart, clash-swap}
 use Rattle.plan.specs.declared.Errand.the-variants as errand
 use Rattle.plan.specs.declared.Job.{Job}
@@ -40,32 +39,19 @@ use Rattle.alone.specs.Alone as request
 use Rattle.alone.proofs.Fit.{fit-part, fit-put}
 use Rattle.alone.proofs.Keeps.{FitAlone, alone-keeps}
 use Rattle.alone.proofs.AloneIs as alone
-use Rattle.serial.specs.Machine.{PortName, port-0, port-1, Two, at, set, ends, finishOut}
+use Rattle.serial.specs.Machine.{PortName, port-0, port-1, Two, at, set, other, ends, finishOut}
 use Rattle.serial.specs.Laws.{Laws, OkOut}
+use Rattle.rules.proofs.Marks.{markIn, marks-swap, job-marks, move-mark}
 use Rattle.rules.proofs.RequestKeeps.{FitJob, FitPlan, plan-fit, FitOut, FitBegun, job-keeps, move-keeps}
 use Rattle.machine.specs.Spells.{none-taken}
 use Rattle.machine.specs.Real.{actsIn, replyBy, outBy, StepOn, needBy, errandStep, begunStep, jobStep, planStep, startBy, wentBy, moveBy, aloneBy, pressedOn, FitAll, UsedIn, FitRunning, real}
 use Rattle.machine.proofs.Spelling.{more-is, full-is, not-whole, decides, prefix-free}
 
--- two groups clash exactly when they are the same, and not "no group"
-apart-groups : (g h : Group) → (groupNumber g ≡ groupNumber h → ⊥) → g ≡ h → ⊥
-apart-groups g h n e = n (ap groupNumber e)
-
-pub clash-is : (g h : Group) → (clash g h ≡ true) ↔ ((g ≡ h) × (g ≡ groups.Nobody → ⊥))
-clash-is groups.Nobody groups.Nobody = (λ e. absurd (true≢false (sym e)), λ p. absurd (p .1 refl))
-clash-is groups.Nobody groups.Console = (λ e. absurd (true≢false (sym e)), λ p. absurd (p .1 refl))
-clash-is groups.Nobody groups.Printer = (λ e. absurd (true≢false (sym e)), λ p. absurd (p .1 refl))
-clash-is groups.Console groups.Nobody = (λ e. absurd (true≢false (sym e)), λ p. absurd (apart-groups groups.Console groups.Nobody (λ e. omega (arith, e)) (p .0)))
-clash-is groups.Console groups.Console = (λ e. (refl, apart-groups groups.Console groups.Nobody (λ e. omega (arith, e))), λ p. refl)
-clash-is groups.Console groups.Printer = (λ e. absurd (true≢false (sym e)), λ p. absurd (apart-groups groups.Console groups.Printer (λ e. omega (arith, e)) (p .0)))
-clash-is groups.Printer groups.Nobody = (λ e. absurd (true≢false (sym e)), λ p. absurd (apart-groups groups.Printer groups.Nobody (λ e. omega (arith, e)) (p .0)))
-clash-is groups.Printer groups.Console = (λ e. absurd (true≢false (sym e)), λ p. absurd (apart-groups groups.Printer groups.Console (λ e. omega (arith, e)) (p .0)))
-clash-is groups.Printer groups.Printer = (λ e. (refl, apart-groups groups.Printer groups.Nobody (λ e. omega (arith, e))), λ p. refl)
-
 -- a handler over its own group
 acts-own : (o : Owner) → actsIn (groupIn o) o ≡ ownActs o
 acts-own (owner.Console h) = refl
 acts-own owner.Printer = refl
+acts-own owner.Cassette = refl
 
 pub own-acts : (device : Device) → actsIn (groupOf device) (ownerOf device) ≡ deviceActs device
 own-acts device = acts-own (ownerOf device)
@@ -73,19 +59,35 @@ own-acts device = acts-own (ownerOf device)
 pub used-own : (o : Owner) (x : Part (groupIn o)) → UsedIn (groupIn o) o x → UsedBy o x
 used-own (owner.Console h) x u = u
 used-own owner.Printer x u = tt
+used-own owner.Cassette x u = tt
 
 own-used : (o : Owner) (x : Part (groupIn o)) → UsedBy o x → UsedIn (groupIn o) o x
 own-used (owner.Console h) x u = u
 own-used owner.Printer x u = tt
+own-used owner.Cassette x u = tt
 
 -- what is not damaged
 pub fit-at : (p : PortName) (t : Two Local) (s : Groups) → FitAll t s → FitLocal (at p t)
 fit-at port-0 t s f = f .zeroth
 fit-at port-1 t s f = f .first
 
-fit-set : (p : PortName) (g : Group) (l : Local) (x : Part g) (t : Two Local) (s : Groups) → FitAll t s → FitLocal l → FitPart g x → FitAll (set p l t) (putGroup g s x)
-fit-set port-0 g l x t s f o h = record { zeroth = o; first = f .first; groups = fit-put g s x (f .groups) h }
-fit-set port-1 g l x t s f o h = record { zeroth = f .zeroth; first = o; groups = fit-put g s x (f .groups) h }
+-- the blocks that have C open are at one with the mark, whichever port's come first
+marks-at : (p : PortName) (t : Two Local) (s : Groups) → FitAll t s → marksFit (markIn s) (at p t .table) (at (other p) t .table) ≡ true
+marks-at port-0 t s f = f .marks
+marks-at port-1 t s f = marks-swap (markIn s) (t .zeroth .table) (t .first .table) (f .marks)
+
+-- a port's data and a group, which leave them so
+abbrev KeepsMarks : (g : Group) → Local → Part g → (before : Local) → Groups → Type 0
+KeepsMarks g l x before s = (u : Table) → marksFit (markIn s) (before .table) u ≡ true → marksFit (markIn (putGroup g s x)) (l .table) u ≡ true
+
+fit-set : (p : PortName) (g : Group) (l : Local) (x : Part g) (t : Two Local) (s : Groups) → FitAll t s → FitLocal l → FitPart g x → KeepsMarks g l x (at p t) s → FitAll (set p l t) (putGroup g s x)
+fit-set port-0 g l x t s f o h k = record { zeroth = o; first = f .first; groups = fit-put g s x (f .groups) h; marks = k (t .first .table) (f .marks) }
+fit-set port-1 g l x t s f o h k = record {
+  zeroth = f .zeroth;
+  first = o;
+  groups = fit-put g s x (f .groups) h;
+  marks = marks-swap (markIn (putGroup g s x)) (l .table) (t .zeroth .table) (k (t .zeroth .table) (marks-at port-1 t s f));
+}
 
 abbrev OkStep : PortName → (g : Group) → Two Local → Groups → StepOn g → Type 0
 OkStep p g t d s = FitAll (set p (s .local) t) (putGroup g d (s .dev)) × OkOut real (λ k. FitRunning g k (s .local) (s .dev)) (s .out)
@@ -137,7 +139,8 @@ module _ (p : PortName) (run : Run) (t : Two Local) (d : Groups) (f : FitAll t d
       let w = advanceOf (deviceActs device) (l .number) run (l .area) x in
       let k = move-keeps device (l .number) (l .table) run (r .fit) refl (l .area) x (fit-part g d (f .groups)) (used-own (ownerOf device) x (r .used)) in
       subst (OkStep p g t d) (sym (move-is device run refl l x)) (
-        fit-set p g (withArea (w .area) l) (w .device) t d f (record { area = k .kept ∙ o .area; eight = o .eight; made = o .made }) (k .fits),
+        fit-set p g (withArea (w .area) l) (w .device) t d f (record { area = k .kept ∙ o .area; eight = o .eight; made = o .made }) (k .fits)
+            (λ u m. subst (λ (mark : ℕ). marksFit mark (l .table) u ≡ true) (sym (move-mark device (l .number) run (l .area) d)) m),
         out-fit device (w .out) (withArea (w .area) l) (w .device) (k .out),
       )
 
@@ -183,10 +186,10 @@ module _ (job : Job) (l : Local) (x : Part (groupOf (job .device))) (f : FitPart
       ∙ ap (wentBy after) (alone.in-time (deviceActs (job .device)) (l .number) (begun .out) (l .area) (begun .device) 0 (v .course) _ (j .comes))
       ∙ ap (λ (m : Local). record { local = m; dev = v .device; out = ends (replyBy (v .reply)) }) (local-is v j (v .local .area))
 
-  job-fit : (p : PortName) (t : Two Local) (d : Groups) → FitAll t d → OkStep p mine t d (jobStep mine job l x)
-  job-fit p t d a =
+  job-fit : (p : PortName) (t : Two Local) (d : Groups) → FitAll t d → KeepsMarks mine after (begun .device) (at p t) d → OkStep p mine t d (jobStep mine job l x)
+  job-fit p t d a k =
       subst (OkStep p mine t d) (sym step-is) (
-        fit-set p mine after (begun .device) t d a (record { area = o .area; eight = with-length (l .table) (job .call .iocb) (begun .block) ∙ o .eight; made = begun-fit .made }) (begun-fit .fits),
+        fit-set p mine after (begun .device) t d a (record { area = o .area; eight = with-length (l .table) (job .call .iocb) (begun .block) ∙ o .eight; made = begun-fit .made }) (begun-fit .fits) k,
         out-fit (job .device) (begun .out) after (begun .device) (begun-fit .out),
       )
 
@@ -229,15 +232,20 @@ module _ (l : Local) (o : FitLocal l) (d : Groups) (f : FitGroups d) where
       let g = groupOf (job .device) in
       ap (putGroup g d) (sym (get-put g (aloneOnDevice job l d .device) d))
 
-  module _ (p : PortName) (t : Two Local) (a : FitAll t d) where
+  module _ (p : PortName) (t : Two Local) (a : FitAll t d) (mine-is : at p t .table ≡ l .table) where
+    -- what needs no group leaves the blocks and the tape
+    no-marks : KeepsMarks groups.Nobody l tt (at p t) d
+    no-marks u m = subst (λ (table : Table). marksFit (markIn d) table u ≡ true) mine-is m
+
     plan-fits : (q : Plan) (bytes : List ℕ) → FitPlan q (l .table) → FitAlone (alonePlan q bytes l d)
         → OkStep p (groupNeeded q) t d (planStep (groupNeeded q) q bytes l (getGroup (groupNeeded q) d))
     unfolding planStep alonePlan errandStep aloneErrand
-    plan-fits (plan.Free (errand.Status status b)) bytes q k = (fit-set p groups.Nobody _ tt t d a (k .local) tt, tt)
-    plan-fits (plan.Free (errand.Load address size)) bytes q k = (fit-set p groups.Nobody _ tt t d a (k .local) tt, tt)
-    plan-fits (plan.Free (errand.Fetch address count)) bytes q k = (fit-set p groups.Nobody _ tt t d a (k .local) tt, tt)
-    plan-fits (plan.Free (errand.Bad status)) bytes q k = (fit-set p groups.Nobody _ tt t d a (k .local) tt, tt)
+    plan-fits (plan.Free (errand.Status status b)) bytes q k = (fit-set p groups.Nobody _ tt t d a (k .local) tt no-marks, tt)
+    plan-fits (plan.Free (errand.Load address size)) bytes q k = (fit-set p groups.Nobody _ tt t d a (k .local) tt no-marks, tt)
+    plan-fits (plan.Free (errand.Fetch address count)) bytes q k = (fit-set p groups.Nobody _ tt t d a (k .local) tt no-marks, tt)
+    plan-fits (plan.Free (errand.Bad status)) bytes q k = (fit-set p groups.Nobody _ tt t d a (k .local) tt no-marks, tt)
     plan-fits (plan.On job) bytes q k = let g = groupOf (job .device) in job-fit job l (getGroup g d) (fit-part g d f) o q p t d a
+        (λ u m. job-marks (l .number) job (l .table) u (o .eight) q d (no-marks u m))
 
 -- by the message
 module _ (p : PortName) (m : Said) (t : Two Local) (d : Groups) (f : FitAll t d) where
@@ -253,7 +261,7 @@ module _ (p : PortName) (m : Said) (t : Two Local) (d : Groups) (f : FitAll t d)
   pub start-fit : OkStep p needed t d (startBy needed m asks (getGroup needed d))
   unfolding aloneOf
   start-fit =
-      plan-fits asks (fit-at p t d f) d (f .groups) p t f (planOf (askedOf m) (asks .table) (asks .area)) (bytesOf m) (plan-fit (askedOf m) (asks .table) (asks .area))
+      plan-fits asks (fit-at p t d f) d (f .groups) p t f refl (planOf (askedOf m) (asks .table) (asks .area)) (bytesOf m) (plan-fit (askedOf m) (asks .table) (asks .area))
       (alone-keeps m asks d (fit-at p t d f) (f .groups))
 
   pub alone-is : let s = startBy needed m asks (getGroup needed d) in
@@ -273,7 +281,8 @@ hit-fit code x t d f e =
     record {
       zeroth = f .zeroth;
       first = f .first;
-      groups = record { console = subst FitGroup q (record { fit = press-fit code (d .console .console) (c .fit); whole = c .whole }); printer = f .groups .printer };
+      groups = record { console = subst FitGroup q (record { fit = press-fit code (d .console .console) (c .fit); whole = c .whole }); printer = f .groups .printer; cassette = f .groups .cassette };
+      marks = f .marks;
     }
 
 pub lawful : Laws real

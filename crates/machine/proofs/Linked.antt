@@ -36,6 +36,7 @@ use Rattle.serial.specs.Core as calls
 use Rattle.serial.proofs.Steps as any
 use Rattle.serial.proofs.Follows as follow
 use Rattle.rules.specs.Answers.{FirstAnswers, oneOf}
+use Rattle.rules.specs.Shape.{Shaped}
 use Rattle.rules.proofs.Guards.{fit-of}
 use Rattle.rules.proofs.PortKeeps.{port-of, take-length}
 use Rattle.rules.proofs.Answers.{part-back, fresh-answers, take-answers, take-still, take-most, tick-answers, tick-still, tick-most, give-answers, give-still, give-most, press-answers, press-still, press-most}
@@ -79,7 +80,7 @@ seen-put : (p : PortName) (s : Stick) (l : Lent) → LengthsFit l → (port : bl
     → let n = portNumber p in
     viewOf (record {
       stick = withPort n port (withGroups g s);
-      buffers = lent (withPart roomLength n room (l .rooms)) (withPart areaLength n half (l .area)) (g .console .screen) (g .printer .paper);
+      buffers = lent (withPart roomLength n room (l .rooms)) (withPart areaLength n half (l .area)) (g .console .screen) (g .printer .paper) (g .cassette .tape);
     })
     ≡ record { ports = set p (portSeen n port room half) (viewOf (record { stick = s; buffers = l }) .ports); devs = g }
 seen-put port-0 s l w port room half g h k =
@@ -116,6 +117,10 @@ module _ (s : Stick) (l : Lent) (g : Guarded s l) where
 
   abbrev fit : never.Undamaged s
   fit = never.undamaged-of s l (g .fits)
+
+  -- a table has eight blocks, and the pending characters their places
+  shaped : Undamaged real view → Shaped s
+  shaped u = record { table0 = u .fit .zeroth .eight; table1 = u .fit .first .eight; pending = u .fit .groups .cassette .pending }
 
   -- a port below 2 is not refused
   allowed : (port : ℕ) → ltb port 2 ≡ true → refusalOf s l port ≡ 0
@@ -154,8 +159,8 @@ module _ (s : Stick) (l : Lent) (g : Guarded s l) where
     area-long : length (areaAt n l) ≡ areaLength
     area-long = never.part-length areaLength n (l .area) (g .lengths .area)
 
-    own-phase : phaseFits (own .phase) (own .table) (s .console) ≡ true
-    own-phase = port-of own (s .console) (never.port-fits n s fit) .1
+    own-phase : phaseFits (own .phase) (own .table) (s .devices .console) ≡ true
+    own-phase = port-of own (s .devices .console) (never.port-fits n s fit) .1
 
     take-is : (byte : ℕ) → takeCall s l n byte ≡ takeAt n s l byte
     unfolding takeCall
@@ -173,7 +178,7 @@ module _ (s : Stick) (l : Lent) (g : Guarded s l) where
     room-seen : (port : blocks.Port) (room : List ℕ) → length room ≡ roomLength
         → viewOf (record { stick = withPort n port s; buffers = withRoom n room l }) ≡ record { ports = set p (portSeen n port room (areaAt n l)) (view .ports); devs = groupsAt s l }
     room-seen port room h =
-        ap (λ (area : List ℕ). viewOf (record { stick = withPort n port s; buffers = lent (withPart roomLength n room (l .rooms)) area (l .screen) (l .paper) })) (sym (part-back areaLength n (l .area)))
+        ap (λ (area : List ℕ). viewOf (record { stick = withPort n port s; buffers = lent (withPart roomLength n room (l .rooms)) area (l .screen) (l .paper) (l .tape) })) (sym (part-back areaLength n (l .area)))
         ∙ seen-put p s l (g .lengths) port room (areaAt n l) (groupsAt s l) h area-long
 
     -- take
@@ -182,7 +187,7 @@ module _ (s : Stick) (l : Lent) (g : Guarded s l) where
     take-seen-at byte =
         let t = takePort (own .phase) own (roomAt n l) byte in
         ap (λ (v : View real). record { world = v; answer = answerBy done (t .answer) }) (room-seen (t .port) (t .room) (take-length (own .phase) own (roomAt n l) byte ∙ room-long))
-        ∙ ap (λ (a : Act real). onPort real p a view) (sym (take-seen n (own .table) (roomAt n l) (areaAt n l) room-long (s .console) (groupsAt s l) (own .phase) byte own-phase))
+        ∙ ap (λ (a : Act real). onPort real p a view) (sym (take-seen n (own .table) (roomAt n l) (areaAt n l) room-long (s .devices .console) (groupsAt s l) (own .phase) byte own-phase))
         ∙ ap (λ (q : PortView real). onPort real p (takeAct real (q .phase) byte (q .local) (view .devs)) view) (sym own-seen)
 
     -- give
@@ -191,11 +196,11 @@ module _ (s : Stick) (l : Lent) (g : Guarded s l) where
     give-seen-at =
         let t = givePort (own .phase) own (roomAt n l) in
         ap (λ (rooms : List ℕ). record {
-          world = viewOf (record { stick = withPort n (t .port) s; buffers = lent rooms (l .area) (l .screen) (l .paper) });
+          world = viewOf (record { stick = withPort n (t .port) s; buffers = lent rooms (l .area) (l .screen) (l .paper) (l .tape) });
           answer = answerBy (gave (t .byte)) (t .answer);
         }) (sym (part-back roomLength n (l .rooms)))
         ∙ ap (λ (v : View real). record { world = v; answer = answerBy (gave (t .byte)) (t .answer) }) (room-seen (t .port) (roomAt n l) room-long)
-        ∙ ap (λ (a : Act real). onPort real p a view) (sym (give-seen n (own .table) (roomAt n l) (areaAt n l) room-long (s .console) (groupsAt s l) (own .phase) own-phase))
+        ∙ ap (λ (a : Act real). onPort real p a view) (sym (give-seen n (own .table) (roomAt n l) (areaAt n l) room-long (s .devices .console) (groupsAt s l) (own .phase) own-phase))
         ∙ ap (λ (q : PortView real). onPort real p (giveAct real (q .phase) (q .local) (view .devs)) view) (sym own-seen)
 
     -- tick
@@ -216,7 +221,7 @@ module _ (s : Stick) (l : Lent) (g : Guarded s l) where
           let held = otherAt n s .phase in
           let t = tickPort n (own .phase) (heldOf held) (reachAt n s l) in
           let r = t .reach in
-          let k = never.tick-reach s l fit (g .lengths) n .fit in
+          let k = never.tick-reach s l (shaped u) fit (g .lengths) n .fit in
           ap (λ (v : View real). record { world = v; answer = answerBy done (t .answer) }) (seen-put p s l (g .lengths) (r .port) (r .room) (r .area) (r .groups) (k .room) (k .area))
           ∙ ap (λ (y : Act real). onPort real p y view)
           (sym (tick-seen n (own .table) (roomAt n l) (areaAt n l) (groupsAt s l) room-long own-fit (u .fit .groups) held (roomAt (portNumber (other p)) l) (own .phase) own-ok))
@@ -246,11 +251,11 @@ module _ (s : Stick) (l : Lent) (g : Guarded s l) where
   call-seen u (calls.press code) o = ap (effectSeen done) (press-is code) ∙ press-seen code
 
   -- what a call leaves is sound
-  call-sound : (c : CoreCall real) → OkCall real c → Sound (called c here .world)
-  call-sound (calls.take p byte) o = never.take-keeps s l g (portNumber p) byte o
-  call-sound (calls.tick p) o = never.tick-keeps s l g (portNumber p)
-  call-sound (calls.give p) o = never.give-keeps s l g (portNumber p)
-  call-sound (calls.press code) o = never.press-keeps s l g code
+  call-sound : Undamaged real view → (c : CoreCall real) → OkCall real c → Sound (called c here .world)
+  call-sound u (calls.take p byte) o = never.take-keeps s l (shaped u) g (portNumber p) byte o
+  call-sound u (calls.tick p) o = never.tick-keeps s l (shaped u) g (portNumber p)
+  call-sound u (calls.give p) o = never.give-keeps s l (shaped u) g (portNumber p)
+  call-sound u (calls.press code) o = never.press-keeps s l (shaped u) g code
 
 -- "Numbers 1 to 8 change nothing"
 not-zero : (success : Answer real) → (Refused real success → ⊥) → (n : ℕ) → Refused real (answerBy success n) → n ≡ 0 → ⊥
@@ -299,13 +304,19 @@ module _ (w : World) (b : StartedFresh w) where
         record {
           area = area-long (w .stick) (w .buffers) g p;
           eight = eight;
-          made = port-of started (w .stick .console) (never.port-fits (portNumber p) (w .stick) (fit (w .stick) (w .buffers) g)) .0;
+          made = port-of started (w .stick .devices .console) (never.port-fits (portNumber p) (w .stick) (fit (w .stick) (w .buffers) g)) .0;
         }
 
   fresh-fit : FitAll (locals real (viewOf w)) (viewOf w .devs)
   fresh-fit =
       let g = fresh-sound in
-      record { zeroth = local-fit port-0; first = local-fit port-1; groups = never.groups-fit (w .stick) (w .buffers) (fit (w .stick) (w .buffers) g) (g .lengths) }
+      let u = fit (w .stick) (w .buffers) g in
+      record {
+        zeroth = local-fit port-0;
+        first = local-fit port-1;
+        groups = never.groups-fit (w .stick) (w .buffers) (subst Shaped fresh-stick never.fresh-shaped) u (g .lengths);
+        marks = u .marks;
+      }
 
   pub fresh-begins : Begun real sticks w
   fresh-begins = (b, fresh-fit)
@@ -315,7 +326,7 @@ steps = record {
   begins = λ w b. (fresh-seen w (b .0), fresh-sound w (b .0));
   world-is = λ w g u c o. ap (λ (e : Effect real (View real)). e .world) (call-seen (w .stick) (w .buffers) g u c o);
   answer-is = λ w g u c o. ap (λ (e : Effect real (View real)). e .answer) (call-seen (w .stick) (w .buffers) g u c o);
-  sound = λ w g u c o. call-sound (w .stick) (w .buffers) g c o;
+  sound = λ w g u c o. call-sound (w .stick) (w .buffers) g u c o;
   refused = λ w g u c o r. call-refused (w .stick) (w .buffers) c r;
 }
 
@@ -354,6 +365,10 @@ always-sound = any.always-sound real lawful sticks Sound steps
 -- "eight control blocks (IOCBs 0 to 7)", whatever is called
 pub always-eight : (w : World) → Reached real sticks w → (length (w .stick .port0 .table .blocks) ≡ 8) × (length (w .stick .port1 .table .blocks) ≡ 8)
 always-eight w r = let f = never-damaged w r .fit in (f .zeroth .eight, f .first .eight)
+
+-- and the pending characters their 128 bytes
+pub always-shaped : (w : World) → Reached real sticks w → Shaped (w .stick)
+always-shaped w r = shaped (w .stick) (w .buffers) (always-sound w r) (never-damaged w r)
 
 -- an answer is the number that the call gives
 past-three : (n : ℕ) → (n ≡ 0 → ⊥) → (n ≡ 1 → ⊥) → (n ≡ 2 → ⊥) → (n ≡ 3 → ⊥) → 4 ≤ n

@@ -6,6 +6,7 @@ use Prim.Native.Nat.{ℕ, _*_}
 use lib.Dec.{T, ltb, ltb→lt}
 use lib.ListN.{replicate, length-replicate}
 use Rattle.printer.specs.Printer.{paperLength}
+use Rattle.records.specs.Records.{tapeLength}
 use Rattle.blocks.specs.Opening.{areaLength}
 use Rattle.wire.specs.Messages.{roomLength}
 use Rattle.layout.specs.Stick.{freshStick, Lent, lent}
@@ -22,7 +23,7 @@ use Rattle.machine.specs.Sticks.{World, StartedFresh, viewOf, sticks}
 use Rattle.machine.proofs.Linked.{fresh-seen, fresh-begins}
 
 abbrev pub zeros : Lent
-zeros = lent (replicate (2 * roomLength) 0) (replicate (2 * areaLength) 0) (replicate screenLength 0) (replicate paperLength 0)
+zeros = lent (replicate (2 * roomLength) 0) (replicate (2 * areaLength) 0) (replicate screenLength 0) (replicate paperLength 0) (replicate tapeLength 0)
 
 pub zeros-fit : LengthsFit zeros
 zeros-fit = record {
@@ -30,6 +31,7 @@ zeros-fit = record {
   area = length-replicate {A = ℕ} (2 * areaLength) 0;
   whole = record { all = length-replicate {A = ℕ} screenLength 0 };
   paper = length-replicate {A = ℕ} paperLength 0;
+  tape = length-replicate {A = ℕ} tapeLength 0;
 }
 
 abbrev pub plugged : World

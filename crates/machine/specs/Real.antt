@@ -2,6 +2,7 @@
 -- alone, and what is not damaged.
 -- Assumes nothing.
 use mathlib.Core.Path.{_≡_}
+use mathlib.Core.Bool.{true}
 use mathlib.Core.Option.{some}
 use mathlib.Core.List.{List, [], _∷_}
 use Prim.Native.Nat.{ℕ, _<_}
@@ -12,6 +13,7 @@ use Rattle.handler.specs.declared.Got.the-variants as got
 use Rattle.handler.specs.Answer.{answer}
 use Rattle.handler.specs.Acts.{Acts}
 use Rattle.printer.specs.Printer.{printerActs}
+use Rattle.cassette.specs.Cassette.{cassetteActs}
 use Rattle.console.specs.Group.{ConsoleGroup, group, pressedOf}
 use Rattle.console.specs.Handlers.{consoleActs}
 use Rattle.console.specs.Fit.{InUse}
@@ -24,6 +26,7 @@ use Rattle.devices.specs.declared.Owner.{Owner}
 use Rattle.devices.specs.declared.Owner.the-variants as owner
 use Rattle.devices.specs.Groups.{Groups, Part, getGroup, putGroup, clash, ownerOf, groupOf}
 use Rattle.devices.specs.Fit.{FitGroups}
+use Rattle.devices.specs.Marks.{marksFit}
 use Rattle.plan.specs.declared.Errand.{Errand}
 use Rattle.plan.specs.declared.Errand.the-variants as errand
 use Rattle.plan.specs.declared.Job.{Job}
@@ -56,8 +59,13 @@ abbrev pub actsIn : (g : Group) → Owner → Asked → Acts (Part g)
 actsIn groups.Nobody o asked = noActs
 actsIn groups.Console (owner.Console h) asked = consoleActs h asked
 actsIn groups.Console owner.Printer asked = noActs
+actsIn groups.Console owner.Cassette asked = noActs
 actsIn groups.Printer (owner.Console h) asked = noActs
 actsIn groups.Printer owner.Printer asked = printerActs asked
+actsIn groups.Printer owner.Cassette asked = noActs
+actsIn groups.Cassette (owner.Console h) asked = noActs
+actsIn groups.Cassette owner.Printer asked = noActs
+actsIn groups.Cassette owner.Cassette asked = cassetteActs asked
 
 -- a reply has its first byte, and the rest; none is empty
 abbrev pub replyBy : List ℕ → ReplyBytes ℕ
@@ -114,18 +122,21 @@ aloneBy said l s = let w = aloneOf said l s in record { local = w .local; devs =
 abbrev pub pressedOn : ℕ → ConsoleGroup → ConsoleGroup
 pressedOn code g = group (pressedOf code (g .console)) (g .screen)
 
--- both ports' data with the groups undamaged
+-- both ports' data with the groups undamaged, and the blocks that have C open at one with the cassette's mark
 pub record FitAll (t : Two Local) (s : Groups) : Type 0 where
   pub zeroth : FitLocal (t .zeroth)
   pub first : FitLocal (t .first)
   pub groups : FitGroups s
+  pub marks : marksFit (s .cassette .cassette .mark) (t .zeroth .table) (t .first .table) ≡ true
 
 -- E runs in mode 0, S in another
 abbrev pub UsedIn : (g : Group) → Owner → Part g → Type 0
 UsedIn groups.Nobody o x = Unit {0}
 UsedIn groups.Console (owner.Console h) x = InUse h (x .console)
 UsedIn groups.Console owner.Printer x = Unit {0}
+UsedIn groups.Console owner.Cassette x = Unit {0}
 UsedIn groups.Printer o x = Unit {0}
+UsedIn groups.Cassette o x = Unit {0}
 
 -- none of "a running request whose block, group, mode or buffer does not fit it"
 pub record FitRunning (g : Group) (run : Run) (l : Local) (x : Part g) : Type 0 where

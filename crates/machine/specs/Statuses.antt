@@ -3,7 +3,7 @@
 -- the devices so; a field that is refused has the status of its tag and length; and which group a message needs.
 -- Assumes nothing.
 use mathlib.Core.Path.{_≡_}
-use mathlib.Core.Logic.{_↔_}
+use mathlib.Core.Logic.{_↔_, _⊎_}
 use mathlib.Core.List.{List}
 use Prim.Native.Nat.{ℕ, suc}
 use Rattle.wire.specs.declared.Call.{Call}
@@ -13,12 +13,12 @@ use Rattle.replies.specs.Replies.{statusReply}
 use Rattle.devices.specs.declared.Group.the-variants as group
 use Rattle.devices.specs.Groups.{Groups}
 use Rattle.alone.specs.Alone.{Said, call, load, fetch, bad, Local}
-use Rattle.serial.specs.Machine.{PortName, at, ReplyBytes}
+use Rattle.serial.specs.Machine.{PortName, port-0, port-1, at, ReplyBytes}
 use Rattle.serial.specs.Core.{ready, replying, PortView, phaseAt, localAt, Core}
 use Rattle.serial.specs.Run.{Reached}
 use Rattle.serial.specs.Demand2.{Waits, ticked}
 use Rattle.serial.specs.Demand3.{bytesOf}
-use Rattle.rules.specs.Statuses.{replyStatus, LoadReplies, FetchReplies, CallStatuses, CallReplies, CallBlocks, CallNeeds}
+use Rattle.rules.specs.Statuses.{TapeOpen, HasTapeOpen, replyStatus, LoadReplies, FetchReplies, CallStatuses, CallReplies, CallBlocks, CallNeeds}
 use Rattle.machine.specs.Spells.{Spells}
 use Rattle.machine.specs.Real.{real}
 
@@ -43,6 +43,12 @@ StatusRule C = (w : C .World) → Reached real C w → (p : PortName) (m : Said)
     → let v = C .see w in
     let u = C .see (ticked real C (suc (real .fuel)) p w) in
     RepliesWith m (localAt real p v) (v .devs) (at p (u .ports)) (u .devs)
+
+-- "while any block of either port has C open": in any state that a run reaches the cassette itself says so, as `TapeOpen` reads it
+abbrev pub MarkRule : Core real → Type 0
+MarkRule C = (w : C .World) → Reached real C w
+    → let v = C .see w in
+    TapeOpen (v .devs) ↔ (HasTapeOpen (localAt real port-0 v .table) ⊎ HasTapeOpen (localAt real port-1 v .table))
 
 -- "Unknown tag: reply $FF, length 1, $92. Known tag, wrong length: $FF, length 1, $84."
 pub record FieldRule (tag length : ℕ) (said : Said) : Type 0 where

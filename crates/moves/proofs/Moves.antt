@@ -37,9 +37,9 @@ module _ {D : Type 0} (H : Asked → Acts D) (port : ℕ) (asked : Asked) (way :
   go-put e q = q ∙ rw (e, a)
 
 -- what a move asks of its way
-module _ (run : Run) (way : Way) (numbers screen : List ℕ) (g : Goes run numbers screen) where
-  pub moves-get : run .kind ≡ Get way → Moves way run numbers screen
+module _ (run : Run) (way : Way) (numbers screen tape : List ℕ) (g : Goes run numbers screen tape) where
+  pub moves-get : run .kind ≡ Get way → Moves way run numbers screen tape
   moves-get e = record { spans = subst (λ (k : Kind). Spans (wayIn k) run) e (g .spans); lends = g .lends }
 
-  pub moves-put : run .kind ≡ Put way → Moves way run numbers screen
+  pub moves-put : run .kind ≡ Put way → Moves way run numbers screen tape
   moves-put e = record { spans = subst (λ (k : Kind). Spans (wayIn k) run) e (g .spans); lends = g .lends }

@@ -8,10 +8,10 @@ use Rattle.devices.specs.Lent.{Lends}
 use Rattle.transfer.specs.Spans.{Spans, wayIn}
 
 -- a request that moves this way
-pub record Moves (way : Way) (run : Run) (numbers screen : List ℕ) : Type 0 where
+pub record Moves (way : Way) (run : Run) (numbers screen tape : List ℕ) : Type 0 where
   pub spans : Spans way run
-  pub lends : Lends numbers screen
+  pub lends : Lends numbers screen tape
 
-pub record Goes (run : Run) (numbers screen : List ℕ) : Type 0 where
+pub record Goes (run : Run) (numbers screen tape : List ℕ) : Type 0 where
   pub spans : Spans (wayIn (run .kind)) run
-  pub lends : Lends numbers screen
+  pub lends : Lends numbers screen tape

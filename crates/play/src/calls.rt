@@ -9,16 +9,21 @@ fn perform(
     area: &mut [u8],
     screen: &mut [u8],
     paper: &mut [u8],
+    tape: &mut [u8],
 ) -> u16 {
     match call {
         CallOp::Nothing => 0,
-        CallOp::Fresh => firmware::fixlomand_fresh(state, area, screen, paper) as u16,
+        CallOp::Fresh => firmware::fixlomand_fresh(state, area, screen, paper, tape) as u16,
         CallOp::Take(port, byte) => {
-            firmware::fixlomand_take(state, area, screen, paper, port, byte) as u16
+            firmware::fixlomand_take(state, area, screen, paper, tape, port, byte) as u16
         }
-        CallOp::Tick(port) => firmware::fixlomand_tick(state, area, screen, paper, port) as u16,
-        CallOp::Give(port) => firmware::fixlomand_give(state, area, screen, paper, port),
-        CallOp::Press(code) => firmware::fixlomand_press(state, area, screen, paper, code) as u16,
+        CallOp::Tick(port) => {
+            firmware::fixlomand_tick(state, area, screen, paper, tape, port) as u16
+        }
+        CallOp::Give(port) => firmware::fixlomand_give(state, area, screen, paper, tape, port),
+        CallOp::Press(code) => {
+            firmware::fixlomand_press(state, area, screen, paper, tape, code) as u16
+        }
     }
 }
 
@@ -30,16 +35,19 @@ pub fn perform_cut(
     area: &mut [u8],
     screen: &mut [u8],
     paper: &mut [u8],
+    tape: &mut [u8],
 ) -> u16 {
     let state_end = io::count(lengths.state as isize, state);
     let area_end = io::count(lengths.area as isize, area);
     let screen_end = io::count(lengths.screen as isize, screen);
     let paper_end = io::count(lengths.paper as isize, paper);
+    let tape_end = io::count(lengths.tape as isize, tape);
     perform(
         call,
         &mut state[..state_end],
         &mut area[..area_end],
         &mut screen[..screen_end],
         &mut paper[..paper_end],
+        &mut tape[..tape_end],
     )
 }

@@ -22,6 +22,8 @@ use Rattle.reading.proofs.console.Kinds as console-kinds
 use Rattle.reading.proofs.console.Reads as console-reads
 use Rattle.reading.proofs.printer.Kinds as printer-kinds
 use Rattle.reading.proofs.printer.Reads as printer-reads
+use Rattle.reading.proofs.cassette.Kinds as cassette-kinds
+use Rattle.reading.proofs.cassette.Reads as cassette-reads
 
 pub word-decides : Decides 0 word-kinds.ps word-kinds.r word-reads.Pre word-reads.Learnt
 word-decides κs a z z′ ws ws′ p e e′ = (e ∙ sym e′, refl)
@@ -58,6 +60,12 @@ printer-decides κs a z z′ ws ws′ p e e′ = (e ∙ sym e′, refl)
 
 pub printer-allows : Allows 1 printer-kinds.ps printer-kinds.r printer-reads.Pre printer-reads.Learnt
 printer-allows κs a p = (_, (_, refl))
+
+pub cassette-decides : Decides 1 cassette-kinds.ps cassette-kinds.r cassette-reads.Pre cassette-reads.Learnt
+cassette-decides κs a z z′ ws ws′ p e e′ = (e ∙ sym e′, refl)
+
+pub cassette-allows : Allows 1 cassette-kinds.ps cassette-kinds.r cassette-reads.Pre cassette-reads.Learnt
+cassette-allows κs a p = (_, (_, refl))
 
 pub gather-decides : Decides 1 gather-kinds.ps gather-kinds.r gather-reads.Pre gather-reads.Learnt
 gather-decides κs a z z′ ws ws′ p e e′ = (e ∙ sym e′, refl)

@@ -9,6 +9,7 @@ use blocks::Phase;
 use blocks::Reply;
 use blocks::Run;
 use blocks::Way;
+use cassette::Cassette;
 use console::state::Console;
 use editor::ReadColumn;
 use keys::keyboard::Keyboard;
@@ -17,8 +18,8 @@ ghost use mathlib.Core.Path.{_≡_};
 ghost use Prim.Native.Nat.{_+_, _*_, _≤_};
 ghost use lib.ListN.{length};
 ghost use Rattle.wire.specs.Messages.{wordOf};
-ghost use Rattle.layout.specs.Places.{phaseLength, blockLength, consoleLength, printerLength};
-ghost use Rattle.layout.specs.Layout.{deviceIn, kindIn, blockOf, blockIn, gatherIn, headerIn, runIn, replyIn, phaseIn, readingIn, consoleIn, printerIn};
+ghost use Rattle.layout.specs.Places.{phaseLength, blockLength, consoleLength, printerLength, cassetteLength};
+ghost use Rattle.layout.specs.Layout.{deviceIn, kindIn, blockOf, blockIn, gatherIn, headerIn, runIn, replyIn, phaseIn, readingIn, consoleIn, printerIn, cassetteIn};
 
 // Two bytes as a number, the low one first.
 pub fn word(low: u8, high: u8) -> u16
@@ -46,7 +47,10 @@ fn device(number: u8) -> Device
     if number == 3 {
         return Device::K;
     }
-    Device::P
+    if number == 4 {
+        return Device::P;
+    }
+    Device::C
 }
 
 fn kind(number: u8) -> Kind
@@ -190,5 +194,16 @@ pub fn printer(bytes: &[u8]) -> Printer
 {
     Printer {
         used: word(bytes[0], bytes[1]),
+    }
+}
+
+pub fn cassette(bytes: &[u8]) -> Cassette
+    requires { ⌜ cassetteLength ≤ length (now bytes) ⌝ }
+    ensures { λ r. ⌜ r ≡ cassetteIn (now (bytes .entry)) ⌝ }
+{
+    Cassette {
+        mark: bytes[0],
+        record: bytes[1],
+        place: bytes[2],
     }
 }

@@ -18,13 +18,13 @@ use Rattle.blocks.specs.declared.Phase.the-variants.{Gathering, Ready, Running,
 use Rattle.blocks.specs.declared.Port.{Port}
 use Rattle.blocks.specs.Opening.{areaLength}
 use Rattle.wire.specs.Messages.{roomLength}
-use Rattle.layout.specs.Stick.{Stick, Lent, lent, portAt, otherAt, withPort, partAt, withPart}
+use Rattle.layout.specs.Stick.{Stick, stick, Lent, lent, portAt, otherAt, withPort, partAt, withPart}
 use Rattle.devices.specs.declared.Group.{Group}
 use Rattle.devices.specs.declared.Group.the-variants as groups
 use Rattle.devices.specs.declared.Owner.{Owner}
 use Rattle.devices.specs.declared.Owner.the-variants as owner
 use Rattle.devices.specs.Groups.{clash, ownerOf, groupIn, groupOf, heldOf}
-use Rattle.devices.proofs.Frame.{clash-swap}
+use Rattle.devices.proofs.Frame.{clash-is, clash-none}
 use Rattle.damage.specs.Fits.{stickFits}
 use Rattle.calls.specs.Port.{Reach, Ticked, ticked, readyTick, tickPort, Served, served, takePort, givePort}
 use Rattle.calls.specs.Stick.{Outcome, outcome, refused, lengthsFit, refusalOf, LengthsFit, areaAt, roomAt, withRoom, reachAt, withReach, lentReach}
@@ -163,17 +163,17 @@ part-back n port xs = go (eqb port 0)
     go false = take-append-drop n xs
 
 room-back : (port : ℕ) (l : Lent) → withRoom port (roomAt port l) l ≡ l
-room-back port l = ap (λ (xs : List ℕ). lent xs (l .area) (l .screen) (l .paper)) (part-back roomLength port (l .rooms))
+room-back port l = ap (λ (xs : List ℕ). lent xs (l .area) (l .screen) (l .paper) (l .tape)) (part-back roomLength port (l .rooms))
 
 reach-back : (port : ℕ) (s : Stick) (l : Lent) → lentReach port (reachAt port s l) l ≡ l
 reach-back port s l =
-    ap (λ (xs : List ℕ). lent xs (withPart areaLength port (areaAt port l) (l .area)) (l .screen) (l .paper)) (part-back roomLength port (l .rooms))
-    ∙ ap (λ (xs : List ℕ). lent (l .rooms) xs (l .screen) (l .paper)) (part-back areaLength port (l .area))
+    ap (λ (xs : List ℕ). lent xs (withPart areaLength port (areaAt port l) (l .area)) (l .screen) (l .paper) (l .tape)) (part-back roomLength port (l .rooms))
+    ∙ ap (λ (xs : List ℕ). lent (l .rooms) xs (l .screen) (l .paper) (l .tape)) (part-back areaLength port (l .area))
 
 port-back : (port : ℕ) (s : Stick) → withPort port (portAt port s) s ≡ s
 port-back port s = go (eqb port 0)
   where
-    go : (b : Bool) → pick b (record { port0 = pick b (s .port0) (s .port1); port1 = s .port1; console = s .console; printer = s .printer }) (record { port0 = s .port0; port1 = pick b (s .port0) (s .port1); console = s .console; printer = s .printer }) ≡ s
+    go : (b : Bool) → pick b (stick (pick b (s .port0) (s .port1)) (s .port1) (s .devices)) (stick (s .port0) (pick b (s .port0) (s .port1)) (s .devices)) ≡ s
     go true = refl
     go false = refl
 
@@ -211,27 +211,15 @@ module _ (s : Stick) (l : Lent) (port byte : ℕ) where
       ∙ rw (port-back port s, room-back port l)))
 
 -- a group is held: by a running request on a device of it
-clash-none : (g : Group) → clash g groups.Nobody ≡ false
-clash-none g = clash-swap g groups.Nobody
-
-clash-same : (g h : Group) → clash g h ≡ true → h ≡ g
-clash-same groups.Nobody h e = absurd (never e refl)
-clash-same groups.Console groups.Nobody e = absurd (never e refl)
-clash-same groups.Console groups.Console e = refl
-clash-same groups.Console groups.Printer e = absurd (never e refl)
-clash-same groups.Printer groups.Nobody e = absurd (never e refl)
-clash-same groups.Printer groups.Console e = absurd (never e refl)
-clash-same groups.Printer groups.Printer e = refl
-
--- a device's group is one
 clash-self : (o : Owner) → clash (groupIn o) (groupIn o) ≡ true
 clash-self (owner.Console h) = refl
 clash-self owner.Printer = refl
+clash-self owner.Cassette = refl
 
 pub clash-holds : (g : Group) (phase : Phase) → (clash g (heldOf phase) ≡ true) ↔ Holds phase g
 clash-holds g (Gathering gather) = (λ e. never e (clash-none g), λ w. absurd w)
 clash-holds g (Ready header) = (λ e. never e (clash-none g), λ w. absurd w)
-clash-holds g (Running run) = (clash-same g (groupOf (run .device)), λ w. subst (λ (x : Group). clash x (groupOf (run .device)) ≡ true) w (clash-self (ownerOf (run .device))))
+clash-holds g (Running run) = (λ e. sym (clash-is g (groupOf (run .device)) .0 e .0), λ w. subst (λ (x : Group). clash x (groupOf (run .device)) ≡ true) w (clash-self (ownerOf (run .device))))
 clash-holds g (Replying reply) = (λ e. never e (clash-none g), λ w. absurd w)
 
 -- tick

@@ -16,6 +16,8 @@ use Rattle.blocks.specs.Opening.{areaLength}
 use Rattle.wire.specs.Fits.{gatherFits}
 use Rattle.wire.specs.Messages.{roomLength}
 use Rattle.layout.specs.Stick.{Stick, freshStick, Lent}
+use Rattle.cassette.specs.Fit.{fitsCassette}
+use Rattle.devices.specs.Marks.{marksFit}
 use Rattle.damage.specs.Fits.{phaseFits, portFits, stickFits}
 use Rattle.calls.specs.Stick.{Outcome, outcome, screenLength, lengthsFit, LengthsFit, Guarded}
 use Rattle.calls.specs.Calls.{freshLent, freshCall}
@@ -23,13 +25,13 @@ use Rattle.rules.proofs.Guards.{fit-of}
 
 -- "No state reached from fresh by these calls is damaged": not the fresh one
 pub fresh-undamaged : (l : Lent) → stickFits freshStick l ≡ true
-unfolding stickFits portFits phaseFits gatherFits
+unfolding stickFits portFits phaseFits gatherFits fitsCassette marksFit
 fresh-undamaged l = rw (fresh-group .fit)
 
 module _ (l : Lent) (w : LengthsFit l) where
   -- what it leaves in the lent buffers has their lengths
   pub fresh-lengths : LengthsFit (freshLent l)
-  fresh-lengths = record { rooms = length-replicate {A = ℕ} (2 * roomLength) 0; area = length-replicate {A = ℕ} (2 * areaLength) 0; whole = fresh-group .whole; paper = w .paper }
+  fresh-lengths = record { rooms = length-replicate {A = ℕ} (2 * roomLength) 0; area = length-replicate {A = ℕ} (2 * areaLength) 0; whole = fresh-group .whole; paper = w .paper; tape = w .tape }
 
   -- "fresh start gives 0 or 2 only": from any state, damaged or not
   pub fresh-done : (s : Stick) → freshCall s l ≡ outcome 0 0 freshStick (freshLent l)
@@ -43,6 +45,11 @@ module _ (l : Lent) (w : LengthsFit l) where
 pub fresh-paper : (s : Stick) (l : Lent) → freshCall s l .lent .paper ≡ l .paper
 unfolding freshCall
 fresh-paper s l = choose-go (λ (o : Outcome). o .lent .paper ≡ l .paper) (lengthsFit l) _ _ (λ t. refl) (λ t. refl)
+
+-- and the tape's bytes as lent
+pub fresh-tape : (s : Stick) (l : Lent) → freshCall s l .lent .tape ≡ l .tape
+unfolding freshCall
+fresh-tape s l = choose-go (λ (o : Outcome). o .lent .tape ≡ l .tape) (lengthsFit l) _ _ (λ t. refl) (λ t. refl)
 
 -- "screen as after opening E with cells past 960 zero": E opened over a screen of zeros
 pub fresh-opened : openE (group freshConsole (replicate screenLength 0)) ≡ freshGroup

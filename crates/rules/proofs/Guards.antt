@@ -10,6 +10,7 @@ use borrow.Author.Tests.{eq-eqb, eqb-true}
 use Rattle.base.specs.Choice.{pick, and}
 use Rattle.base.proofs.Choices.{and-left, and-right}
 use Rattle.printer.specs.Printer.{paperLength}
+use Rattle.records.specs.Records.{tapeLength}
 use Rattle.blocks.specs.Opening.{areaLength}
 use Rattle.wire.specs.Messages.{roomLength}
 use Rattle.layout.specs.Stick.{Stick, Lent}
@@ -24,13 +25,16 @@ module _ (l : Lent) where
       let b = eqb (length (l .area)) (2 * areaLength) in
       let c = eqb (length (l .screen)) screenLength in
       let d = eqb (length (l .paper)) paperLength in
-      let e1 = and-right a (and b (and c d)) e in
-      let e2 = and-right b (and c d) e1 in
+      let f = eqb (length (l .tape)) tapeLength in
+      let e1 = and-right a (and b (and c (and d f))) e in
+      let e2 = and-right b (and c (and d f)) e1 in
+      let e3 = and-right c (and d f) e2 in
       record {
-        rooms = eqb-true _ _ (and-left a (and b (and c d)) e);
-        area = eqb-true _ _ (and-left b (and c d) e1);
-        whole = record { all = eqb-true _ _ (and-left c d e2) };
-        paper = eqb-true _ _ (and-right c d e2);
+        rooms = eqb-true _ _ (and-left a (and b (and c (and d f))) e);
+        area = eqb-true _ _ (and-left b (and c (and d f)) e1);
+        whole = record { all = eqb-true _ _ (and-left c (and d f) e2) };
+        paper = eqb-true _ _ (and-left d f e3);
+        tape = eqb-true _ _ (and-right d f e3);
       }
 
   pub fit-of : LengthsFit l → lengthsFit l ≡ true
@@ -41,6 +45,7 @@ module _ (l : Lent) where
         eq-eqb (length (l .area)) (2 * areaLength) (w .area),
         eq-eqb (length (l .screen)) screenLength (w .whole .all),
         eq-eqb (length (l .paper)) paperLength (w .paper),
+        eq-eqb (length (l .tape)) tapeLength (w .tape),
       )
 
 picked : (a b c : Bool) → _≡_ {A = ℕ} (pick a (pick b (pick c 0 1) 3) 2) 0 → (a ≡ true) × (b ≡ true)

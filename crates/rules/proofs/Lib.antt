@@ -2,9 +2,11 @@ pub mod Guards
 pub mod Statuses
 pub mod Refusals
 pub mod RequestKeeps
+pub mod Marks
 pub mod PortKeeps
 pub mod NeverDamaged
 pub mod Answers
 pub mod Ports
 pub mod Waits
 pub mod FreshStart
+pub mod ReadBack

@@ -17,7 +17,7 @@ use Rattle.console.proofs.Keeps.{fits-of, picture-mode}
 use Rattle.blocks.specs.declared.BlockState.{BlockState}
 use Rattle.blocks.specs.declared.BlockState.the-variants as block
 use Rattle.blocks.specs.declared.Device.{Device}
-use Rattle.blocks.specs.declared.Device.the-variants.{E, S, K, P}
+use Rattle.blocks.specs.declared.Device.the-variants.{E, S, K, P, C}
 use Rattle.blocks.specs.declared.Header.{Header}
 use Rattle.blocks.specs.declared.Kind.{Kind}
 use Rattle.blocks.specs.declared.Kind.the-variants.{Get, Put}
@@ -29,6 +29,7 @@ use Rattle.blocks.specs.declared.Table.{Table}
 use Rattle.blocks.specs.Blocks.{blockAt, withBlock}
 use Rattle.blocks.specs.Opening.{letterOf, areaLength}
 use Rattle.blocks.specs.Made.{tableMade}
+use Rattle.blocks.proofs.Keeps.{with-length}
 use Rattle.wire.specs.Messages.{messageOf, roomLength}
 use Rattle.wire.specs.Messages as wire
 use Rattle.wire.specs.Giving as giving
@@ -40,6 +41,7 @@ use Rattle.devices.specs.declared.Group.{Group}
 use Rattle.devices.specs.declared.Group.the-variants as group
 use Rattle.devices.specs.Groups.{Groups, Part, getGroup, putGroup, clash, ownerOf, groupOf, heldOf, deviceActs}
 use Rattle.devices.specs.Fit.{FitGroups, FitPart}
+use Rattle.devices.specs.Marks.{marksFit}
 use Rattle.devices.proofs.Frame.{get-apart, clash-swap}
 use Rattle.plan.specs.declared.Plan.{Plan}
 use Rattle.plan.specs.declared.Plan.the-variants as plan
@@ -51,6 +53,7 @@ use Rattle.calls.specs.Port.{portWith, Reach, reach, startPlan, moveRun, Ticked
 use Rattle.alone.specs.Fit.{UsedBy}
 use Rattle.alone.proofs.Fit.{fit-part, fit-put}
 use Rattle.rules.specs.Running.{Allowed, OpenFor, FitRun}
+use Rattle.rules.proofs.Marks.{markIn, job-marks, move-mark}
 use Rattle.rules.proofs.RequestKeeps.{FitPlan, plan-fit, FitOut, job-keeps, move-keeps, RepliesFit, errand-keeps, landed-length}
 
 both : (a b : Bool) → a ≡ true → b ≡ true → and a b ≡ true
@@ -121,12 +124,14 @@ use-of S s f e =
     picture-mode (c .mode) (fits-of c (f .console .fit) .mode) (λ z. omega (arith, z, ltb-true 0 (c .mode) e))
 use-of K s f e = tt
 use-of P s f e = tt
+use-of C s f e = tt
 
 of-use : (d : Device) (s : Groups) (x : Part (groupOf d)) → UsedBy (ownerOf d) x → inUse d (putGroup (groupOf d) s x .console .console .mode) ≡ true
 of-use E s x u = eq-eqb (x .console .mode) 0 u
 of-use S s x u = let m = x .console .mode in lt-ltb 0 m (omega (arith, leb-true 3 m (and-left (leb 3 m) (leb m 8) u)))
 of-use K s x u = refl
 of-use P s x u = refl
+of-use C s x u = refl
 
 -- a port that is not ticked: its running request fits as before where the console that it holds is left in its mode
 use-same : (device : Device) (mode after : ℕ) → (groupOf device ≡ group.Console → after ≡ mode) → inUse device mode ≡ true → inUse device after ≡ true
@@ -134,6 +139,7 @@ use-same E mode after s e = rw (s refl) e
 use-same S mode after s e = rw (s refl) e
 use-same K mode after s e = refl
 use-same P mode after s e = refl
+use-same C mode after s e = refl
 
 phase-same : (phase : Phase) (table : Table) (console after : Console) → (heldOf phase ≡ group.Console → after .mode ≡ console .mode) → phaseFits phase table console ≡ true → phaseFits phase table after ≡ true
 unfolding phaseFits
@@ -176,15 +182,18 @@ replies-apart (Replying reply) held f = refl
 -- all that a port's tick reaches fits
 pub record FitReach (r : Reach) : Type 0 where
   pub port : portFits (r .port) (r .groups .console .console) ≡ true
+  pub eight : length (r .port .table .blocks) ≡ 8
   pub room : length (r .room) ≡ roomLength
   pub area : length (r .area) ≡ areaLength
   pub groups : FitGroups (r .groups)
 
--- what a tick leaves fits, holds no group that the other port holds, and leaves the group that the other port holds
+-- what a tick leaves fits, holds no group that the other port holds, and leaves the group that the other port holds; and the blocks that
+-- have C open, the other port's among them, are at one with the cassette's mark as before
 pub record Kept (held : Group) (r after : Reach) : Type 0 where
   pub fit : FitReach after
   pub apart : clash (heldOf (after .port .phase)) held ≡ false
   pub leaves : getGroup held (after .groups) ≡ getGroup held (r .groups)
+  pub marks : (u : Table) → marksFit (markIn (r .groups)) (r .port .table) u ≡ true → marksFit (markIn (after .groups)) (after .port .table) u ≡ true
 
 -- and so the mode of a console that the other port holds
 pub kept-mode : (held : Group) (r after : Reach) → Kept held r after → held ≡ group.Console → after .groups .console .console .mode ≡ r .groups .console .console .mode
@@ -196,25 +205,28 @@ module _ (n : ℕ) (held : Group) (r : Reach) (f : FitReach r) where
   made = port-of (r .port) (r .groups .console .console) (f .port) .0
 
   nothing-kept : clash (heldOf (r .port .phase)) held ≡ false → Kept held r r
-  nothing-kept c = record { fit = f; apart = c; leaves = refl }
+  nothing-kept c = record { fit = f; apart = c; leaves = refl; marks = λ u e. e }
 
   -- a start or a move on a device
-  landed-kept : (device : Device) (table : Table) (out : Out) (area : List ℕ) (y : Part (groupOf device)) → tableMade table ≡ true → length area ≡ areaLength
+  landed-kept : (device : Device) (table : Table) (out : Out) (area : List ℕ) (y : Part (groupOf device)) → tableMade table ≡ true → length (table .blocks) ≡ 8
+      → ((u : Table) → marksFit (markIn (r .groups)) (r .port .table) u ≡ true → marksFit (markIn (putGroup (groupOf device) (r .groups) y)) table u ≡ true) → length area ≡ areaLength
       → FitPart (groupOf device) y → FitOut device out table y → clash (groupOf device) held ≡ false
       → Kept held r (reach (portWith table (landed out (r .room) .phase)) (landed out (r .room) .room) area (putGroup (groupOf device) (r .groups) y))
-  landed-kept device table out area y m k g o c =
+  landed-kept device table out area y m eight marks k g o c =
       let own = groupOf device in
       let s = putGroup own (r .groups) y in
       record {
         fit = record {
           port = of-port (portWith table (landed out (r .room) .phase)) (s .console .console) m
               (landed-fits device table y out (r .room) (s .console .console) o (of-use device (r .groups) y));
+          eight = eight;
           room = landed-length out (r .room) ∙ f .room;
           area = k;
           groups = fit-put own (r .groups) y (f .groups) g;
         };
         apart = landed-apart device table y out (r .room) held o c;
         leaves = get-apart held own y (r .groups) (clash-swap held own ∙ c);
+        marks = marks;
       }
 
   -- "A ready port's first tick with the group free starts the request"
@@ -227,12 +239,14 @@ module _ (n : ℕ) (held : Group) (r : Reach) (f : FitReach r) where
       record {
         fit = record {
           port = of-port (withPhase phase (r .port)) console made (replies-fits phase (r .port .table) console (k .replies));
+          eight = f .eight;
           room = k .kept ∙ f .room;
           area = k .area ∙ f .area;
           groups = f .groups;
         };
         apart = replies-apart phase held (k .replies);
         leaves = refl;
+        marks = λ u m. m;
       }
   start-kept (plan.On job) q c =
       let g = groupOf (job .device) in
@@ -240,7 +254,8 @@ module _ (n : ℕ) (held : Group) (r : Reach) (f : FitReach r) where
       let iocb = job .call .iocb in
       let k = job-keeps job n table q made (getGroup g (r .groups)) (fit-part g (r .groups) (f .groups)) in
       let b = jobBegun (deviceActs (job .device)) n job (blockAt table iocb) (getGroup g (r .groups)) in
-      landed-kept (job .device) (withBlock table iocb (b .block)) (b .out) (r .area) (b .device) (k .made) (f .area) (k .fits) (k .out) c
+      landed-kept (job .device) (withBlock table iocb (b .block)) (b .out) (r .area) (b .device) (k .made) (with-length table iocb (b .block) ∙ f .eight)
+      (λ u m. job-marks n job table u (f .eight) q (r .groups) m) (f .area) (k .fits) (k .out) c
 
   -- "Each later tick moves one character": of a running request that fits and whose group the other port does not hold
   move-kept : (run : Run) → FitRun run (r .port .table) → inUse (run .device) (r .groups .console .console .mode) ≡ true → clash (groupOf (run .device)) held ≡ false → Kept held r (moveRun n run r)
@@ -250,7 +265,8 @@ module _ (n : ℕ) (held : Group) (r : Reach) (f : FitReach r) where
       let x = getGroup (groupOf d) (r .groups) in
       let k = move-keeps d n (r .port .table) run g refl (r .area) x (fit-part (groupOf d) (r .groups) (f .groups)) (use-of d (r .groups) (f .groups) u) in
       let w = advanceOf (deviceActs d) n run (r .area) x in
-      landed-kept d (r .port .table) (w .out) (w .area) (w .device) made (k .kept ∙ f .area) (k .fits) (k .out) c
+      landed-kept d (r .port .table) (w .out) (w .area) (w .device) made (f .eight)
+      (λ u m. subst (λ (mark : ℕ). marksFit mark (r .port .table) u ≡ true) (sym (move-mark d n run (r .area) (r .groups))) m) (k .kept ∙ f .area) (k .fits) (k .out) c
 
   ready-kept : (header : Header) → clash (heldOf (r .port .phase)) held ≡ false → Kept held r (readyTick n header held r .reach)
   unfolding readyTick
@@ -325,3 +341,18 @@ take-length (Gathering gather) port room byte = take-room-length gather room byt
 take-length (Ready header) port room byte = refl
 take-length (Running run) port room byte = refl
 take-length (Replying reply) port room byte = refl
+
+-- nor does its table change
+pub take-table : (phase : Phase) (port : Port) (room : List ℕ) (byte : ℕ) → takePort phase port room byte .port .table ≡ port .table
+unfolding takePort
+take-table (Gathering gather) port room byte = refl
+take-table (Ready header) port room byte = refl
+take-table (Running run) port room byte = refl
+take-table (Replying reply) port room byte = refl
+
+pub give-table : (phase : Phase) (port : Port) (room : List ℕ) → givePort phase port room .port .table ≡ port .table
+unfolding givePort
+give-table (Gathering gather) port room = refl
+give-table (Ready header) port room = refl
+give-table (Running run) port room = refl
+give-table (Replying reply) port room = refl

@@ -27,7 +27,6 @@ use Rattle.blocks.specs.Blocks.{blockAt}
 use Rattle.blocks.specs.Opening.{areaLength}
 use Rattle.wire.specs.Messages.{roomLength, messageOf}
 use Rattle.replies.specs.Replies.{callReply, statusReply, fetchReply, bytesAt}
-use Rattle.wire.proofs.Keeps.{take-room-length}
 use Rattle.layout.specs.Stick.{Stick, Lent, portAt, otherAt, withPort0, withPort1, withPort, partAt, withPart}
 use Rattle.transfer.specs.Transfer.{Progress, gotCharacter, gotOf, Out, goes, ends, landed}
 use Rattle.devices.specs.declared.Group.{Group}
@@ -44,6 +43,7 @@ use Rattle.calls.specs.Stick.{refused, areaAt, roomAt, withGroups, reachAt, wit
 use Rattle.calls.specs.Calls.{takeAt, takeCall, tickAt, tickCall, giveAt, giveCall, consoleHeld, pressAt, pressCall}
 use Rattle.rules.specs.Answers.{Unrefused}
 use Rattle.rules.specs.Ports.{otherNumber, OtherStays, OnlyOwn, OnlyPhase, OnlyKey}
+use Rattle.rules.proofs.PortKeeps.{take-length, take-table, give-table}
 use Rattle.rules.proofs.Answers.{by-order}
 
 -- a part put back in its place leaves the other part
@@ -69,17 +69,10 @@ own-port port p s = go (eqb port 0)
     go true = refl
     go false = refl
 
-same-console : (port : ℕ) (p : Port) (s : Stick) → withPort port p s .console ≡ s .console
-same-console port p s = go (eqb port 0)
+same-devices : (port : ℕ) (p : Port) (s : Stick) → withPort port p s .devices ≡ s .devices
+same-devices port p s = go (eqb port 0)
   where
-    go : (b : Bool) → pick b (withPort0 p s) (withPort1 p s) .console ≡ s .console
-    go true = refl
-    go false = refl
-
-same-printer : (port : ℕ) (p : Port) (s : Stick) → withPort port p s .printer ≡ s .printer
-same-printer port p s = go (eqb port 0)
-  where
-    go : (b : Bool) → pick b (withPort0 p s) (withPort1 p s) .printer ≡ s .printer
+    go : (b : Bool) → pick b (withPort0 p s) (withPort1 p s) .devices ≡ s .devices
     go true = refl
     go false = refl
 
@@ -88,23 +81,9 @@ still : (port : ℕ) (s : Stick) (l : Lent) (answer : ℕ) → OtherStays port s
 still port s l answer = record { state = refl; room = refl; half = refl }
 
 still-own : (port : ℕ) (s : Stick) (l : Lent) (answer : ℕ) → OnlyOwn port s l (refused answer s l)
-still-own port s l answer = record { others = still port s l answer; blocks = refl; console = refl; printer = refl; area = refl; screen = refl; paper = refl }
+still-own port s l answer = record { others = still port s l answer; blocks = refl; devices = refl; area = refl; screen = refl; paper = refl; tape = refl }
 
 -- take
-take-length : (phase : Phase) (port : Port) (room : List ℕ) (byte : ℕ) → length (takePort phase port room byte .room) ≡ length room
-unfolding takePort
-take-length (Gathering gather) port room byte = take-room-length gather room byte
-take-length (Ready header) port room byte = refl
-take-length (Running run) port room byte = refl
-take-length (Replying reply) port room byte = refl
-
-take-table : (phase : Phase) (port : Port) (room : List ℕ) (byte : ℕ) → takePort phase port room byte .port .table ≡ port .table
-unfolding takePort
-take-table (Gathering gather) port room byte = refl
-take-table (Ready header) port room byte = refl
-take-table (Running run) port room byte = refl
-take-table (Replying reply) port room byte = refl
-
 module _ (s : Stick) (l : Lent) (port byte : ℕ) where
   taken : Unrefused s l port → OnlyOwn port s l (takeAt port s l byte)
   unfolding takeAt
@@ -118,11 +97,11 @@ module _ (s : Stick) (l : Lent) (port byte : ℕ) where
           half = refl;
         };
         blocks = ap (λ (p : Port). p .table) (own-port port (t .port) s) ∙ take-table (portAt port s .phase) (portAt port s) (roomAt port l) byte;
-        console = same-console port (t .port) s;
-        printer = same-printer port (t .port) s;
+        devices = same-devices port (t .port) s;
         area = refl;
         screen = refl;
         paper = refl;
+        tape = refl;
       }
 
   -- "Mixing two ports' bytes on the way in or out": a taken byte goes into its own port's room only
@@ -224,13 +203,6 @@ module _ (s : Stick) (l : Lent) (port : ℕ) where
   tick-others = by-order s l (λ u. tickAt port s l) (OtherStays port s l) port (λ w. still port s l 2) (λ d. still port s l 3) (λ a. still port s l 1) moved
 
 -- give
-give-table : (phase : Phase) (port : Port) (room : List ℕ) → givePort phase port room .port .table ≡ port .table
-unfolding givePort
-give-table (Gathering gather) port room = refl
-give-table (Ready header) port room = refl
-give-table (Running run) port room = refl
-give-table (Replying reply) port room = refl
-
 module _ (s : Stick) (l : Lent) (port : ℕ) where
   given : OnlyPhase port s l (giveAt port s l)
   unfolding giveAt
@@ -239,13 +211,12 @@ module _ (s : Stick) (l : Lent) (port : ℕ) where
       record {
         state = other-port port (g .port) s;
         blocks = ap (λ (p : Port). p .table) (own-port port (g .port) s) ∙ give-table (portAt port s .phase) (portAt port s) (roomAt port l);
-        console = same-console port (g .port) s;
-        printer = same-printer port (g .port) s;
+        devices = same-devices port (g .port) s;
         buffers = refl;
       }
 
   still-phase : (answer : ℕ) → OnlyPhase port s l (refused answer s l)
-  still-phase answer = record { state = refl; blocks = refl; console = refl; printer = refl; buffers = refl }
+  still-phase answer = record { state = refl; blocks = refl; devices = refl; buffers = refl }
 
   -- "Mixing two ports' bytes on the way in or out": a byte given changes only its own port's phase
   pub give-only : OnlyPhase port s l (giveCall s l port)
@@ -260,11 +231,11 @@ module _ (s : Stick) (l : Lent) (port : ℕ) where
 -- press
 module _ (s : Stick) (l : Lent) (code : ℕ) where
   still-keys : (answer : ℕ) → OnlyKey code s l (refused answer s l)
-  still-keys answer = record { port0 = refl; port1 = refl; console = inl refl; printer = refl; buffers = refl }
+  still-keys answer = record { port0 = refl; port1 = refl; console = inl refl; printer = refl; cassette = refl; pending = refl; buffers = refl }
 
   -- "A press stores the code over an older one"
   pub press-only : OnlyKey code s l (pressCall s l code)
   unfolding pressCall pressAt
   press-only =
       by-order s l (λ u. pressAt s l code) (OnlyKey code s l) 0 (λ w. still-keys 2) (λ d. still-keys 3) (λ a. still-keys 1)
-      (λ c. choose-go (OnlyKey code s l) (consoleHeld s) _ _ (λ t. still-keys 6) (λ t. record { port0 = refl; port1 = refl; console = inr refl; printer = refl; buffers = refl }))
+      (λ c. choose-go (OnlyKey code s l) (consoleHeld s) _ _ (λ t. still-keys 6) (λ t. record { port0 = refl; port1 = refl; console = inr refl; printer = refl; cassette = refl; pending = refl; buffers = refl }))

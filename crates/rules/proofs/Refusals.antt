@@ -12,7 +12,7 @@ use lib.ListN.{getD, set, length}
 use lib.Seq.{sets}
 use borrow.Author.Tests.{eq-eqb, ne-eqb}
 use Rattle.base.specs.Choice.{pick, or, within, bit}
-use Rattle.base.proofs.Choices.{pick-go, choose-go, choose-eq, by-test, by-eq}
+use Rattle.base.proofs.Choices.{pick-go, pick-eq, pick-lt, choose-go, choose-eq, by-test, by-eq}
 use Rattle.handler.specs.declared.Asked.{Asked}
 use Rattle.handler.specs.declared.Done.{Done}
 use Rattle.handler.specs.declared.Done.the-variants as done
@@ -28,6 +28,13 @@ use Rattle.editor.specs.Get as editor-get
 use Rattle.graphics.specs.Picture as graphics
 use Rattle.printer.specs.Printer as printer
 use Rattle.printer.specs.Printer.{paperLength}
+use Rattle.cassette.specs.declared.Cassette.{Cassette}
+use Rattle.cassette.specs.Cassette as cassette
+use Rattle.cassette.specs.Cassette.{CassetteGroup}
+use Rattle.cassette.specs.Reads.{TapeReads, bad, ended, out, given}
+use Rattle.cassette.proofs.Laws.{read-closed}
+use Rattle.cassette.proofs.Reading.{read-always}
+use Rattle.cassette.proofs.Keeps as cassette-keeps
 use Rattle.console.specs.declared.Handler.the-variants as console
 use Rattle.console.specs.Handlers.{openOf, openS, prepareOf, prepareS, readOf, readE, readS, readK, writeOf, writeE, writeS}
 use Rattle.blocks.specs.declared.ControlBlock.{ControlBlock}
@@ -76,10 +83,12 @@ openingOn port call name = asksOpen port (call .iocb) (call .aux1) (call .aux2) 
 says-01 : (o : Owner) (asked : Asked) (x : Part (groupIn o)) → ownActs o asked .statuses x ≡ done.Success
 says-01 (owner.Console h) asked x = refl
 says-01 owner.Printer asked x = refl
+says-01 owner.Cassette asked x = refl
 
 says-84 : (o : Owner) (asked : Asked) (x : Part (groupIn o)) → ownActs o asked .specials x ≡ answer (done.Refused 0x84) x
 says-84 (owner.Console h) asked x = refl
 says-84 owner.Printer asked x = refl
+says-84 owner.Cassette asked x = refl
 
 abbrev isRefused : Done → Type 0
 isRefused done.Success = ⊥
@@ -104,6 +113,7 @@ open-still (owner.Console console.S) asked status x e =
     (λ t. never (rw t at e))
 open-still (owner.Console console.K) asked status x e = refl
 open-still owner.Printer asked status x e = refl
+open-still owner.Cassette asked status x e = cassette-keeps.open-refused (asked .aux1) x status e
 
 prepare-still : (o : Owner) (asked : Asked) (status : ℕ) (x : Part (groupIn o)) → ownActs o asked .prepares x .says ≡ done.Refused status → ownActs o asked .prepares x .leaves ≡ x
 unfolding prepareOf
@@ -111,6 +121,7 @@ prepare-still (owner.Console console.E) asked status x e = never e
 prepare-still (owner.Console console.S) asked status x e = refl
 prepare-still (owner.Console console.K) asked status x e = refl
 prepare-still owner.Printer asked status x e = refl
+prepare-still owner.Cassette asked status x e = refl
 
 pub owner-still : (o : Owner) → Still (ownActs o)
 owner-still o = record {
@@ -137,6 +148,30 @@ pub record High {D : Type 0} (H : Acts D) : Type 0 where
   pub statuses : (x : D) → doneHigh (H .statuses x)
   pub specials : (x : D) → doneHigh (H .specials x .says)
 
+-- C's, by the tape
+reads-high : (g : CassetteGroup) (a : Answer Got CassetteGroup) → TapeReads g a → gotHigh (a .says)
+reads-high g a (bad r p s l w e) = rw e (omega arith)
+reads-high g a (ended r p s l w e) = rw e (omega arith)
+reads-high g a (out r p s l e) = rw e (omega arith)
+reads-high g a (given r p n s l w h e) = rw e tt
+
+tape-read-high : (g : CassetteGroup) → gotHigh (cassette.readOf g .says)
+tape-read-high g =
+    by-eq (g .cassette .mark) 1
+    (λ m. reads-high g (cassette.readOf g) (read-always g m))
+    (λ m. rw (← read-closed (g .cassette) (g .tape) m) (omega arith))
+
+tape-write-high : (byte : ℕ) (g : CassetteGroup) → doneHigh (cassette.writeOf byte g .says)
+unfolding cassette.writeOf
+tape-write-high byte g =
+    pick-eq (λ (a : Answer Done CassetteGroup). doneHigh (a .says)) (g .cassette .mark) 2 _ _
+    (λ m. pick-lt (λ (a : Answer Done CassetteGroup). doneHigh (a .says)) (g .cassette .«record») 249 _ _ (λ h. tt) (λ h. omega arith))
+    (λ m. omega arith)
+
+tape-open-high : (aux1 : ℕ) (c : Cassette) → doneHigh (cassette.tapeOpened aux1 c .says)
+unfolding cassette.tapeOpened
+tape-open-high aux1 c = pick-eq (λ (a : Answer Done Cassette). doneHigh (a .says)) (c .mark) 0 _ _ (λ m. tt) (λ m. omega arith)
+
 open-high : (o : Owner) (asked : Asked) (x : Part (groupIn o)) → doneHigh (ownActs o asked .opens x .says)
 unfolding openOf openS graphics.openOf
 open-high (owner.Console console.E) asked x = tt
@@ -146,6 +181,7 @@ open-high (owner.Console console.S) asked x =
     (λ t. rw t tt)
 open-high (owner.Console console.K) asked x = tt
 open-high owner.Printer asked x = tt
+open-high owner.Cassette asked x = tape-open-high (asked .aux1) (x .cassette)
 
 prepare-high : (o : Owner) (asked : Asked) (x : Part (groupIn o)) → doneHigh (ownActs o asked .prepares x .says)
 unfolding prepareOf prepareS
@@ -153,6 +189,7 @@ prepare-high (owner.Console console.E) asked x = tt
 prepare-high (owner.Console console.S) asked x = pick-go doneHigh (eqb (x .console .mode) 0) (done.Refused 0x91) done.Success (λ t. omega arith) (λ t. tt)
 prepare-high (owner.Console console.K) asked x = tt
 prepare-high owner.Printer asked x = tt
+prepare-high owner.Cassette asked x = tt
 
 read-high : (o : Owner) (asked : Asked) (x : Part (groupIn o)) → gotHigh (ownActs o asked .reads x .says)
 unfolding readOf readE readS readK editor-get.getOf editor-get.getAt graphics.getOf keys.getOf keys.struckBy
@@ -170,6 +207,7 @@ read-high (owner.Console console.K) asked x =
     (λ t. rw t tt)
     (λ t. rw t (omega arith))
 read-high owner.Printer asked x = omega arith
+read-high owner.Cassette asked x = tape-read-high x
 
 write-high : (o : Owner) (asked : Asked) (byte : ℕ) (x : Part (groupIn o)) → doneHigh (ownActs o asked .writes byte x .says)
 unfolding writeOf writeE writeS controls.putOf graphics.putOf printer.putOf
@@ -180,6 +218,7 @@ write-high (owner.Console console.S) asked byte x =
     by-test (eqb byte 0x9B) (λ v. rw (t, u, v) tt) (λ v. rw (t, u, v) tt)))
 write-high (owner.Console console.K) asked byte x = omega arith
 write-high owner.Printer asked byte x = by-test (ltb (x .used) paperLength) (λ t. rw t tt) (λ t. rw t (omega arith))
+write-high owner.Cassette asked byte x = tape-write-high byte x
 
 pub owner-high : (o : Owner) (asked : Asked) → High (ownActs o asked)
 owner-high o asked = record {
@@ -303,13 +342,15 @@ module _ {D : Type 0} (H : Asked → Acts D) (port : ℕ) (device : Device) (cal
   start-a (work.Open then number name) = opening-go (λ (y : Begun D). aIn (y .out) ≡ call .a) then number name (λ o. refl) refl
   start-a (work.Transfer kind) = prepared-a (H (asksOn port (call .iocb)) .prepares x .says) kind
 
--- "(a SPECIAL on a closed block keeps its open's effects)": the block is closed again, the device is as the open left it
+-- "(a SPECIAL on a closed block keeps its open's effects)": the block is closed again, and the device is as the open left it, closed; of
+-- the console and the printer closing changes nothing
 pub special-keeps : (o : Owner) (port : ℕ) (device : Device) (call : Call) (b : ControlBlock) (x : Part (groupIn o)) (number name : ℕ) → offersOf device (call .aux1) ≡ true
     → ownActs o (openingOn port call name) .opens x .says ≡ done.Success
-    → workOf (ownActs o) port (work.Open after.Special number name) device call b x ≡ over call b (ownActs o (openingOn port call name) .opens x .leaves) 0x84
+    → workOf (ownActs o) port (work.Open after.Special number name) device call b x ≡ over call b (let A = ownActs o (openingOn port call name) in A .closes (A .opens x .leaves)) 0x84
 unfolding workOf openingOf openedOf thenOf
 special-keeps (owner.Console h) port device call b x number name t e = rw (t, e)
 special-keeps owner.Printer port device call b x number name t e = rw t
+special-keeps owner.Cassette port device call b x number name t e = rw (t, e)
 
 module _ {D : Type 0} (H : Asked → Acts D) (port : ℕ) where
   -- "A refusal at the start changes no block": nor the table

@@ -70,12 +70,25 @@ use Rattle.alone.proofs.Keeps.{ReplyFits, OutOn, after-made, opened-fits, opene
 use Rattle.alone.proofs.Keeps as alone
 use Rattle.rules.specs.Running.{OpenFor, FitRun}
 
+-- the block that the work is on, open on its device
+pub record OnOpen (device : Device) (call : Call) (table : Table) : Type 0 where
+  pub iocb : call .iocb < 8
+  pub number : ℕ
+  pub aux1 : ℕ
+  pub has : blockAt table (call .iocb) .state ≡ block.Open device number aux1
+
+-- closed, and the number that it is opened with
+pub record OnClosed (number : ℕ) (call : Call) (table : Table) : Type 0 where
+  pub iocb : call .iocb < 8
+  pub has : blockAt table (call .iocb) .state ≡ block.Closed
+  pub numbered : within 1 8 number ≡ true
+
 -- what the checks before the group have shown of the work on a device
 abbrev pub FitWork : Work → Device → Call → Table → Type 0
-FitWork work.Close device call table = Unit {0}
-FitWork work.Status device call table = Unit {0}
-FitWork work.Special device call table = Unit {0}
-FitWork (work.Open then number name) device call table = within 1 8 number ≡ true
+FitWork work.Close device call table = OnOpen device call table
+FitWork work.Status device call table = OnOpen device call table
+FitWork work.Special device call table = OnOpen device call table
+FitWork (work.Open then number name) device call table = OnClosed number call table
 FitWork (work.Transfer kind) device call table = FitRun (runOf device kind call) table
 
 abbrev pub FitJob : Job → Table → Type 0
@@ -88,14 +101,14 @@ FitPlan (plan.On job) table = FitJob job table
 -- "$81 or $85; $83 or $87; $B0 and $82": past these checks a transfer's block is open for its direction and its buffer lies in the
 -- area, and the number of an OPEN is 1 to 8
 module _ (call : Call) (table : Table) where
-  opening-fit : (then : After) (half : List ℕ) → FitPlan (openPlan then (specificationOf half (call .address)) half call) table
-  opening-fit then half = by (specificationOf half (call .address)) (names-number half (call .address))
-    where
-      by : (s : Specification) → ((device : Device) (number : ℕ) → s ≡ Names device number → within 1 8 number ≡ true) → FitPlan (openPlan then s half call) table
-      by (Refused status) n = tt
-      by (Names device number) n = n device number refl
-
   module _ (i : call .iocb < 8) where
+    opening-fit : (then : After) (half : List ℕ) → blockAt table (call .iocb) .state ≡ block.Closed → FitPlan (openPlan then (specificationOf half (call .address)) half call) table
+    opening-fit then half e = by (specificationOf half (call .address)) (names-number half (call .address))
+      where
+        by : (s : Specification) → ((device : Device) (number : ℕ) → s ≡ Names device number → within 1 8 number ≡ true) → FitPlan (openPlan then s half call) table
+        by (Refused status) n = tt
+        by (Names device number) n = record { iocb = i; has = e; numbered = n device number refl }
+
     area-fit : (reads records : Bool) (device : Device) → ((way : Way) → OpenFor (kindOf reads way) device (blockAt table (call .iocb) .state)) → FitPlan (areaPlan reads records device call) table
     unfolding areaPlan
     area-fit reads records device o =
@@ -122,14 +135,14 @@ module _ (call : Call) (table : Table) where
     block-fit : (k : Command) (state : BlockState) (half : List ℕ) → blockAt table (call .iocb) .state ≡ state → FitPlan (blockPlan k state call half) table
     unfolding blockPlan
     block-fit command.Bad state half e = tt
-    block-fit command.Open block.Closed half e = opening-fit after.Stay half
+    block-fit command.Open block.Closed half e = opening-fit after.Stay half e
     block-fit command.Open (block.Open device number aux1) half e = tt
     block-fit command.Close block.Closed half e = tt
-    block-fit command.Close (block.Open device number aux1) half e = tt
-    block-fit command.Status block.Closed half e = opening-fit after.Status half
-    block-fit command.Status (block.Open device number aux1) half e = tt
-    block-fit command.Special block.Closed half e = opening-fit after.Special half
-    block-fit command.Special (block.Open device number aux1) half e = tt
+    block-fit command.Close (block.Open device number aux1) half e = record { iocb = i; number = number; aux1 = aux1; has = e }
+    block-fit command.Status block.Closed half e = opening-fit after.Status half e
+    block-fit command.Status (block.Open device number aux1) half e = record { iocb = i; number = number; aux1 = aux1; has = e }
+    block-fit command.Special block.Closed half e = opening-fit after.Special half e
+    block-fit command.Special (block.Open device number aux1) half e = record { iocb = i; number = number; aux1 = aux1; has = e }
     block-fit (command.Transfer reads records) block.Closed half e = tt
     block-fit (command.Transfer reads records) (block.Open device number aux1) half e = transfer-fit reads records device number aux1 e
 
@@ -220,7 +233,7 @@ module _ (device : Device) (port : ℕ) (call : Call) (table : Table) (m : table
   work-keeps work.Close q = ended closedBlock closed-made (H asked .closes x) (Y .close-fit asked x f) 0x01
   work-keeps work.Status q = ended before before-made x f (doneStatus (H asked .statuses x))
   work-keeps work.Special q = ended before before-made (H asked .specials x .leaves) (Y .special-fit asked x f) (doneStatus (H asked .specials x .says))
-  work-keeps (work.Open then number name) q = opening-keeps then number name q
+  work-keeps (work.Open then number name) q = opening-keeps then number name (q .numbered)
   work-keeps (work.Transfer kind) q = transfer-keeps kind q
 
 -- the start of a planned job

@@ -4,13 +4,13 @@ use mathlib.Core.Path.{_≡_, _∙_, refl, sym, ap, subst}
 use mathlib.Core.Logic.{_↔_, _⊎_, inl, inr, ⊎-elim}
 use mathlib.Core.Bool.{Bool, true, false, not}
 use mathlib.Core.List.{List, [], _∷_}
-use Prim.Native.Nat.{ℕ, _+_, _<_, _≤_}
+use Prim.Native.Nat.{ℕ, zero, suc, _+_, _<_, _≤_}
 use native.Mathlib.Omega.{arith}
 use lib.Dec.{T, eqb, leb, ltb}
 use lib.ListN.{length, getD}
 use borrow.Author.Tests.{lt-ltb, le-ltb, le-leb, lt-leb, eq-eqb, ne-eqb, not-true}
 use Rattle.base.specs.Choice.{pick, or, within, bit}
-use Rattle.base.proofs.Choices.{pick-go, pick-lt, pick-le, choose-go, choose-eq, choose-lt, choose-le, by-test, by-lt, by-eq, and-false}
+use Rattle.base.proofs.Choices.{pick-go, pick-eq, pick-lt, pick-le, choose-go, choose-eq, choose-lt, choose-le, by-test, by-lt, by-eq, and-false}
 use Rattle.handler.specs.declared.Asked.{Asked}
 use Rattle.handler.specs.declared.Done.{Done}
 use Rattle.handler.specs.declared.Done.the-variants as done
@@ -32,6 +32,10 @@ use Rattle.graphics.specs.Picture as graphics
 use Rattle.printer.specs.Printer.{paperLength, PrinterGroup}
 use Rattle.printer.specs.Printer as printer
 use Rattle.printer.proofs.Keeps as printer-keeps
+use Rattle.cassette.specs.Cassette.{CassetteGroup}
+use Rattle.cassette.specs.Cassette as cassette
+use Rattle.cassette.specs.Reads.{TapeReads, bad, ended, out, given}
+use Rattle.cassette.proofs.Reading.{read-always, read-only}
 use Rattle.console.specs.Group.{ConsoleGroup}
 use Rattle.console.specs.Handlers.{textOf, openOf, openS, prepareOf, prepareE, prepareS, readOf, readE, readS, readK, writeOf, writeE, writeS}
 use Rattle.console.specs.declared.Handler.the-variants as console
@@ -39,7 +43,7 @@ use Rattle.blocks.specs.declared.BlockState.{BlockState}
 use Rattle.blocks.specs.declared.BlockState.the-variants as block
 use Rattle.blocks.specs.declared.ControlBlock.{ControlBlock}
 use Rattle.blocks.specs.declared.Device.{Device}
-use Rattle.blocks.specs.declared.Device.the-variants.{E, S, K, P}
+use Rattle.blocks.specs.declared.Device.the-variants.{E, S, K, P, C}
 use Rattle.blocks.specs.declared.Kind.{Kind}
 use Rattle.blocks.specs.declared.Kind.the-variants.{Get, Put}
 use Rattle.blocks.specs.declared.Specification.{Specification}
@@ -51,7 +55,7 @@ use Rattle.blocks.specs.Blocks.{closedBlock, openBlock, blockAt, withBlock}
 use Rattle.blocks.specs.Opening.{areaLength, specificationOf, reads, writes, offersOf}
 use Rattle.blocks.specs.Made.{madeState}
 use Rattle.blocks.specs.Specified.{Specified, Malformed, NeededPast, Specifies, NotOffered}
-use Rattle.blocks.proofs.Keeps.{block-back, block-made, made-offers, keys-unwritten, paper-unread}
+use Rattle.blocks.proofs.Keeps.{block-back, block-made, made-offers, keys-unwritten, paper-unread, tape-one-way}
 use Rattle.blocks.proofs.Specified.{specifies, offers-not}
 use Rattle.commands.specs.declared.Command.{Command}
 use Rattle.commands.specs.declared.Command.the-variants as command
@@ -80,8 +84,9 @@ use Rattle.alone.proofs.Loading.{load-leaves}
 use Rattle.alone.proofs.Storing.{get-stores, put-area}
 use Rattle.alone.proofs.Fit.{fit-part}
 use Rattle.alone.proofs.Lines.{device-lines, device-starts}
+use Rattle.rules.proofs.Marks.{read-mark, write-mark}
 use Rattle.rules.specs.Answers.{oneOf}
-use Rattle.rules.specs.Statuses.{replyStatus, directionBit, BadMode, OnBlock, OpenOnOpen, TransferOnClosed, Transfer, Undirected, Directed, Opening, PastArea, buffer-past, specification-past, NoDevice, NamesDevice, Illegal, bad-command, not-offered, special-on-open, special-on-closed, Passed, NoMode, open-mode, transfer-mode, Started, actsOn, sentBy, ReadsAt, WritesAt, EndOfFile, RecordCut, PastRows, CursorPast, PaperFull, CallStatuses, CallBlocks, CallNeeds, GetReply, PutReply, Uncounted, CallReplies, LoadStatuses, LoadReplies, FetchReplies}
+use Rattle.rules.specs.Statuses.{replyStatus, directionBit, BadMode, OnBlock, OpenElsewhere, MarkedAs, AtEnd, end-record, run-out, AtBad, bad-record, OpenOnOpen, TransferOnClosed, Transfer, Undirected, Directed, Opening, PastArea, buffer-past, specification-past, NoDevice, NamesDevice, AlreadyOpen, block-open, tape-open, Illegal, bad-command, not-offered, special-on-open, special-on-closed, Passed, NoMode, open-mode, transfer-mode, Started, actsOn, sentBy, ReadsAt, WritesAt, EndOfFile, BadRecord, RecordCut, PastRows, CursorPast, Full, CallStatuses, CallBlocks, CallNeeds, GetReply, PutReply, Uncounted, CallReplies, LoadStatuses, LoadReplies, FetchReplies}
 
 -- What a handler says, as a number: a character or a success is 0, a refusal one more than its status
 abbrev gotNumber : Got → ℕ
@@ -115,34 +120,41 @@ screen-bad : (split inside : Bool) → or split (not inside) ≡ true → (split
 screen-bad true inside e = inl refl
 screen-bad false inside e = inr (not-true inside e)
 
--- what an opening says
-abbrev OpenSays : (device : Device) → Asked → Done → Type 0
-OpenSays device asked says =
-    (BadMode device (asked .aux1) (asked .aux2) × (says ≡ done.Refused 0x91)) ⊎ ((BadMode device (asked .aux1) (asked .aux2) → ⊥) × (says ≡ done.Success))
+-- what an opening says, s the devices
+pub data OpenSays (device : Device) (asked : Asked) (s : Groups) (says : Done) : Type 0 where
+  no-such-mode : BadMode device (asked .aux1) (asked .aux2) → says ≡ done.Refused 0x91 → OpenSays device asked s says
+  held-open : OpenElsewhere device s → (BadMode device (asked .aux1) (asked .aux2) → ⊥) → says ≡ done.Refused 0x81 → OpenSays device asked s says
+  opens-it : (BadMode device (asked .aux1) (asked .aux2) → ⊥) → (OpenElsewhere device s → ⊥) → says ≡ done.Success → OpenSays device asked s says
 
-opens-says : (device : Device) (asked : Asked) (x : Part (groupOf device)) → OpenSays device asked (deviceActs device asked .opens x .says)
-unfolding openOf openS graphics.openOf
-opens-says E asked x = inr (λ b. b, refl)
-opens-says S asked x =
+opens-says : (device : Device) (asked : Asked) (s : Groups) → OpenSays device asked s (deviceActs device asked .opens (getGroup (groupOf device) s) .says)
+unfolding openOf openS graphics.openOf cassette.tapeOpened
+opens-says E asked s = opens-it (λ b. b) (λ b. b) refl
+opens-says S asked s =
     let split = bit 16 (asked .aux1) in
     let inside = within 3 8 (asked .aux2) in
     by-test (or split (not inside))
-    (λ t. inl (⊎-elim inl (λ e. inr (outside (asked .aux2) e)) (screen-bad split inside t), rw t))
-    (λ t. inr (λ b. absurd (subst T (sym (screen-refuses (asked .aux1) (asked .aux2) b) ∙ t) tt), rw t))
-opens-says K asked x = inr (λ b. b, refl)
-opens-says P asked x = inr (λ b. b, refl)
+    (λ t. no-such-mode (⊎-elim inl (λ e. inr (outside (asked .aux2) e)) (screen-bad split inside t)) (rw t))
+    (λ t. opens-it (λ b. absurd (subst T (sym (screen-refuses (asked .aux1) (asked .aux2) b) ∙ t) tt)) (λ b. b) (rw t))
+opens-says K asked s = opens-it (λ b. b) (λ b. b) refl
+opens-says P asked s = opens-it (λ b. b) (λ b. b) refl
+opens-says C asked s =
+    by-eq (s .cassette .cassette .mark) 0
+    (λ e. opens-it (λ b. b) (λ n. n e) (rw (eq-eqb (s .cassette .cassette .mark) 0 e)))
+    (λ n. held-open n (λ b. b) (rw (ne-eqb (s .cassette .cassette .mark) 0 n)))
 
 status-says : (device : Device) (asked : Asked) (x : Part (groupOf device)) → deviceActs device asked .statuses x ≡ done.Success
 status-says E asked x = refl
 status-says S asked x = refl
 status-says K asked x = refl
 status-says P asked x = refl
+status-says C asked x = refl
 
 special-says : (device : Device) (asked : Asked) (x : Part (groupOf device)) → deviceActs device asked .specials x .says ≡ done.Refused 0x84
 special-says E asked x = refl
 special-says S asked x = refl
 special-says K asked x = refl
 special-says P asked x = refl
+special-says C asked x = refl
 
 -- "A transfer in mode 0 is $91 at the start.": S's
 abbrev NoPicture : (device : Device) → Part (groupOf device) → Type 0
@@ -150,6 +162,7 @@ NoPicture E x = ⊥
 NoPicture S x = x .console .mode ≡ 0
 NoPicture K x = ⊥
 NoPicture P x = ⊥
+NoPicture C x = ⊥
 
 abbrev Prepares : (device : Device) → Asked → Part (groupOf device) → Type 0
 Prepares device asked x =
@@ -162,6 +175,7 @@ prepares-says E asked x = inr (prepareE x, refl)
 prepares-says S asked x = by-eq (x .console .mode) 0 (λ e. inl (e, rw e)) (λ n. inr (x, rw (ne-eqb (x .console .mode) 0 n)))
 prepares-says K asked x = inr (x, refl)
 prepares-says P asked x = inr (x, refl)
+prepares-says C asked x = inr (x, refl)
 
 -- what a character is refused with
 reads-E : (asked : Asked) (g : ConsoleGroup) (status : ℕ) → deviceActs E asked .reads g .says ≡ got.Refused status → ⊥
@@ -232,12 +246,56 @@ paper-writes : (asked : Asked) (byte : ℕ) (g : PrinterGroup) → paperLength �
 unfolding printer.putOf
 paper-writes asked byte g h = rw (le-ltb (g .used) paperLength h)
 
+-- C's, by the tape's bytes, where it is open for reading or for writing
+data TapeRefused (g : CassetteGroup) (status : ℕ) : Type 0 where
+  tape-ends : status ≡ 0x88 → AtEnd g → TapeRefused g status
+  tape-bad : status ≡ 0x8F → AtBad g → TapeRefused g status
+
+reads-tape : (g : CassetteGroup) (status : ℕ) (a : Answer Got CassetteGroup) → TapeReads g a → a .says ≡ got.Refused status → TapeRefused g status
+reads-tape g status a (bad r p s l w e) q = tape-bad (omega (arith, ap gotNumber (sym (ap (λ (b : Answer Got CassetteGroup). b .says) e) ∙ q))) (bad-record r p s l w)
+reads-tape g status a (ended r p s l w e) q = tape-ends (omega (arith, ap gotNumber (sym (ap (λ (b : Answer Got CassetteGroup). b .says) e) ∙ q))) (end-record r p s l w)
+reads-tape g status a (out r p s l e) q = tape-ends (omega (arith, ap gotNumber (sym (ap (λ (b : Answer Got CassetteGroup). b .says) e) ∙ q))) (run-out r p s l)
+reads-tape g status a (given r p n s l w h e) q = absurd (omega (arith, ap gotNumber (sym (ap (λ (b : Answer Got CassetteGroup). b .says) e) ∙ q)))
+
+reads-C : (asked : Asked) (g : CassetteGroup) (status : ℕ) → g .cassette .mark ≡ 1 → deviceActs C asked .reads g .says ≡ got.Refused status → TapeRefused g status
+reads-C asked g status m e = reads-tape g status (cassette.readOf g) (read-always g m) e
+
+reads-end : (asked : Asked) (g : CassetteGroup) → g .cassette .mark ≡ 1 → AtEnd g → deviceActs C asked .reads g .says ≡ got.Refused 0x88
+reads-end asked g m (end-record r p s l w) = sym (ap (λ (b : Answer Got CassetteGroup). b .says) (read-only g m (answer (got.Refused 0x88) g) (ended r p s l w refl)))
+reads-end asked g m (run-out r p s l) = sym (ap (λ (b : Answer Got CassetteGroup). b .says) (read-only g m (answer (got.Refused 0x88) g) (out r p s l refl)))
+
+reads-bad : (asked : Asked) (g : CassetteGroup) → g .cassette .mark ≡ 1 → AtBad g → deviceActs C asked .reads g .says ≡ got.Refused 0x8F
+reads-bad asked g m (bad-record r p s l w) = sym (ap (λ (b : Answer Got CassetteGroup). b .says) (read-only g m (answer (got.Refused 0x8F) g) (bad r p s l w refl)))
+
+writes-C : (asked : Asked) (byte : ℕ) (g : CassetteGroup) (status : ℕ) → g .cassette .mark ≡ 2 → deviceActs C asked .writes byte g .says ≡ done.Refused status → (status ≡ 0x90) × (249 ≤ g .cassette .«record»)
+unfolding cassette.writeOf
+writes-C asked byte g status m =
+    let Q : Answer Done CassetteGroup → Type 0 = λ y. y .says ≡ done.Refused status → (status ≡ 0x90) × (249 ≤ g .cassette .«record») in
+    pick-eq Q (g .cassette .mark) 2 _ _
+    (λ n. pick-lt Q (g .cassette .«record») 249 _ _ (λ h e. absurd (omega (arith, ap doneNumber e))) (λ h e. (omega (arith, ap doneNumber e), h)))
+    (λ n e. absurd (n m))
+
+tape-writes : (asked : Asked) (byte : ℕ) (g : CassetteGroup) → g .cassette .mark ≡ 2 → 249 ≤ g .cassette .«record» → deviceActs C asked .writes byte g .says ≡ done.Refused 0x90
+unfolding cassette.writeOf
+tape-writes asked byte g m h = rw (eq-eqb (g .cassette .mark) 2 m, le-ltb (g .cassette .«record») 249 h)
+
+-- characters leave the mark
+read-marks : (asked : Asked) (k : ℕ) (g : CassetteGroup) → readTo (deviceActs C asked) k g .cassette .mark ≡ g .cassette .mark
+read-marks asked zero g = refl
+read-marks asked (suc k) g = read-marks asked k (cassette.readOf g .leaves) ∙ read-mark g
+
+write-marks : (asked : Asked) (sent : List ℕ) (k : ℕ) (g : CassetteGroup) → writtenTo (deviceActs C asked) sent k g .cassette .mark ≡ g .cassette .mark
+write-marks asked sent zero g = refl
+write-marks asked [] (suc k) g = refl
+write-marks asked (byte ∷ sent) (suc k) g = write-marks asked sent k (cassette.writeOf byte g .leaves) ∙ write-mark byte g
+
 -- a device put into its group is there
 get-put : (device : Device) (s : Groups) (x : Part (groupOf device)) → getGroup (groupOf device) (putGroup (groupOf device) s x) ≡ x
 get-put E s x = refl
 get-put S s x = refl
 get-put K s x = refl
 get-put P s x = refl
+get-put C s x = refl
 
 -- a way fits its length
 way-fits : (way : Way) (records : Bool) (n : ℕ) → HasWay way records n → LengthFits way n
@@ -283,7 +341,7 @@ module _ (c : Call) (l : Local) (s : Groups) where
       row (eqb status 0x01) (Unit {0})
       (row (eqb status 0x86) (7 < c .iocb)
       (row (eqb status 0x84) (Illegal c l s)
-      (row (eqb status 0x81) (OpenOnOpen c l s)
+      (row (eqb status 0x81) (AlreadyOpen c l s)
       (row (eqb status 0x85) (TransferOnClosed c l s)
       (row (eqb status 0x83) (Undirected c l s true)
       (row (eqb status 0x87) (Undirected c l s false)
@@ -293,8 +351,9 @@ module _ (c : Call) (l : Local) (s : Groups) where
       (row (eqb status 0x88) (EndOfFile c l s)
       (row (eqb status 0x89) (RecordCut c l s)
       (row (eqb status 0x8D) (CursorPast c l s)
-      (row (eqb status 0x90) (PaperFull c l s)
-      ⊥)))))))))))))
+      (row (eqb status 0x8F) (BadRecord c l s)
+      (row (eqb status 0x90) (Full c l s)
+      ⊥))))))))))))))
 
   abbrev half : List ℕ
   half = l .area
@@ -458,8 +517,8 @@ module _ (c : Call) (l : Local) (s : Groups) where
 
   -- "a failed open's status stands"; else "$01 or $84"
   accepted-row : (device : Device) (then : After) (number name : ℕ) (d : NamesDevice c l s device) → d .number ≡ number → ThenNumber then (c .command) → offersOf device (c .aux1) ≡ true
-      → (BadMode device (c .aux1) (c .aux2) → ⊥) → deviceActs device (asks name) .opens (own device) .says ≡ done.Success → Holds (opens device then number name)
-  accepted-row device after.Stay number name d m h t b e =
+      → (BadMode device (c .aux1) (c .aux2) → ⊥) → (OpenElsewhere device s → ⊥) → deviceActs device (asks name) .opens (own device) .says ≡ done.Success → Holds (opens device then number name)
+  accepted-row device after.Stay number name d m h t b z e =
       leaf _ 0x01 (opened-stays device number name t e) (open-area device after.Stay number name) tt (record {
         opens = λ q r other n f.
             opened-stays-table device number name t e
@@ -467,22 +526,25 @@ module _ (c : Call) (l : Local) (s : Groups) where
         closes = λ i q. absurd (omega (arith, h, q));
         others = λ x y. absurd (y h refl);
       })
-  accepted-row device after.Status number name d m h t b e =
+  accepted-row device after.Status number name d m h t b z e =
       leaf _ 0x01 (opened-status device number name t e) (open-area device after.Status number name) tt
       (stays 0x01 _ (opened-status-table device number name t e) (λ i q. omega (arith, h, q)) (λ q r. omega (arith, h, q)))
-  accepted-row device after.Special number name d m h t b e =
-      leaf _ 0x84 (opened-special device number name t e) (open-area device after.Special number name) (special-on-closed device d h (not-not device t) b)
+  accepted-row device after.Special number name d m h t b z e =
+      leaf _ 0x84 (opened-special device number name t e) (open-area device after.Special number name) (special-on-closed device d h (not-not device t) b z)
       (stays 0x84 _ (opened-special-table device number name t e) (λ i q. omega (arith, h, q)) (λ q r. omega (arith, r)))
 
   offered-row : (device : Device) (then : After) (number name : ℕ) (d : NamesDevice c l s device) → d .number ≡ number → ThenNumber then (c .command) → offersOf device (c .aux1) ≡ true
       → Holds (opens device then number name)
-  offered-row device then number name d m h t =
-      ⊎-elim
-      (λ p.
-      leaf _ 0x91 (open-refused device then number name 0x91 t (p .1)) (open-area device then number name) (open-mode device d (not-not device t) (p .0))
-      (stays 0x91 _ (open-refused-table device then number name 0x91 t (p .1)) (opening-close (d .opening)) (λ q r. omega (arith, r))))
-      (λ p. accepted-row device then number name d m h t (p .0) (p .1))
-      (opens-says device (asks name) (own device))
+  offered-row device then number name d m h t = by (opens-says device (asks name) s)
+    where
+      by : OpenSays device (asks name) s (deviceActs device (asks name) .opens (own device) .says) → Holds (opens device then number name)
+      by (no-such-mode b e) =
+          leaf _ 0x91 (open-refused device then number name 0x91 t e) (open-area device then number name) (open-mode device d (not-not device t) b)
+          (stays 0x91 _ (open-refused-table device then number name 0x91 t e) (opening-close (d .opening)) (λ q r. omega (arith, r)))
+      by (held-open z b e) =
+          leaf _ 0x81 (open-refused device then number name 0x81 t e) (open-area device then number name) (tape-open device d (not-not device t) z)
+          (stays 0x81 _ (open-refused-table device then number name 0x81 t e) (opening-close (d .opening)) (λ q r. omega (arith, r)))
+      by (opens-it b z e) = accepted-row device then number name d m h t b z e
 
   device-row : (device : Device) (then : After) (number : ℕ) (d : NamesDevice c l s device) → d .number ≡ number → ThenNumber then (c .command)
       → Holds (opens device then number (nameOf half (c .address)))
@@ -628,7 +690,7 @@ module _ (c : Call) (l : Local) (s : Groups) where
   unfolding alonePlan aloneWork
   special-said device = ap (λ (d : Done). uncounted (doneStatus d)) (special-says device (asksOn (l .number) (c .iocb)) (own device))
 
-  module _ (fl : FitLocal l) where
+  module _ (fl : FitLocal l) (mk : MarkedAs l s) where
     -- the block is one that some OPEN makes
     block-offers : (device : Device) (number aux1 : ℕ) → OnBlock c l s (block.Open device number aux1) → offersOf device aux1 ≡ true
     block-offers device number aux1 on =
@@ -640,6 +702,33 @@ module _ (c : Call) (l : Local) (s : Groups) where
     unwritten : Directed c l s false K → ⊥
     unwritten d = absurd (subst T (sym (d .with) ∙ keys-unwritten (d .transfer .aux1) (block-offers K (d .transfer .number) (d .transfer .aux1) (d .transfer .on))) tt)
 
+    -- the tape is open for the transfer's direction
+    tape-read : Directed c l s true C → s .cassette .cassette .mark ≡ 1
+    tape-read d = mk .marked (c .iocb) (d .transfer .number) (d .transfer .aux1) (d .transfer .on .has) ∙ rw (d .with)
+
+    tape-written : Directed c l s false C → s .cassette .cassette .mark ≡ 2
+    tape-written d =
+        let aux1 = d .transfer .aux1 in
+        by-test (bit 4 aux1)
+        (λ r. absurd (subst T (sym (d .with) ∙ tape-one-way aux1 (block-offers C (d .transfer .number) aux1 (d .transfer .on)) r) tt))
+        (λ r. mk .marked (c .iocb) (d .transfer .number) aux1 (d .transfer .on .has) ∙ rw (r, d .with))
+
+    abbrev tapeAsks : Asked
+    tapeAsks = asksOn (l .number) (c .iocb)
+
+    begun-mark : (reading : Bool) (t : Started c l s reading C) → t .stands .cassette .mark ≡ s .cassette .cassette .mark
+    begun-mark reading t = sym (ap (λ (y : Answer Done CassetteGroup). y .leaves .cassette .mark) (t .begins))
+
+    read-at-mark : (t : Started c l s true C) (k : ℕ) → readTo (actsOn c l s C) k (t .stands) .cassette .mark ≡ 1
+    read-at-mark t k = read-marks tapeAsks k (t .stands) ∙ begun-mark true t ∙ tape-read (t .passed .directed)
+
+    written-at-mark : (t : Started c l s false C) (k : ℕ) → writtenTo (actsOn c l s C) (sentBy c l s (t .way)) k (t .stands) .cassette .mark ≡ 2
+    written-at-mark t k = write-marks tapeAsks (sentBy c l s (t .way)) k (t .stands) ∙ begun-mark false t ∙ tape-written (t .passed .directed)
+
+    tape-row : (t : Started c l s true C) (k status : ℕ) → ReadsTo (actsOn c l s C) (t .way) (c .length) (t .stands) k → TapeRefused (readTo (actsOn c l s C) k (t .stands)) status → Row status
+    tape-row t k status q (tape-ends e a) = subst Row (sym e) (inr (record { started = t; k = k; comes = q; at = a }))
+    tape-row t k status q (tape-bad e a) = subst Row (sym e) (record { started = t; k = k; comes = q; at = a })
+
     read-refused : (device : Device) (t : Started c l s true device) (k status : ℕ) → ReadsTo (actsOn c l s device) (t .way) (c .length) (t .stands) k
         → readSays (actsOn c l s device) k (t .stands) ≡ got.Refused status → Row status
     read-refused E t k status q e = absurd (reads-E (asksOn (l .number) (c .iocb)) (readTo (actsOn c l s E) k (t .stands)) status e)
@@ -648,8 +737,9 @@ module _ (c : Call) (l : Local) (s : Groups) where
         subst Row (sym (r .0)) (inl (record { started = t; k = k; comes = q; at = r .1 }))
     read-refused K t k status q e =
         let r = reads-K (asksOn (l .number) (c .iocb)) (readTo (actsOn c l s K) k (t .stands)) status e in
-        subst Row (sym (r .0)) (record { started = t; k = k; comes = q; at = r .1 })
+        subst Row (sym (r .0)) (inl (record { started = t; k = k; comes = q; at = r .1 }))
     read-refused P t k status q e = absurd (unread (t .passed .directed))
+    read-refused C t k status q e = tape-row t k status q (reads-C tapeAsks (readTo (actsOn c l s C) k (t .stands)) status (read-at-mark t k) e)
 
     get-row : (device : Device) (t : Started c l s true device) {status count : ℕ} {y : Part (groupOf device)} → GetEnds (actsOn c l s device) (t .way) (c .length) (t .stands) status count y → Row status
     get-row device t (get-refused k status q e) = read-refused device t k status q e
@@ -666,7 +756,10 @@ module _ (c : Call) (l : Local) (s : Groups) where
     write-refused K t k status q e = absurd (unwritten (t .passed .directed))
     write-refused P t k status q e =
         let r = writes-P (asksOn (l .number) (c .iocb)) (getD (sentBy c l s (t .way)) k 0) (writtenTo (actsOn c l s P) (sentBy c l s (t .way)) k (t .stands)) status e in
-        subst Row (sym (r .0)) (record { started = t; k = k; comes = q; at = r .1 })
+        subst Row (sym (r .0)) (inl (record { started = t; k = k; comes = q; at = r .1 }))
+    write-refused C t k status q e =
+        let r = writes-C tapeAsks (getD (sentBy c l s (t .way)) k 0) (writtenTo (actsOn c l s C) (sentBy c l s (t .way)) k (t .stands)) status (written-at-mark t k) e in
+        subst Row (sym (r .0)) (inr (record { started = t; k = k; comes = q; at = r .1 }))
 
     put-row : (device : Device) (t : Started c l s false device) {status count : ℕ} {y : Part (groupOf device)} → PutEnds (actsOn c l s device) (t .way) (c .length) (sentBy c l s (t .way)) (t .stands) status count y → Row status
     put-row device t (put-refused k status q e) = write-refused device t k status q e
@@ -677,6 +770,7 @@ module _ (c : Call) (l : Local) (s : Groups) where
     no-mode reading S p e = transfer-mode reading p e
     no-mode reading K p e = absurd e
     no-mode reading P p e = absurd e
+    no-mode reading C p e = absurd e
 
     abbrev started : (reading : Bool) (device : Device) (p : Passed c l s reading device) (x : Part (groupOf device)) → actsOn c l s device .prepares (own device) ≡ answer done.Success x → Started c l s reading device
     started reading device p x e = record {
@@ -747,7 +841,7 @@ module _ (c : Call) (l : Local) (s : Groups) where
       block-row command.Bad b on h = leaf _ 0x84 (at-once 0x84) (at-once-area 0x84) (bad-command (on .iocb) h) (refuses 0x84 (λ i q. bad-number (c .command) h q) (λ r. omega (arith, r)))
       block-row command.Open block.Closed on h = opening-row after.Stay (record { on = on; command = inl h }) h
       block-row command.Open (block.Open device number aux1) on h =
-          leaf _ 0x81 (at-once 0x81) (at-once-area 0x81) (record { device = device; number = number; aux1 = aux1; on = on; command = h })
+          leaf _ 0x81 (at-once 0x81) (at-once-area 0x81) (block-open (record { device = device; number = number; aux1 = aux1; on = on; command = h }))
           (refuses 0x81 (λ i q. omega (arith, h, q)) (λ r. omega (arith, r)))
       block-row command.Close block.Closed on h =
           leaf _ 0x01 (at-once 0x01) (at-once-area 0x01) tt (record {
@@ -877,21 +971,53 @@ module _ (c : Call) (l : Local) (s : Groups) where
       let p = opening-plan (d .opening) in
       p .plan ∙ ap (λ (sp : Specification). openPlan (p .then) sp half c) (specifies half (c .address) .names device (d .number) .1 (d .specified))
 
-  opened : (device : Device) → (BadMode device (c .aux1) (c .aux2) → ⊥) → (name : ℕ) → deviceActs device (asks name) .opens (own device) .says ≡ done.Success
-  opened device b name = ⊎-elim (λ p. absurd (b (p .0))) (λ p. p .1) (opens-says device (asks name) (own device))
+  opened : (device : Device) → (BadMode device (c .aux1) (c .aux2) → ⊥) → (OpenElsewhere device s → ⊥) → (name : ℕ) → deviceActs device (asks name) .opens (own device) .says ≡ done.Success
+  opened device b z name = by (opens-says device (asks name) s)
+    where
+      by : OpenSays device (asks name) s (deviceActs device (asks name) .opens (own device) .says) → deviceActs device (asks name) .opens (own device) .says ≡ done.Success
+      by (no-such-mode q e) = absurd (b q)
+      by (held-open q n e) = absurd (z q)
+      by (opens-it q n e) = e
+
+  -- no device has both: S has modes, C is open once
+  one-of-both : (device : Device) → BadMode device (c .aux1) (c .aux2) → OpenElsewhere device s → ⊥
+  one-of-both E b z = b
+  one-of-both S b z = z
+  one-of-both K b z = b
+  one-of-both P b z = b
+  one-of-both C b z = b
 
   unopened : (device : Device) → BadMode device (c .aux1) (c .aux2) → (name : ℕ) → deviceActs device (asks name) .opens (own device) .says ≡ done.Refused 0x91
-  unopened device b name = ⊎-elim (λ p. p .1) (λ p. absurd (p .0 b)) (opens-says device (asks name) (own device))
+  unopened device b name = by (opens-says device (asks name) s)
+    where
+      by : OpenSays device (asks name) s (deviceActs device (asks name) .opens (own device) .says) → deviceActs device (asks name) .opens (own device) .says ≡ done.Refused 0x91
+      by (no-such-mode q e) = e
+      by (held-open q n e) = absurd (n b)
+      by (opens-it q n e) = absurd (q b)
+
+  held-elsewhere : (device : Device) → OpenElsewhere device s → (name : ℕ) → deviceActs device (asks name) .opens (own device) .says ≡ done.Refused 0x81
+  held-elsewhere device z name = by (opens-says device (asks name) s)
+    where
+      by : OpenSays device (asks name) s (deviceActs device (asks name) .opens (own device) .says) → deviceActs device (asks name) .opens (own device) .says ≡ done.Refused 0x81
+      by (no-such-mode q e) = absurd (one-of-both device q z)
+      by (held-open q n e) = e
+      by (opens-it q n e) = absurd (n z)
+
+  line-81 : AlreadyOpen c l s → ends 0x81
+  line-81 (block-open h) = refused-by 0x81 (plan-81 h)
+  line-81 (tape-open device d n z) =
+      let name = nameOf half (c .address) in
+      ap statusOf (device-plan device d) ∙ ap replyStatus (open-refused device _ (d .number) name 0x81 (offered device n) (held-elsewhere device z name))
 
   line-84 : Illegal c l s → ends 0x84
   unfolding blockPlan
   line-84 (bad-command i h) = refused-by 0x84 (plan-84 i h)
   line-84 (not-offered device d n) = ap statusOf (device-plan device d) ∙ ap replyStatus (open-not device _ (d .number) _ (offers-not device (c .aux1) .1 n))
   line-84 (special-on-open device number aux1 on h) = ap statusOf (reached command.Special (block.Open device number aux1) on h) ∙ ap replyStatus (special-said device)
-  line-84 (special-on-closed device d h n b) =
+  line-84 (special-on-closed device d h n b z) =
       let name = nameOf half (c .address) in
       ap statusOf (device-plan device d ∙ ap (λ (then : After). opens device then (d .number) name) (opening-plan (d .opening) .special h))
-      ∙ ap replyStatus (opened-special device (d .number) name (offered device n) (opened device b name))
+      ∙ ap replyStatus (opened-special device (d .number) name (offered device n) (opened device b z name))
 
   prepare-91 : s .console .console .mode ≡ 0 → actsOn c l s S .prepares (own S) .says ≡ done.Refused 0x91
   unfolding prepareOf prepareS
@@ -953,10 +1079,18 @@ module _ (c : Call) (l : Local) (s : Groups) where
         ap statusOf (starts true device t) ∙ ap replyStatus (get-status device (t .way) (t .stands) (t .begins))
         ∙ get-once (actsOn c l s device) (t .way) (c .length) (t .stands) (got-ends device fg t) e .0
 
-    line-88 : EndOfFile c l s → ends 0x88
-    line-88 r =
+    line-88 : FitLocal l → MarkedAs l s → EndOfFile c l s → ends 0x88
+    line-88 fl mk (inl r) =
         get-line K (r .started)
         (get-refused (r .k) 0x88 (r .comes) (keys-reads (asksOn (l .number) (c .iocb)) (readTo (actsOn c l s K) (r .k) (r .started .stands)) (r .at)))
+    line-88 fl mk (inr r) =
+        get-line C (r .started)
+        (get-refused (r .k) 0x88 (r .comes) (reads-end (asksOn (l .number) (c .iocb)) (readTo (actsOn c l s C) (r .k) (r .started .stands)) (read-at-mark fl mk (r .started) (r .k)) (r .at)))
+
+    line-8f : FitLocal l → MarkedAs l s → BadRecord c l s → ends 0x8F
+    line-8f fl mk r =
+        get-line C (r .started)
+        (get-refused (r .k) 0x8F (r .comes) (reads-bad (asksOn (l .number) (c .iocb)) (readTo (actsOn c l s C) (r .k) (r .started .stands)) (read-at-mark fl mk (r .started) (r .k)) (r .at)))
 
     line-89 : RecordCut c l s → ends 0x89
     line-89 r = get-line (r .device) (r .reads .started) (get-cut (r .reads .k) (r .reads .comes) (r .reads .at) (r .way) (r .stored))
@@ -970,17 +1104,22 @@ module _ (c : Call) (l : Local) (s : Groups) where
         (put-refused (w .k) 0x8D (w .comes)
         (screen-writes (asksOn (l .number) (c .iocb)) (getD (sentBy c l s (w .started .way)) (w .k) 0) (writtenTo (actsOn c l s S) (sentBy c l s (w .started .way)) (w .k) (w .started .stands)) (w .at)))
 
-  line-90 : PaperFull c l s → ends 0x90
-  line-90 w =
+  line-90 : FitLocal l → MarkedAs l s → Full c l s → ends 0x90
+  line-90 fl mk (inr w) =
+      put-line C (w .started)
+      (put-refused (w .k) 0x90 (w .comes)
+      (tape-writes (asksOn (l .number) (c .iocb)) (getD (sentBy c l s (w .started .way)) (w .k) 0) (writtenTo (actsOn c l s C) (sentBy c l s (w .started .way)) (w .k) (w .started .stands))
+      (written-at-mark fl mk (w .started) (w .k)) (w .at)))
+  line-90 fl mk (inl w) =
       put-line P (w .started)
       (put-refused (w .k) 0x90 (w .comes)
       (paper-writes (asksOn (l .number) (c .iocb)) (getD (sentBy c l s (w .started .way)) (w .k) 0) (writtenTo (actsOn c l s P) (sentBy c l s (w .started .way)) (w .k) (w .started .stands)) (w .at)))
 
-  module _ (fl : FitLocal l) (fg : FitGroups s) where
+  module _ (fl : FitLocal l) (fg : FitGroups s) (mk : MarkedAs l s) where
     to : (status : ℕ) → ends status → Row status
-    to status e = subst Row e (row-holds fl fg .line)
+    to status e = subst Row e (row-holds fl mk fg .line)
 
-    one-of : (status : ℕ) → Row status → oneOf (0x01 ∷ 0x86 ∷ 0x84 ∷ 0x81 ∷ 0x85 ∷ 0x83 ∷ 0x87 ∷ 0xB0 ∷ 0x82 ∷ 0x91 ∷ 0x88 ∷ 0x89 ∷ 0x8D ∷ 0x90 ∷ []) status ≡ true
+    one-of : (status : ℕ) → Row status → oneOf (0x01 ∷ 0x86 ∷ 0x84 ∷ 0x81 ∷ 0x85 ∷ 0x83 ∷ 0x87 ∷ 0xB0 ∷ 0x82 ∷ 0x91 ∷ 0x88 ∷ 0x89 ∷ 0x8D ∷ 0x8F ∷ 0x90 ∷ []) status ≡ true
     one-of status r =
         row-any (eqb status 0x01) _ _ _
         (row-any (eqb status 0x86) _ _ _
@@ -995,26 +1134,28 @@ module _ (c : Call) (l : Local) (s : Groups) where
         (row-any (eqb status 0x88) _ _ _
         (row-any (eqb status 0x89) _ _ _
         (row-any (eqb status 0x8D) _ _ _
+        (row-any (eqb status 0x8F) _ _ _
         (row-any (eqb status 0x90) _ _ _
-        (λ n. absurd n)))))))))))))) r
+        (λ n. absurd n))))))))))))))) r
 
     pub call-statuses : CallStatuses c l s (replyStatus (aloneOf (call c) l s .reply))
     unfolding aloneOf planOf planIn
     call-statuses = record {
       iocb-above-7 = (to 0x86, λ h. refused-by 0x86 (plan-86 h));
       illegal = (to 0x84, line-84);
-      open-on-open = (to 0x81, λ h. refused-by 0x81 (plan-81 h));
+      already-open = (to 0x81, line-81);
       transfer-on-closed = (to 0x85, λ h. refused-by 0x85 (plan-85 h));
       reading-without-R = (to 0x83, λ h. refused-by 0x83 (plan-83 h));
       writing-without-W = (to 0x87, λ h. refused-by 0x87 (plan-87 h));
       past-area = (to 0xB0, λ h. refused-by 0xB0 (plan-b0 h));
       no-device = (to 0x82, λ h. refused-by 0x82 (plan-82 h));
       screen-mode = (to 0x91, line-91);
-      end-of-file = (to 0x88, line-88 fg);
+      end-of-file = (to 0x88, line-88 fg fl mk);
       record-cut = (to 0x89, line-89 fg);
       cursor-past = (to 0x8D, line-8d fg);
-      paper-full = (to 0x90, line-90);
-      numbers = one-of (statusOf planned) (row-holds fl fg .line);
+      bad-tape = (to 0x8F, line-8f fg fl mk);
+      full = (to 0x90, line-90 fl mk);
+      numbers = one-of (statusOf planned) (row-holds fl mk fg .line);
     }
 
     -- "Count is bytes stored into or taken from the area."
@@ -1078,15 +1219,15 @@ module _ (c : Call) (l : Local) (s : Groups) where
 
     pub call-shape : Shape (aloneOf (call c) l s .reply)
     unfolding aloneOf planOf planIn
-    call-shape = shape (row-holds fl fg .counts)
+    call-shape = shape (row-holds fl mk fg .counts)
 
     pub call-blocks : CallBlocks c l s (replyStatus (aloneOf (call c) l s .reply)) (aloneOf (call c) l s .local .table)
     unfolding aloneOf planOf planIn
-    call-blocks = row-holds fl fg .blocks
+    call-blocks = row-holds fl mk fg .blocks
 
     pub call-replies : CallReplies c l s (aloneOf (call c) l s .reply) (aloneOf (call c) l s .local .area) (aloneOf (call c) l s .groups)
     unfolding aloneOf planOf planIn
-    call-replies = record { gets = get-reply; puts = put-reply; others = other-reply (row-holds fl fg .counts) }
+    call-replies = record { gets = get-reply; puts = put-reply; others = other-reply (row-holds fl mk fg .counts) }
 
 -- LOAD and FETCH
 pub load-statuses : (address : ℕ) (bytes : List ℕ) (l : Local) (s : Groups) → LoadStatuses address (length bytes) (replyStatus (aloneOf (load address bytes) l s .reply))

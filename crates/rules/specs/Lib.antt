@@ -1,4 +1,6 @@
 pub mod Answers
+pub mod Shape
 pub mod Ports
 pub mod Running
 pub mod Statuses
+pub mod ReadBack

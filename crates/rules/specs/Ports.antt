@@ -24,24 +24,25 @@ pub record OtherStays (port : ℕ) (s : Stick) (l : Lent) (o : Outcome) : Type 0
 pub record OnlyOwn (port : ℕ) (s : Stick) (l : Lent) (o : Outcome) : Type 0 where
   pub others : OtherStays port s l o
   pub blocks : portAt port (o .stick) .table ≡ portAt port s .table
-  pub console : o .stick .console ≡ s .console
-  pub printer : o .stick .printer ≡ s .printer
+  pub devices : o .stick .devices ≡ s .devices
   pub area : o .lent .area ≡ l .area
   pub screen : o .lent .screen ≡ l .screen
   pub paper : o .lent .paper ≡ l .paper
+  pub tape : o .lent .tape ≡ l .tape
 
 -- only the port's own phase is another
 pub record OnlyPhase (port : ℕ) (s : Stick) (l : Lent) (o : Outcome) : Type 0 where
   pub state : otherAt port (o .stick) ≡ otherAt port s
   pub blocks : portAt port (o .stick) .table ≡ portAt port s .table
-  pub console : o .stick .console ≡ s .console
-  pub printer : o .stick .printer ≡ s .printer
+  pub devices : o .stick .devices ≡ s .devices
   pub buffers : o .lent ≡ l
 
 -- only the key that waits on the keyboard is another, the pressed one, not its lock nor inverse
 pub record OnlyKey (code : ℕ) (s : Stick) (l : Lent) (o : Outcome) : Type 0 where
   pub port0 : o .stick .port0 ≡ s .port0
   pub port1 : o .stick .port1 ≡ s .port1
-  pub console : (o .stick .console ≡ s .console) ⊎ (o .stick .console ≡ pressedOf code (s .console))
-  pub printer : o .stick .printer ≡ s .printer
+  pub console : (o .stick .devices .console ≡ s .devices .console) ⊎ (o .stick .devices .console ≡ pressedOf code (s .devices .console))
+  pub printer : o .stick .devices .printer ≡ s .devices .printer
+  pub cassette : o .stick .devices .cassette ≡ s .devices .cassette
+  pub pending : o .stick .devices .pending ≡ s .devices .pending
   pub buffers : o .lent ≡ l

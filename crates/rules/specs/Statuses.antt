@@ -1,5 +1,5 @@
 -- Document 01, Statuses: the table and the order of the checks, a line each: a request alone ends with a status exactly when its line
--- says so. From the message, the port's blocks and area, and the device alone.
+-- says so. From the message, the port's blocks and area, and the device alone. With document 02's Ask 1: the lines of the tape.
 -- Assumes nothing.
 use mathlib.Core.Path.{_≡_}
 use mathlib.Core.Logic.{_↔_, _⊎_}
@@ -16,10 +16,14 @@ use Rattle.keys.specs.Translation.{translateOf}
 use Rattle.cells.specs.Modes.{shapeOf}
 use Rattle.console.specs.Group.{ConsoleGroup}
 use Rattle.printer.specs.Printer.{paperLength, PrinterGroup}
+use Rattle.records.specs.Records.{recordAt}
+use Rattle.records.specs.Kinds.{EndsFile, Wrong}
+use Rattle.cassette.specs.Cassette.{CassetteGroup, markOf}
+use Rattle.cassette.specs.Reads.{Stands}
 use Rattle.blocks.specs.declared.BlockState.{BlockState}
 use Rattle.blocks.specs.declared.BlockState.the-variants as block
 use Rattle.blocks.specs.declared.Device.{Device}
-use Rattle.blocks.specs.declared.Device.the-variants.{E, S, K, P}
+use Rattle.blocks.specs.declared.Device.the-variants.{E, S, K, P, C}
 use Rattle.blocks.specs.declared.Way.{Way}
 use Rattle.blocks.specs.declared.Way.the-variants.{Record}
 use Rattle.blocks.specs.declared.Table.{Table}
@@ -73,6 +77,41 @@ BadMode E aux1 aux2 = ⊥
 BadMode S aux1 aux2 = (bit 16 aux1 ≡ true) ⊎ ((aux2 < 3) ⊎ (8 < aux2))
 BadMode K aux1 aux2 = ⊥
 BadMode P aux1 aux2 = ⊥
+BadMode C aux1 aux2 = ⊥
+
+-- "while any block of either port has C open, another open is $81": a start sees its own port and its group alone, so the group itself
+-- says that one has. It does so by its mark, 0 where none has
+abbrev pub TapeOpen : Groups → Type 0
+TapeOpen s = s .cassette .cassette .mark ≡ 0 → ⊥
+
+-- a block of this table has C open
+pub record HasTapeOpen (table : Table) : Type 0 where
+  pub iocb : ℕ
+  pub number : ℕ
+  pub aux1 : ℕ
+  pub low : iocb ≤ 7
+  pub has : blockAt table iocb .state ≡ block.Open C number aux1
+
+-- of an opening of this device
+abbrev pub OpenElsewhere : Device → Groups → Type 0
+OpenElsewhere E s = ⊥
+OpenElsewhere S s = ⊥
+OpenElsewhere K s = ⊥
+OpenElsewhere P s = ⊥
+OpenElsewhere C s = TapeOpen s
+
+-- the group's mark and the port's blocks are at one: none of "the group's mark and the blocks at odds"
+pub record MarkedAs (l : Local) (s : Groups) : Type 0 where
+  pub marked : (iocb number aux1 : ℕ) → blockAt (l .table) iocb .state ≡ block.Open C number aux1 → s .cassette .cassette .mark ≡ markOf aux1
+
+-- "a tape that runs out reads as $88", and so does a good end record
+pub data AtEnd (g : CassetteGroup) : Type 0 where
+  end-record : (r p : ℕ) → Stands g r p → r < 250 → EndsFile (recordAt (g .tape) r) → AtEnd g
+  run-out : (r p : ℕ) → Stands g r p → 250 ≤ r → AtEnd g
+
+-- "A bad checksum, control byte or partial count (0, above 127) reads as $8F each time"
+pub data AtBad (g : CassetteGroup) : Type 0 where
+  bad-record : (r p : ℕ) → Stands g r p → r < 250 → Wrong (recordAt (g .tape) r) → AtBad g
 
 module _ (c : Call) (l : Local) (s : Groups) where
   abbrev pub blockState : BlockState
@@ -137,13 +176,19 @@ module _ (c : Call) (l : Local) (s : Groups) where
     pub number : ℕ
     pub specified : Specified (l .area) (c .address) device number
 
+  -- "$81 OPEN on an open block"; "while any block of either port has C open, another open is $81, checked after AUX1 with the group held"
+  pub data AlreadyOpen : Type 0 where
+    block-open : OpenOnOpen → AlreadyOpen
+    tape-open : (device : Device) → NamesDevice device → (NotOffered device (c .aux1) → ⊥) → OpenElsewhere device s → AlreadyOpen
+
   -- "$84 command 0 to 2, 4, 6, 8, $0A; SPECIAL; AUX1 not offered"
   pub data Illegal : Type 0 where
     bad-command : c .iocb ≤ 7 → BadCommand (c .command) → Illegal
     not-offered : (device : Device) → NamesDevice device → NotOffered device (c .aux1) → Illegal
     special-on-open : (device : Device) (number aux1 : ℕ) → OnBlock (block.Open device number aux1) → 0x0D < c .command → Illegal
     -- "a failed open's status stands"
-    special-on-closed : (device : Device) → NamesDevice device → 0x0D < c .command → (NotOffered device (c .aux1) → ⊥) → (BadMode device (c .aux1) (c .aux2) → ⊥) → Illegal
+    special-on-closed : (device : Device) → NamesDevice device → 0x0D < c .command → (NotOffered device (c .aux1) → ⊥) → (BadMode device (c .aux1) (c .aux2) → ⊥)
+        → (OpenElsewhere device s → ⊥) → Illegal
 
   -- a transfer past the $B0 check
   pub record Passed (reading : Bool) (device : Device) : Type 0 where
@@ -184,9 +229,13 @@ module _ (c : Call) (l : Local) (s : Groups) where
     pub comes : WritesTo (actsOn device) (started .way) (c .length) (sentBy (started .way)) (started .stands) k
     pub at : At (getD (sentBy (started .way)) k 0) (writtenTo (actsOn device) (sentBy (started .way)) k (started .stands))
 
-  -- "$88 .. end of file from K": "Empty, above $BF, or no character: $88": key translation gives no character
+  -- "$88 .. end of file from K": "Empty, above $BF, or no character: $88": key translation gives no character; and from C
   abbrev pub EndOfFile : Type 0
-  EndOfFile = ReadsAt K (λ (g : ConsoleGroup). let k = g .console .keyboard in 256 ≤ translateOf (k .code) (k .lock) (k .inverse))
+  EndOfFile = ReadsAt K (λ (g : ConsoleGroup). let k = g .console .keyboard in 256 ≤ translateOf (k .code) (k .lock) (k .inverse)) ⊎ ReadsAt C AtEnd
+
+  -- "$8F" a bad record
+  abbrev pub BadRecord : Type 0
+  BadRecord = ReadsAt C AtBad
 
   -- "$89 .. record cut": "With n stored and no EOL, characters are dropped through the EOL, then $89"
   pub record RecordCut : Type 0 where
@@ -202,16 +251,16 @@ module _ (c : Call) (l : Local) (s : Groups) where
   abbrev pub CursorPast : Type 0
   CursorPast = ReadsAt S PastRows ⊎ WritesAt S (λ (byte : ℕ) (g : ConsoleGroup). (byte ≡ 0x7D → ⊥) × PastRows g)
 
-  -- "$90 paper full": "at 4,096 used, $90"
-  abbrev pub PaperFull : Type 0
-  PaperFull = WritesAt P (λ (byte : ℕ) (g : PrinterGroup). paperLength ≤ g .used)
+  -- "$90 paper full": "at 4,096 used, $90"; "a character after 249 full records gives $90"
+  abbrev pub Full : Type 0
+  Full = WritesAt P (λ (byte : ℕ) (g : PrinterGroup). paperLength ≤ g .used) ⊎ WritesAt C (λ (byte : ℕ) (g : CassetteGroup). 249 ≤ g .cassette .«record»)
 
   -- "CALL order: $86; bad command; $81 or $85; $83 or $87; $B0 and $82; then with the group held AUX1, mode, handler.": each line says
   -- too that the checks before it are passed
   pub record CallStatuses (status : ℕ) : Type 0 where
     pub iocb-above-7 : (status ≡ 0x86) ↔ (7 < c .iocb)
     pub illegal : (status ≡ 0x84) ↔ Illegal
-    pub open-on-open : (status ≡ 0x81) ↔ OpenOnOpen
+    pub already-open : (status ≡ 0x81) ↔ AlreadyOpen
     pub transfer-on-closed : (status ≡ 0x85) ↔ TransferOnClosed
     pub reading-without-R : (status ≡ 0x83) ↔ Undirected true
     pub writing-without-W : (status ≡ 0x87) ↔ Undirected false
@@ -221,9 +270,10 @@ module _ (c : Call) (l : Local) (s : Groups) where
     pub end-of-file : (status ≡ 0x88) ↔ EndOfFile
     pub record-cut : (status ≡ 0x89) ↔ RecordCut
     pub cursor-past : (status ≡ 0x8D) ↔ CursorPast
-    pub paper-full : (status ≡ 0x90) ↔ PaperFull
+    pub bad-tape : (status ≡ 0x8F) ↔ BadRecord
+    pub full : (status ≡ 0x90) ↔ Full
     -- "$01 success", where none of these; no other status
-    pub numbers : oneOf (0x01 ∷ 0x86 ∷ 0x84 ∷ 0x81 ∷ 0x85 ∷ 0x83 ∷ 0x87 ∷ 0xB0 ∷ 0x82 ∷ 0x91 ∷ 0x88 ∷ 0x89 ∷ 0x8D ∷ 0x90 ∷ []) status ≡ true
+    pub numbers : oneOf (0x01 ∷ 0x86 ∷ 0x84 ∷ 0x81 ∷ 0x85 ∷ 0x83 ∷ 0x87 ∷ 0xB0 ∷ 0x82 ∷ 0x91 ∷ 0x88 ∷ 0x89 ∷ 0x8D ∷ 0x8F ∷ 0x90 ∷ []) status ≡ true
 
   -- "Reply $90, length 4: status, count (2), A.": of a GET, with the area and the device that it leaves
   pub record GetReply (device : Device) (t : Started true device) (reply area : List ℕ) (left : Part (groupOf device)) : Type 0 where

@@ -17,9 +17,9 @@ land-at-decides κs a z z′ ws ws′ p e e′ = (refl, ap (λ (s : List ℕ). (
 pub land-at-allows : Allows 1 land-at-kinds.ps land-at-kinds.r land-at-reads.Pre land-at-reads.Learnt
 land-at-allows κs a p = (_, (_, refl))
 
-pub advance-at-decides : Decides 4 advance-at-kinds.ps advance-at-kinds.r advance-at-reads.Pre advance-at-reads.Learnt
-advance-at-decides κs a z z′ ws ws′ p e e′ = (refl, ap (λ (w : Buffers). (tt, (tt, (w .state, (w .area, (w .screen, (w .paper, tt))))))) (e ∙ sym e′))
+pub advance-at-decides : Decides 5 advance-at-kinds.ps advance-at-kinds.r advance-at-reads.Pre advance-at-reads.Learnt
+advance-at-decides κs a z z′ ws ws′ p e e′ = (refl, ap (λ (w : Buffers). (tt, (tt, (w .state, (w .area, (w .screen, (w .paper, (w .tape, tt)))))))) (e ∙ sym e′))
 
-pub advance-at-allows : Allows 4 advance-at-kinds.ps advance-at-kinds.r advance-at-reads.Pre advance-at-reads.Learnt
+pub advance-at-allows : Allows 5 advance-at-kinds.ps advance-at-kinds.r advance-at-reads.Pre advance-at-reads.Learnt
 unfolding advanceOn
 advance-at-allows κs a p = (_, (_, refl))

@@ -54,9 +54,10 @@ pub fn advance_at(
     area: &mut [u8],
     screen: &mut [u8],
     paper: &mut [u8],
+    tape: &mut [u8],
 )
-    requires { ⌜ Going port run (buffers (now state) (now area) (now screen) (now paper)) ⌝ }
-    ensures { λ _. ⌜ buffers (now (state .exit)) (now (area .exit)) (now (screen .exit)) (now (paper .exit)) ≡ advanceOn port run (buffers (now (state .entry)) (now (area .entry)) (now (screen .entry)) (now (paper .entry))) ⌝ }
+    requires { ⌜ Going port run (buffers (now state) (now area) (now screen) (now paper) (now tape)) ⌝ }
+    ensures { λ _. ⌜ buffers (now (state .exit)) (now (area .exit)) (now (screen .exit)) (now (paper .exit)) (now (tape .exit)) ≡ advanceOn port run (buffers (now (state .entry)) (now (area .entry)) (now (screen .entry)) (now (paper .entry)) (now (tape .entry))) ⌝ }
 {
     let from = AREA * (port as usize);
     let end = from + AREA;
@@ -67,6 +68,7 @@ pub fn advance_at(
         &mut state[DEVICES..ROOMS],
         screen,
         paper,
+        tape,
     );
     carry_at(port, run, carried, state);
 }

@@ -4,7 +4,9 @@ use crate::ops;
 use crate::ops::CallOp;
 use crate::ops::Op;
 use crate::say;
+use crate::tape;
 use crate::ticks;
+use crate::writes;
 
 // A call's answer, and of a give the reply byte: the low and the high byte of the number that the call returned.
 fn write(call: CallOp, number: u16) {
@@ -20,13 +22,26 @@ fn write(call: CallOp, number: u16) {
 }
 
 // Writes it, and returns the op that is next.
-pub fn next(op: Op, number: u16, state: &[u8], area: &[u8], screen: &[u8], paper: &[u8]) -> Op {
+fn answered(
+    op: Op,
+    number: u16,
+    state: &[u8],
+    area: &[u8],
+    screen: &[u8],
+    paper: &[u8],
+    tape: &[u8],
+) -> Op {
     match op {
         Op::Start => ops::read(),
         Op::End => Op::End,
         Op::Lend(which, length) => ops::read(),
+        Op::Write(which, at, count) => ops::read(),
         Op::Dump => {
             dump::write(state, area, screen, paper);
+            ops::read()
+        }
+        Op::DumpTape => {
+            tape::write(state, tape);
             ops::read()
         }
         Op::Ticks(port, most, made) => {
@@ -37,4 +52,18 @@ pub fn next(op: Op, number: u16, state: &[u8], area: &[u8], screen: &[u8], paper
             ops::read()
         }
     }
+}
+
+// The same, once an op that writes into a buffer has done so.
+pub fn next(
+    op: Op,
+    number: u16,
+    state: &[u8],
+    area: &mut [u8],
+    screen: &mut [u8],
+    paper: &mut [u8],
+    tape: &mut [u8],
+) -> Op {
+    let done = writes::done(op, area, screen, paper, tape);
+    answered(done, number, state, area, screen, paper, tape)
 }

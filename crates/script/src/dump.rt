@@ -1,4 +1,4 @@
-// A dump: area, screen and paper whole, then what the state holds, from its bytes.
+// A dump: area, screen and paper whole, then what the state holds but for the cassette, from its bytes.
 use crate::say;
 use layout::places;
 
@@ -6,13 +6,16 @@ const CONSOLE: usize = places::DEVICES + places::CONSOLE;
 
 const PRINTER: usize = places::DEVICES + places::PRINTER;
 
+const CASSETTE: usize = places::DEVICES + places::CASSETTE;
+
 // The letter of the device whose number a block holds.
 fn letter(device: u8) -> u8 {
     match device {
         1 => b'E',
         2 => b'S',
         3 => b'K',
-        _ => b'P',
+        4 => b'P',
+        _ => b'C',
     }
 }
 
@@ -42,7 +45,7 @@ fn write_table(table: &[u8]) {
 
 fn write_state(state: &[u8]) {
     if state.len() == places::STATE {
-        say::bytes(&state[PRINTER..places::ROOMS]);
+        say::bytes(&state[PRINTER..CASSETTE]);
         say::bytes(&state[CONSOLE..PRINTER]);
         write_table(&state[places::PHASE..]);
         write_table(&state[places::PORT + places::PHASE..]);

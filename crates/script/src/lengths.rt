@@ -6,6 +6,7 @@ pub struct LentLengths {
     pub screen: u32,
     pub paper: u32,
     pub state: u32,
+    pub tape: u32,
 }
 
 impl LentLengths {
@@ -16,10 +17,11 @@ impl LentLengths {
             screen: u32::MAX,
             paper: u32::MAX,
             state: u32::MAX,
+            tape: u32::MAX,
         }
     }
 
-    // Another length for buffer 0, area; 1, screen; 2, paper; 3, state.
+    // Another length for buffer 0, area; 1, screen; 2, paper; 3, state; 4, tape.
     fn lend(self, which: u8, length: u32) -> LentLengths {
         let mut next = self;
         match which {
@@ -35,6 +37,9 @@ impl LentLengths {
             3 => {
                 next.state = length;
             }
+            4 => {
+                next.tape = length;
+            }
             _ => {}
         }
         next
@@ -46,7 +51,9 @@ impl LentLengths {
             Op::Start => self,
             Op::End => self,
             Op::Lend(which, length) => self.lend(which, length),
+            Op::Write(which, at, count) => self,
             Op::Dump => self,
+            Op::DumpTape => self,
             Op::Ticks(port, most, made) => self,
             Op::Call(call) => self,
         }

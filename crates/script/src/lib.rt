@@ -5,4 +5,6 @@ pub mod dump;
 pub mod lengths;
 pub mod ops;
 pub mod say;
+pub mod tape;
 pub mod ticks;
+pub mod writes;

@@ -12,12 +12,14 @@ pub enum CallOp {
 }
 
 // `Start` stands before a script: a fresh start for which nothing is written. `Ticks` has a port, how many ticks there are at most,
-// while the port runs on, and how many there were.
+// while the port runs on, and how many there were. `Write` has a buffer, a place in it, and how many bytes follow.
 pub enum Op {
     Start,
     End,
     Lend(u8, u32),
+    Write(u8, u32, u16),
     Dump,
+    DumpTape,
     Ticks(u8, u16, u16),
     Call(CallOp),
 }
@@ -29,7 +31,9 @@ impl Op {
             Op::Start => false,
             Op::End => true,
             Op::Lend(which, length) => false,
+            Op::Write(which, at, count) => false,
             Op::Dump => false,
+            Op::DumpTape => false,
             Op::Ticks(port, most, made) => false,
             Op::Call(call) => false,
         }
@@ -41,7 +45,9 @@ impl Op {
             Op::Start => CallOp::Fresh,
             Op::End => CallOp::Nothing,
             Op::Lend(which, length) => CallOp::Nothing,
+            Op::Write(which, at, count) => CallOp::Nothing,
             Op::Dump => CallOp::Nothing,
+            Op::DumpTape => CallOp::Nothing,
             Op::Ticks(port, most, made) => {
                 if made < most {
                     return CallOp::Tick(port);
@@ -62,6 +68,7 @@ fn operands(op: u8) -> u8 {
         b'P' => 1,
         b'X' => 3,
         b'L' => 4,
+        b'W' => 6,
         _ => 0,
     }
 }
@@ -75,7 +82,7 @@ fn long(low: u8, middle: u8, high: u8) -> u32 {
 }
 
 // An op and its operands, as far as it has some.
-fn op_of(op: u8, first: u8, second: u8, third: u8, fourth: u8) -> Op {
+fn op_of(op: u8, first: u8, second: u8, third: u8, fourth: u8, fifth: u8, sixth: u8) -> Op {
     match op {
         b'F' => Op::Call(CallOp::Fresh),
         b'T' => Op::Call(CallOp::Take(first, second)),
@@ -84,20 +91,30 @@ fn op_of(op: u8, first: u8, second: u8, third: u8, fourth: u8) -> Op {
         b'P' => Op::Call(CallOp::Press(first)),
         b'X' => Op::Ticks(first, word(second, third), 0),
         b'L' => Op::Lend(first, long(second, third, fourth)),
+        b'W' => Op::Write(first, long(second, third, fourth), word(fifth, sixth)),
         b'D' => Op::Dump,
+        b'C' => Op::DumpTape,
         _ => Op::End,
     }
 }
 
 // The operands of an op that has been read.
 fn read_operands(op: u8) -> Op {
-    let mut bytes = [0u8; 4];
+    let mut bytes = [0u8; 6];
     let n = io::count(operands(op) as isize, &bytes);
     let got = io::read_full(STDIN_FILENO, &mut bytes[..n]);
     if got < n {
         return Op::End;
     }
-    op_of(op, bytes[0], bytes[1], bytes[2], bytes[3])
+    op_of(
+        op,
+        bytes[0],
+        bytes[1],
+        bytes[2],
+        bytes[3],
+        bytes[4],
+        bytes[5],
+    )
 }
 
 pub fn read() -> Op {

@@ -11,9 +11,17 @@ ghost use Rattle.calls.specs.Bytes.{buffers, left, leftOf, stickBy, lentBy};
 ghost use Rattle.calls.specs.Parts.{Called, Rooms, consoleHeldOn, keyOn};
 
 // A byte offered by a port's host.
-pub fn take_at(port: u8, byte: u8, state: &mut [u8], area: &[u8], screen: &[u8], paper: &[u8]) -> u8
-    requires { ⌜ Called port (buffers (now state) (now area) (now screen) (now paper)) ⌝ }
-    ensures { λ r. ⌜ left r 0 (buffers (now (state .exit)) (now (area .entry)) (now (screen .entry)) (now (paper .entry))) ≡ leftOf (takeAt port (stickBy (buffers (now (state .entry)) (now (area .entry)) (now (screen .entry)) (now (paper .entry)))) (lentBy (buffers (now (state .entry)) (now (area .entry)) (now (screen .entry)) (now (paper .entry)))) byte) ⌝ }
+pub fn take_at(
+    port: u8,
+    byte: u8,
+    state: &mut [u8],
+    area: &[u8],
+    screen: &[u8],
+    paper: &[u8],
+    tape: &[u8],
+) -> u8
+    requires { ⌜ Called port (buffers (now state) (now area) (now screen) (now paper) (now tape)) ⌝ }
+    ensures { λ r. ⌜ left r 0 (buffers (now (state .exit)) (now (area .entry)) (now (screen .entry)) (now (paper .entry)) (now (tape .entry))) ≡ leftOf (takeAt port (stickBy (buffers (now (state .entry)) (now (area .entry)) (now (screen .entry)) (now (paper .entry)) (now (tape .entry)))) (lentBy (buffers (now (state .entry)) (now (area .entry)) (now (screen .entry)) (now (paper .entry)) (now (tape .entry)))) byte) ⌝ }
 {
     let room = ROOMS + ROOM * (port as usize);
     let past = room + ROOM;
@@ -39,9 +47,16 @@ fn both(answer: u8, byte: u8) -> u16
 }
 
 // The next byte of a port's reply, above the answer.
-pub fn give_at(port: u8, state: &mut [u8], area: &[u8], screen: &[u8], paper: &[u8]) -> u16
-    requires { ⌜ Called port (buffers (now state) (now area) (now screen) (now paper)) ⌝ }
-    ensures { λ r. ⌜ returned r (buffers (now (state .exit)) (now (area .entry)) (now (screen .entry)) (now (paper .entry))) ≡ bothOf (leftOf (giveAt port (stickBy (buffers (now (state .entry)) (now (area .entry)) (now (screen .entry)) (now (paper .entry)))) (lentBy (buffers (now (state .entry)) (now (area .entry)) (now (screen .entry)) (now (paper .entry)))))) ⌝ }
+pub fn give_at(
+    port: u8,
+    state: &mut [u8],
+    area: &[u8],
+    screen: &[u8],
+    paper: &[u8],
+    tape: &[u8],
+) -> u16
+    requires { ⌜ Called port (buffers (now state) (now area) (now screen) (now paper) (now tape)) ⌝ }
+    ensures { λ r. ⌜ returned r (buffers (now (state .exit)) (now (area .entry)) (now (screen .entry)) (now (paper .entry)) (now (tape .entry))) ≡ bothOf (leftOf (giveAt port (stickBy (buffers (now (state .entry)) (now (area .entry)) (now (screen .entry)) (now (paper .entry)) (now (tape .entry)))) (lentBy (buffers (now (state .entry)) (now (area .entry)) (now (screen .entry)) (now (paper .entry)) (now (tape .entry)))))) ⌝ }
 {
     let room = ROOMS + ROOM * (port as usize);
     let past = room + ROOM;
@@ -78,9 +93,16 @@ fn store_key(code: u8, state: &mut [u8])
 }
 
 // A key of the console.
-pub fn press_at(code: u8, state: &mut [u8], area: &[u8], screen: &[u8], paper: &[u8]) -> u8
-    requires { ⌜ Called 0 (buffers (now state) (now area) (now screen) (now paper)) ⌝ }
-    ensures { λ r. ⌜ left r 0 (buffers (now (state .exit)) (now (area .entry)) (now (screen .entry)) (now (paper .entry))) ≡ leftOf (pressAt (stickBy (buffers (now (state .entry)) (now (area .entry)) (now (screen .entry)) (now (paper .entry)))) (lentBy (buffers (now (state .entry)) (now (area .entry)) (now (screen .entry)) (now (paper .entry)))) code) ⌝ }
+pub fn press_at(
+    code: u8,
+    state: &mut [u8],
+    area: &[u8],
+    screen: &[u8],
+    paper: &[u8],
+    tape: &[u8],
+) -> u8
+    requires { ⌜ Called 0 (buffers (now state) (now area) (now screen) (now paper) (now tape)) ⌝ }
+    ensures { λ r. ⌜ left r 0 (buffers (now (state .exit)) (now (area .entry)) (now (screen .entry)) (now (paper .entry)) (now (tape .entry))) ≡ leftOf (pressAt (stickBy (buffers (now (state .entry)) (now (area .entry)) (now (screen .entry)) (now (paper .entry)) (now (tape .entry)))) (lentBy (buffers (now (state .entry)) (now (area .entry)) (now (screen .entry)) (now (paper .entry)) (now (tape .entry)))) code) ⌝ }
 {
     if holds_console(0, state) {
         return 6;

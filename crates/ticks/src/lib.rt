@@ -49,9 +49,10 @@ fn errand_at(
     area: &mut [u8],
     screen: &[u8],
     paper: &[u8],
+    tape: &[u8],
 )
     requires { ⌜ Halves port (now state) (now area) ⌝ }
-    ensures { λ _. ⌜ buffers (now (state .exit)) (now (area .exit)) (now (screen .entry)) (now (paper .entry)) ≡ errandOn port errand (buffers (now (state .entry)) (now (area .entry)) (now (screen .entry)) (now (paper .entry))) ⌝ }
+    ensures { λ _. ⌜ buffers (now (state .exit)) (now (area .exit)) (now (screen .entry)) (now (paper .entry)) (now (tape .entry)) ≡ errandOn port errand (buffers (now (state .entry)) (now (area .entry)) (now (screen .entry)) (now (paper .entry)) (now (tape .entry))) ⌝ }
 {
     let from = AREA * (port as usize);
     let end = from + AREA;
@@ -62,14 +63,30 @@ fn errand_at(
 }
 
 // A start with its group held.
-fn job_at(port: u8, job: Job, state: &mut [u8], area: &[u8], screen: &mut [u8], paper: &mut [u8])
-    requires { ⌜ Called port (buffers (now state) (now area) (now screen) (now paper)) ⌝ }
-    ensures { λ _. ⌜ buffers (now (state .exit)) (now (area .entry)) (now (screen .exit)) (now (paper .exit)) ≡ jobOn port job (buffers (now (state .entry)) (now (area .entry)) (now (screen .entry)) (now (paper .entry))) ⌝ }
+fn job_at(
+    port: u8,
+    job: Job,
+    state: &mut [u8],
+    area: &[u8],
+    screen: &mut [u8],
+    paper: &mut [u8],
+    tape: &mut [u8],
+)
+    requires { ⌜ Called port (buffers (now state) (now area) (now screen) (now paper) (now tape)) ⌝ }
+    ensures { λ _. ⌜ buffers (now (state .exit)) (now (area .entry)) (now (screen .exit)) (now (paper .exit)) (now (tape .exit)) ≡ jobOn port job (buffers (now (state .entry)) (now (area .entry)) (now (screen .entry)) (now (paper .entry)) (now (tape .entry))) ⌝ }
 {
     let call = job.call;
     let iocb = call.iocb;
     let block = ports::block_of(port, iocb, state);
-    let begin = cio::start::start(port, job, block, &mut state[DEVICES..ROOMS], screen, paper);
+    let begin = cio::start::start(
+        port,
+        job,
+        block,
+        &mut state[DEVICES..ROOMS],
+        screen,
+        paper,
+        tape,
+    );
     let after = begin.block;
     let next = begin.next;
     ports::set_block(port, iocb, after, state);
@@ -83,13 +100,14 @@ fn start_at(
     area: &mut [u8],
     screen: &mut [u8],
     paper: &mut [u8],
+    tape: &mut [u8],
 )
-    requires { ⌜ Called port (buffers (now state) (now area) (now screen) (now paper)) ⌝ }
-    ensures { λ _. ⌜ buffers (now (state .exit)) (now (area .exit)) (now (screen .exit)) (now (paper .exit)) ≡ startOn port plan (buffers (now (state .entry)) (now (area .entry)) (now (screen .entry)) (now (paper .entry))) ⌝ }
+    requires { ⌜ Called port (buffers (now state) (now area) (now screen) (now paper) (now tape)) ⌝ }
+    ensures { λ _. ⌜ buffers (now (state .exit)) (now (area .exit)) (now (screen .exit)) (now (paper .exit)) (now (tape .exit)) ≡ startOn port plan (buffers (now (state .entry)) (now (area .entry)) (now (screen .entry)) (now (paper .entry)) (now (tape .entry))) ⌝ }
 {
     match plan {
-        Plan::Free(errand) => errand_at(port, errand, state, area, screen, paper),
-        Plan::On(job) => job_at(port, job, state, area, screen, paper),
+        Plan::Free(errand) => errand_at(port, errand, state, area, screen, paper, tape),
+        Plan::On(job) => job_at(port, job, state, area, screen, paper, tape),
     }
 }
 
@@ -101,15 +119,16 @@ fn ready_at(
     area: &mut [u8],
     screen: &mut [u8],
     paper: &mut [u8],
+    tape: &mut [u8],
 ) -> u8
-    requires { ⌜ Called port (buffers (now state) (now area) (now screen) (now paper)) ⌝ }
-    ensures { λ r. ⌜ left r 0 (buffers (now (state .exit)) (now (area .exit)) (now (screen .exit)) (now (paper .exit))) ≡ readyOn port header (buffers (now (state .entry)) (now (area .entry)) (now (screen .entry)) (now (paper .entry))) ⌝ }
+    requires { ⌜ Called port (buffers (now state) (now area) (now screen) (now paper) (now tape)) ⌝ }
+    ensures { λ r. ⌜ left r 0 (buffers (now (state .exit)) (now (area .exit)) (now (screen .exit)) (now (paper .exit)) (now (tape .exit))) ≡ readyOn port header (buffers (now (state .entry)) (now (area .entry)) (now (screen .entry)) (now (paper .entry)) (now (tape .entry))) ⌝ }
 {
     let plan = plan_at(port, header, state, area);
     if waits(port, plan, state) {
         return 8;
     }
-    start_at(port, plan, state, area, screen, paper);
+    start_at(port, plan, state, area, screen, paper, tape);
     0
 }
 
@@ -119,19 +138,20 @@ pub fn tick_at(
     area: &mut [u8],
     screen: &mut [u8],
     paper: &mut [u8],
+    tape: &mut [u8],
 ) -> u8
-    requires { ⌜ Called port (buffers (now state) (now area) (now screen) (now paper)) ⌝ }
-    ensures { λ r. ⌜ left r 0 (buffers (now (state .exit)) (now (area .exit)) (now (screen .exit)) (now (paper .exit))) ≡ leftOf (tickAt port (stickBy (buffers (now (state .entry)) (now (area .entry)) (now (screen .entry)) (now (paper .entry)))) (lentBy (buffers (now (state .entry)) (now (area .entry)) (now (screen .entry)) (now (paper .entry))))) ⌝ }
+    requires { ⌜ Called port (buffers (now state) (now area) (now screen) (now paper) (now tape)) ⌝ }
+    ensures { λ r. ⌜ left r 0 (buffers (now (state .exit)) (now (area .exit)) (now (screen .exit)) (now (paper .exit)) (now (tape .exit))) ≡ leftOf (tickAt port (stickBy (buffers (now (state .entry)) (now (area .entry)) (now (screen .entry)) (now (paper .entry)) (now (tape .entry)))) (lentBy (buffers (now (state .entry)) (now (area .entry)) (now (screen .entry)) (now (paper .entry)) (now (tape .entry))))) ⌝ }
 {
     let number = ports::phase_number(port, state);
     if number == 2 {
         let run = ports::run_of(port, state);
-        running::advance_at(port, run, state, area, screen, paper);
+        running::advance_at(port, run, state, area, screen, paper, tape);
         return 0;
     }
     if number == 1 {
         let header = ports::header_of(port, state);
-        return ready_at(port, header, state, area, screen, paper);
+        return ready_at(port, header, state, area, screen, paper, tape);
     }
     7
 }

@@ -18,6 +18,8 @@ use Rattle.writing.proofs.console.Kinds as console-kinds
 use Rattle.writing.proofs.console.Reads as console-reads
 use Rattle.writing.proofs.printer.Kinds as printer-kinds
 use Rattle.writing.proofs.printer.Reads as printer-reads
+use Rattle.writing.proofs.cassette.Kinds as cassette-kinds
+use Rattle.writing.proofs.cassette.Reads as cassette-reads
 
 pub block-decides : Decides 1 block-kinds.ps block-kinds.r block-reads.Pre block-reads.Learnt
 block-decides κs a z z′ ws ws′ p e e′ = (refl, ap (λ (l : List ℕ). (l, (tt, (tt, tt)))) (e ∙ sym e′))
@@ -60,3 +62,9 @@ printer-decides κs a z z′ ws ws′ p e e′ = (refl, ap (λ (l : List ℕ). (
 
 pub printer-allows : Allows 1 printer-kinds.ps printer-kinds.r printer-reads.Pre printer-reads.Learnt
 printer-allows κs a p = (_, (_, refl))
+
+pub cassette-decides : Decides 1 cassette-kinds.ps cassette-kinds.r cassette-reads.Pre cassette-reads.Learnt
+cassette-decides κs a z z′ ws ws′ p e e′ = (refl, ap (λ (l : List ℕ). (l, (tt, tt))) (e ∙ sym e′))
+
+pub cassette-allows : Allows 1 cassette-kinds.ps cassette-kinds.r cassette-reads.Pre cassette-reads.Learnt
+cassette-allows κs a p = (_, (_, refl))

@@ -11,6 +11,7 @@ use blocks::Reply;
 use blocks::Run;
 use blocks::Table;
 use blocks::Way;
+use cassette::Cassette;
 use console::state::Console;
 use editor::ReadColumn;
 use layout::places::BLOCK;
@@ -22,8 +23,8 @@ ghost use Prim.Native.Nat.{_+_, _≤_};
 ghost use lib.ListN.{length};
 ghost use lib.Seq.{sets};
 ghost use Rattle.base.specs.Choice.{pick};
-ghost use Rattle.layout.specs.Places.{phaseLength, blockLength, tableLength, portLength, consoleLength, printerLength};
-ghost use Rattle.layout.specs.Layout.{deviceNumber, wayNumber, putNumber, kindNumber, blockBytes, tableBytes, phaseBytes, portBytes, readingByte, consoleBytes, printerBytes};
+ghost use Rattle.layout.specs.Places.{phaseLength, blockLength, tableLength, portLength, consoleLength, printerLength, cassetteLength};
+ghost use Rattle.layout.specs.Layout.{deviceNumber, wayNumber, putNumber, kindNumber, blockBytes, tableBytes, phaseBytes, portBytes, readingByte, consoleBytes, printerBytes, cassetteBytes};
 
 fn device_number(device: Device) -> u8
     ensures { λ r. ⌜ r ≡ deviceNumber device ⌝ }
@@ -33,6 +34,7 @@ fn device_number(device: Device) -> u8
         Device::S => 2,
         Device::K => 3,
         Device::P => 4,
+        Device::C => 5,
     }
 }
 
@@ -236,4 +238,13 @@ pub fn printer(bytes: &mut [u8], printer: Printer)
 {
     bytes[0] = (printer.used % 256) as u8;
     bytes[1] = (printer.used / 256) as u8;
+}
+
+pub fn cassette(bytes: &mut [u8], cassette: Cassette)
+    requires { ⌜ cassetteLength ≤ length (now bytes) ⌝ }
+    ensures { λ _. ⌜ now (bytes .exit) ≡ sets (now (bytes .entry)) 0 (cassetteBytes cassette) ⌝ }
+{
+    bytes[0] = cassette.mark;
+    bytes[1] = cassette.record;
+    bytes[2] = cassette.place;
 }

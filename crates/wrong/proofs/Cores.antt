@@ -82,10 +82,10 @@ quiet-tick v r e =
     ∙ ap (λ (x : Phase real). record { ports = record { zeroth = record { local = localAt real port-0 v; phase = x }; first = v .ports .first }; devs = v .devs }) (sym e)
 
 module _ (f : Phase real → PortName → View real → Effect real (View real)) (same : (r : ReplyBytes ℕ) (v : View real) → f (replying r) port-0 v ≡ callOf real (tick port-0) v) where
-  abbrev byPhase : Core real
+  abbrev pub byPhase : Core real
   byPhase = with-call real (whenTicked real (λ p v. f (phaseAt real p v) p v))
 
-  replied-stays : (v : View real) (r : ReplyBytes ℕ) → phaseAt real port-0 v ≡ replying r → (n : ℕ) → ticked real byPhase n port-0 v ≡ v
+  pub replied-stays : (v : View real) (r : ReplyBytes ℕ) → phaseAt real port-0 v ≡ replying r → (n : ℕ) → ticked real byPhase n port-0 v ≡ v
   replied-stays v r e n =
       stays byPhase port-0 v (ap (λ (x : Phase real). f x port-0 v .world) e ∙ ap (λ (y : Effect real (View real)). y .world) (same r v) ∙ quiet-tick v r e) n
 

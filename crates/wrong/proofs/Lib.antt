@@ -1,2 +1,3 @@
 pub mod Cores
 pub mod Rules
+pub mod Tapes

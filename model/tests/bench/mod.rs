@@ -1,6 +1,8 @@
 //! A bench for the tests: whole requests on a model.
 #![allow(dead_code)]
 
+pub mod examples;
+
 use model::random::{call, fetch, load};
 use model::stick::*;
 

@@ -1,6 +1,6 @@
--- `close` meets its contract, by `close-console` and `close-printer`.
+-- `close` meets its contract, by `close-console`, `close-printer` and `close-cassette`.
 -- Assumes nothing.
-use Rattle.devices.proofs.Arms.{close-console, close-printer}
+use Rattle.devices.proofs.Arms.{close-console, close-printer, close-cassette}
 use borrow.Author.Needs.{needs}
 use Rattle.devices.proofs.close.Statement.{statement}
 use Rattle.devices.proofs.close.Tie as tie
@@ -14,9 +14,11 @@ close-spec =
     (λ c κs. search needs)  -- console-of-requires
     (λ c κs. search needs)  -- set-console-requires
     (λ c. search needs)  -- enum-told
-    (λ c κs. search needs)  -- printer-of-requires
-    (λ c κs. search needs)  -- set-printer-requires
+    (λ c. search needs)  -- enum-told-2
+    (λ c κs. search needs)  -- close-requires
     (λ c. search needs)  -- same-length
     (λ c. search close-console)  -- returns
+    (λ c. search close-printer)  -- returns-2
     (λ c. search needs)  -- same-length-2
-    (λ c. search close-printer))  -- returns-2
+    (λ c. search needs)  -- same-length-3
+    (λ c. search close-cassette))  -- returns-3

@@ -1,6 +1,6 @@
--- `open` meets its contract, by `open-console` and `open-printer`.
+-- `open` meets its contract, by `open-console`, `open-printer` and `open-cassette`.
 -- Assumes nothing.
-use Rattle.devices.proofs.Arms.{open-console, open-printer}
+use Rattle.devices.proofs.Arms.{open-console, open-printer, open-cassette}
 use borrow.Author.Needs.{needs}
 use Rattle.devices.proofs.open.Statement.{statement}
 use Rattle.devices.proofs.open.Tie as tie
@@ -15,10 +15,12 @@ open-spec =
     (λ c κs. search needs)  -- open-requires
     (λ c κs. search needs)  -- set-console-requires
     (λ c. search needs)  -- enum-told
-    (λ c κs. search needs)  -- printer-of-requires
-    (λ c κs. search needs)  -- set-printer-requires
+    (λ c. search needs)  -- enum-told-2
+    (λ c κs. search needs)  -- open-requires-2
     (λ c. search needs)  -- same-length
     (λ c. search needs)  -- same-length-2
     (λ c. search open-console)  -- returns
+    (λ c. search open-printer)  -- returns-2
     (λ c. search needs)  -- same-length-3
-    (λ c. search open-printer))  -- returns-2
+    (λ c. search needs)  -- same-length-4
+    (λ c. search open-cassette))  -- returns-3

@@ -1,6 +1,6 @@
--- `prepare` meets its contract, by `prepare-console` and `prepare-printer`.
+-- `prepare` meets its contract, by `prepare-console`, `prepare-printer` and `prepare-cassette`.
 -- Assumes nothing.
-use Rattle.devices.proofs.Arms.{prepare-console, prepare-printer}
+use Rattle.devices.proofs.Arms.{prepare-console, prepare-printer, prepare-cassette}
 use borrow.Author.Needs.{needs}
 use Rattle.devices.proofs.prepare.Statement.{statement}
 use Rattle.devices.proofs.prepare.Tie as tie
@@ -15,10 +15,9 @@ prepare-spec =
     (λ c κs. search needs)  -- prepare-requires
     (λ c κs. search needs)  -- set-console-requires
     (λ c. search needs)  -- enum-told
-    (λ c κs. search needs)  -- printer-of-requires
-    (λ c κs. search needs)  -- set-printer-requires
+    (λ c. search needs)  -- enum-told-2
     (λ c. search needs)  -- same-length
     (λ c. search needs)  -- same-length-2
     (λ c. search prepare-console)  -- returns
-    (λ c. search needs)  -- same-length-3
-    (λ c. search prepare-printer))  -- returns-2
+    (λ c. search prepare-printer)  -- returns-2
+    (λ c. search prepare-cassette))  -- returns-3

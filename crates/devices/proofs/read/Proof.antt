@@ -1,6 +1,6 @@
--- `read` meets its contract, by `read-console` and `read-printer`.
+-- `read` meets its contract, by `read-console`, `read-printer` and `read-cassette`.
 -- Assumes nothing.
-use Rattle.devices.proofs.Arms.{read-console, read-printer}
+use Rattle.devices.proofs.Arms.{read-console, read-printer, read-cassette}
 use borrow.Author.Needs.{needs}
 use Rattle.devices.proofs.read.Statement.{statement}
 use Rattle.devices.proofs.read.Tie as tie
@@ -15,10 +15,12 @@ read-spec =
     (λ c κs. search needs)  -- read-requires
     (λ c κs. search needs)  -- set-console-requires
     (λ c. search needs)  -- enum-told
-    (λ c κs. search needs)  -- printer-of-requires
-    (λ c κs. search needs)  -- set-printer-requires
+    (λ c. search needs)  -- enum-told-2
+    (λ c κs. search needs)  -- read-requires-2
     (λ c. search needs)  -- same-length
     (λ c. search needs)  -- same-length-2
     (λ c. search read-console)  -- returns
+    (λ c. search read-printer)  -- returns-2
     (λ c. search needs)  -- same-length-3
-    (λ c. search read-printer))  -- returns-2
+    (λ c. search needs)  -- same-length-4
+    (λ c. search read-cassette))  -- returns-3

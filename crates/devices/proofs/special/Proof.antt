@@ -1,6 +1,6 @@
--- `special` meets its contract, by `special-console` and `special-printer`.
+-- `special` meets its contract, by `special-console`, `special-printer` and `special-cassette`.
 -- Assumes nothing.
-use Rattle.devices.proofs.Arms.{special-console, special-printer}
+use Rattle.devices.proofs.Arms.{special-console, special-printer, special-cassette}
 use borrow.Author.Needs.{needs}
 use Rattle.devices.proofs.special.Statement.{statement}
 use Rattle.devices.proofs.special.Tie as tie
@@ -14,9 +14,8 @@ special-spec =
     (λ c κs. search needs)  -- console-of-requires
     (λ c κs. search needs)  -- set-console-requires
     (λ c. search needs)  -- enum-told
-    (λ c κs. search needs)  -- printer-of-requires
-    (λ c κs. search needs)  -- set-printer-requires
+    (λ c. search needs)  -- enum-told-2
     (λ c. search needs)  -- same-length
     (λ c. search special-console)  -- returns
-    (λ c. search needs)  -- same-length-2
-    (λ c. search special-printer))  -- returns-2
+    (λ c. search special-printer)  -- returns-2
+    (λ c. search special-cassette))  -- returns-3

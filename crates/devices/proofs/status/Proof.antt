@@ -1,6 +1,6 @@
--- `status` meets its contract, by `status-console` and `status-printer`.
+-- `status` meets its contract, by `status-console`, `status-printer` and `status-cassette`.
 -- Assumes nothing.
-use Rattle.devices.proofs.Arms.{status-console, status-printer}
+use Rattle.devices.proofs.Arms.{status-console, status-printer, status-cassette}
 use borrow.Author.Needs.{needs}
 use Rattle.devices.proofs.status.Statement.{statement}
 use Rattle.devices.proofs.status.Tie as tie
@@ -12,5 +12,7 @@ status-spec =
     (λ c κs. search needs)  -- owner-of-requires
     (λ c. search needs)  -- enum-known-owner
     (λ c. search needs)  -- enum-told
+    (λ c. search needs)  -- enum-told-2
     (λ c. search status-console)  -- returns
-    (λ c. search status-printer))  -- returns-2
+    (λ c. search status-printer)  -- returns-2
+    (λ c. search status-cassette))  -- returns-3

@@ -1,6 +1,6 @@
--- `write` meets its contract, by `write-console` and `write-printer`.
+-- `write` meets its contract, by `write-console`, `write-printer` and `write-cassette`.
 -- Assumes nothing.
-use Rattle.devices.proofs.Arms.{write-console, write-printer}
+use Rattle.devices.proofs.Arms.{write-console, write-printer, write-cassette}
 use borrow.Author.Needs.{needs}
 use Rattle.devices.proofs.write.Statement.{statement}
 use Rattle.devices.proofs.write.Tie as tie
@@ -18,9 +18,14 @@ write-spec =
     (λ c κs. search needs)  -- printer-of-requires
     (λ c κs. search needs)  -- put-requires
     (λ c κs. search needs)  -- set-printer-requires
+    (λ c. search needs)  -- enum-told-2
+    (λ c κs. search needs)  -- write-requires-2
     (λ c. search needs)  -- same-length
     (λ c. search needs)  -- same-length-2
     (λ c. search write-console)  -- returns
     (λ c. search needs)  -- same-length-3
     (λ c. search needs)  -- same-length-4
-    (λ c. search write-printer))  -- returns-2
+    (λ c. search write-printer)  -- returns-2
+    (λ c. search needs)  -- same-length-5
+    (λ c. search needs)  -- same-length-6
+    (λ c. search write-cassette))  -- returns-3

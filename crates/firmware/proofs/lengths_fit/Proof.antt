@@ -1,6 +1,6 @@
--- `lengths_fit` meets its contract, by `lengths-state`, `lengths-area`, `lengths-screen`, `lengths-paper` and `lengths-all`.
+-- `lengths_fit` meets its contract, by `lengths-state`, `lengths-area`, `lengths-screen`, `lengths-paper` and `lengths-tape`.
 -- Assumes nothing.
-use Rattle.calls.proofs.Passing.{lengths-state, lengths-area, lengths-screen, lengths-paper, lengths-all}
+use Rattle.calls.proofs.Passing.{lengths-state, lengths-area, lengths-screen, lengths-paper, lengths-tape}
 use borrow.Author.Needs.{needs}
 use Rattle.firmware.proofs.lengths_fit.Statement.{statement}
 use Rattle.firmware.proofs.lengths_fit.Tie as tie
@@ -10,7 +10,7 @@ lengths-fit-spec =
     tie.close
     (tie.spec
     (λ c. search needs)  -- mul-if2
-    (λ c. search lengths-all)  -- returns
+    (λ c. search lengths-tape)  -- returns
     (λ c. search lengths-paper)  -- returns-2
     (λ c. search lengths-screen)  -- returns-3
     (λ c. search lengths-area)  -- returns-4

@@ -1,6 +1,6 @@
--- `apart_groups` meets its contract, by `groups-console` and `groups-paper`.
+-- `apart_groups` meets its contract, by `groups-told`.
 -- Assumes nothing.
-use Rattle.judge.proofs.Calls.{groups-console, groups-paper}
+use Rattle.judge.proofs.Calls.{groups-told}
 use borrow.Author.Needs.{needs}
 use Rattle.judge.proofs.apart_groups.Statement.{statement}
 use Rattle.judge.proofs.apart_groups.Tie as tie
@@ -9,8 +9,6 @@ pub apart-groups-spec : {M : Type 1} → statement M
 apart-groups-spec =
     tie.close
     (tie.spec
-    (λ c κs. search needs)  -- on-console-requires
-    (λ c κs. search needs)  -- on-console-requires-2
-    (λ c. search groups-console)  -- returns
-    (λ c κs. search needs)  -- on-console-requires-3
-    (λ c. search groups-paper))  -- returns-2
+    (λ c κs. search needs)  -- group-requires
+    (λ c κs. search needs)  -- group-requires-2
+    (λ c. search groups-told))  -- returns

@@ -14,4 +14,6 @@ aux1-whole-spec =
     (λ c. search calls)  -- returns-2
     (λ c. search calls)  -- returns-3
     (λ c. search calls)  -- returns-4
-    (λ c. search calls))  -- returns-5
+    (λ c. search calls)  -- returns-5
+    (λ c. search calls)  -- returns-6
+    (λ c. search calls))  -- returns-7

@@ -9,10 +9,10 @@ use Rattle.judge.proofs.head.Statement.{statement}
 use Rattle.judge.proofs.head.Tie as tie
 
 abbrev Inv-loop : tie.InvT-loop
-Inv-loop state mode place₀ left₀ place left = (place + portLength * left ≡ devicesPlace) × PortsFrom state place left
+Inv-loop state mode mark place₀ left₀ place left = (place + portLength * left ≡ devicesPlace) × PortsFrom state place left
 
 abbrev μ-loop : tie.MeasureT-loop
-μ-loop state mode place₀ left₀ place left = left
+μ-loop state mode mark place₀ left₀ place left = left
 
 pub head-spec : {M : Type 1} → statement M
 head-spec =
@@ -21,6 +21,7 @@ head-spec =
     Inv-loop
     μ-loop
     (λ c. search needs)  -- shared-slice-read-mode
+    (λ c. search needs)  -- shared-slice-read-mark
     (λ c. (search needs, refl))  -- loop-holds
     (λ c κs. search needs)  -- port-at-requires
     (λ c. search needs)  -- add-place

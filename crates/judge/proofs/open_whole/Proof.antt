@@ -11,7 +11,7 @@ unfolding openWhole
 open-whole-spec =
     tie.close
     (tie.spec
-    (λ c κs. search needs)  -- aux1-whole-requires
+    (λ c κs. search needs)  -- directed-requires
     (λ c. search calls)  -- returns
     (λ c. search calls)  -- returns-2
     (λ c. search calls)  -- returns-3

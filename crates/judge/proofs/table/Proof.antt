@@ -10,10 +10,10 @@ use Rattle.judge.proofs.table.Statement.{statement}
 use Rattle.judge.proofs.table.Tie as tie
 
 abbrev Inv-loop : tie.InvT-loop
-Inv-loop bytes place₀ left₀ place left = (place + 2 * blockLength * left ≡ portLength) × TableFrom bytes place left
+Inv-loop bytes mark place₀ left₀ place left = (place + 2 * blockLength * left ≡ portLength) × TableFrom mark bytes place left
 
 abbrev μ-loop : tie.MeasureT-loop
-μ-loop bytes place₀ left₀ place left = left
+μ-loop bytes mark place₀ left₀ place left = left
 
 pub table-spec : {M : Type 1} → statement M
 unfolding tableWhole

@@ -18,9 +18,11 @@ advance-spec =
     (λ c. search needs)  -- same-length-2
     (λ c. search needs)  -- same-length-3
     (λ c. search needs)  -- same-length-4
-    (λ c. search go-get)  -- returns
     (λ c. search needs)  -- same-length-5
+    (λ c. search go-get)  -- returns
     (λ c. search needs)  -- same-length-6
     (λ c. search needs)  -- same-length-7
     (λ c. search needs)  -- same-length-8
+    (λ c. search needs)  -- same-length-9
+    (λ c. search needs)  -- same-length-10
     (λ c. search go-put))  -- returns-2

@@ -15,4 +15,5 @@ get-spec =
     (λ c. search needs)  -- same-length-2
     (λ c. search needs)  -- same-length-3
     (λ c. search needs)  -- same-length-4
+    (λ c. search needs)  -- same-length-5
     (λ c. search get-law))  -- returns

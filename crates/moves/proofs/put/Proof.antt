@@ -15,4 +15,5 @@ put-spec =
     (λ c. search needs)  -- same-length
     (λ c. search needs)  -- same-length-2
     (λ c. search needs)  -- same-length-3
+    (λ c. search needs)  -- same-length-4
     (λ c. search put-law))  -- returns

@@ -23,4 +23,5 @@ advance-at-spec =
     (λ c. search needs)  -- same-length-2
     (λ c. search needs)  -- same-length-3
     (λ c. search needs)  -- same-length-4
-    (λ c. search advance-law))  -- returns
+    (λ c. search needs)  -- same-length-5
+    (λ c. advance-law _ _ _ _ _ _ _ (c .before .before .before .before .before .before .before .before .before .before .before .before .before .before .before .before .before .before .before .before .before .before .before .before .before .pre) (c .before .before .before .before .before .before .before .before .before .before .before .before .before .before .advance .last .1 .1 .0) (c .before .before .before .before .before .before .before .before .before .before .before .before .before .before .advance .last .1 .1 .1 .0) _ _ _ _ _ (c .before .before .before .before .before .before .before .before .before .before .before .before .before .before .advance .kept .1 .1 .0) (c .before .before .before .before .before .before .before .before .before .before .before .before .before .before .advance .kept .1 .1 .1 .0) (c .before .before .before .before .before .before .before .before .before .before .before .before .before .before .advance .ensures) (c .before .before .carry-at .ensures)))  -- returns

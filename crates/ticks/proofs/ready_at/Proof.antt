@@ -19,4 +19,5 @@ ready-at-spec =
     (λ c. search needs)  -- same-length-4
     (λ c. search needs)  -- same-length-5
     (λ c. search needs)  -- same-length-6
+    (λ c. search needs)  -- same-length-7
     (λ c. search ready-starts))  -- returns-2

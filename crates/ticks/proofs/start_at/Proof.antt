@@ -17,9 +17,11 @@ start-at-spec =
     (λ c. search needs)  -- same-length-2
     (λ c. search needs)  -- same-length-3
     (λ c. search needs)  -- same-length-4
-    (λ c. search start-free)  -- returns
     (λ c. search needs)  -- same-length-5
+    (λ c. search start-free)  -- returns
     (λ c. search needs)  -- same-length-6
     (λ c. search needs)  -- same-length-7
     (λ c. search needs)  -- same-length-8
+    (λ c. search needs)  -- same-length-9
+    (λ c. search needs)  -- same-length-10
     (λ c. search start-on))  -- returns-2

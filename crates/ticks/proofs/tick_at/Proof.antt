@@ -16,13 +16,15 @@ tick-at-spec =
     (λ c. search needs)  -- same-length-2
     (λ c. search needs)  -- same-length-3
     (λ c. search needs)  -- same-length-4
+    (λ c. search needs)  -- same-length-5
     (λ c. search tick-moves)  -- returns
     (λ c κs. search needs)  -- header-of-requires
     (λ c κs. search needs)  -- ready-at-requires
-    (λ c. search needs)  -- same-length-5
     (λ c. search needs)  -- same-length-6
     (λ c. search needs)  -- same-length-7
     (λ c. search needs)  -- same-length-8
-    (λ c. search tick-starts)  -- returns-2
     (λ c. search needs)  -- same-length-9
+    (λ c. search needs)  -- same-length-10
+    (λ c. search tick-starts)  -- returns-2
+    (λ c. search needs)  -- same-length-11
     (λ c. search tick-idle))  -- returns-3

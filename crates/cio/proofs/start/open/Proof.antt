@@ -16,8 +16,10 @@ open-spec =
     (λ c. search needs)  -- same-length
     (λ c. search needs)  -- same-length-2
     (λ c. search needs)  -- same-length-3
-    (λ c. search opened-success)  -- returns
     (λ c. search needs)  -- same-length-4
+    (λ c. search opened-success)  -- returns
     (λ c. search needs)  -- same-length-5
     (λ c. search needs)  -- same-length-6
+    (λ c. search needs)  -- same-length-7
+    (λ c. search needs)  -- same-length-8
     (λ c. search opened-refused))  -- returns-2

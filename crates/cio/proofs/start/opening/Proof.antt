@@ -16,5 +16,6 @@ opening-spec =
     (λ c. search needs)  -- same-length
     (λ c. search needs)  -- same-length-2
     (λ c. search needs)  -- same-length-3
+    (λ c. search needs)  -- same-length-4
     (λ c. search open-offered)  -- returns
     (λ c. search open-not))  -- returns-2

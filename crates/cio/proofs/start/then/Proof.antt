@@ -20,8 +20,10 @@ then-spec =
     (λ c. search needs)  -- same-length
     (λ c. search needs)  -- same-length-2
     (λ c. search needs)  -- same-length-3
-    (λ c. search then-status)  -- returns-2
     (λ c. search needs)  -- same-length-4
+    (λ c. search then-status)  -- returns-2
     (λ c. search needs)  -- same-length-5
     (λ c. search needs)  -- same-length-6
+    (λ c. search needs)  -- same-length-7
+    (λ c. search needs)  -- same-length-8
     (λ c. search then-special))  -- returns-3

@@ -15,4 +15,5 @@ transfer-spec =
     (λ c. search needs)  -- same-length
     (λ c. search needs)  -- same-length-2
     (λ c. search needs)  -- same-length-3
+    (λ c. search needs)  -- same-length-4
     (λ c. search transfer-law))  -- returns

@@ -1,6 +1,6 @@
--- `fresh` meets its contract, by `freshens-long` and `fresh-law`.
+-- `fresh` meets its contract, by `fresh-law`.
 -- Assumes nothing.
-use Rattle.devices.proofs.Arms.{freshens-long, fresh-law}
+use Rattle.devices.proofs.Arms.{fresh-law}
 use borrow.Author.Needs.{needs}
 use Rattle.devices.proofs.fresh.fresh.Statement.{statement}
 use Rattle.devices.proofs.fresh.fresh.Tie as tie
@@ -9,10 +9,9 @@ pub fresh-spec : {M : Type 1} → statement M
 fresh-spec =
     tie.close
     (tie.spec
+    (λ c κs. search needs)  -- paint-requires
     (λ c κs. search needs)  -- fresh-requires
     (λ c κs. search needs)  -- set-console-requires
-    (λ c κs. search needs)  -- fresh-requires-2
-    (λ c κs. search needs)  -- set-printer-requires
     (λ c. search needs)  -- same-length
     (λ c. search needs)  -- same-length-2
     (λ c. search fresh-law))  -- returns

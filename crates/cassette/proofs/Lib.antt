@@ -1,0 +1,6 @@
+pub mod Laws
+pub mod Reading
+pub mod Keeps
+pub mod Back
+pub mod Puts
+pub mod Decided

@@ -1,0 +1,4 @@
+pub mod Cassette
+pub mod Fit
+pub mod Reads
+pub mod Written

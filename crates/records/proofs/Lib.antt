@@ -1,0 +1,5 @@
+pub mod Sums
+pub mod Laws
+pub mod Judging
+pub mod Made
+pub mod Decided

@@ -1,0 +1,35 @@
+"""The words behind a word of the command: its options and operands."""
+
+from __future__ import annotations
+
+from .errors import StickError
+
+
+class Usage(StickError):
+    """Words that make no sense."""
+
+
+def operands(word: str, words: list[str], count: int, what: str = "no more words") -> None:
+    """Nothing but so many operands is left."""
+    wrong = [each for each in words if each.startswith("-") and each != "-"]
+    help_word = f"{word} --help" if " " in word else "--help"
+    if wrong:
+        raise Usage(f"{word} has no option '{wrong[0]}' (try ./stick {help_word})")
+    if len(words) != count:
+        raise Usage(f"{word} takes {what}{' and no more words' if count else ''} (try ./stick {help_word})")
+
+
+def option(words: list[str], name: str) -> tuple[list[str], str | None]:
+    """The words without an option, and its operand."""
+    if name not in words:
+        return words, None
+    at = words.index(name)
+    if at + 1 == len(words):
+        raise Usage(f"{name} needs a word after it")
+    return words[:at] + words[at + 2 :], words[at + 1]
+
+
+def flag(words: list[str], name: str) -> tuple[list[str], bool]:
+    """The words without an option that has no operand, and whether it was
+    there."""
+    return [word for word in words if word != name], name in words
