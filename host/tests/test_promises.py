@@ -225,7 +225,7 @@ class Decided:
     def laws(self) -> Laws:
         """The laws that a crate's own file has."""
         found: Laws = {}
-        for name, word, law, *says in self._found(rf"^pub ([\w-]+-(\w+)) : (\w+) \d+ {SAYS}$"):
+        for name, word, law, *says in self._found(rf"^pub ([\w-]+-(\w+)) : (\w+) {SAYS}$"):
             of = self._about(says)
             if of and (word, law) in {("decides", "Decides"), ("allows", "Allows")}:
                 found.setdefault(of, {})[word] = name
@@ -239,7 +239,7 @@ class Decided:
         name = "all-decided"
         while name in lists:
             body = lists.pop(name)
-            promise = rf"\bpromise \d+ {SAYS} ([\w-]+)\.([\w-]+) ([\w-]+)\.([\w-]+)"
+            promise = rf"\bpromise {SAYS} ([\w-]+)\.([\w-]+) ([\w-]+)\.([\w-]+)"
             for *says, one, decides, other, allows in re.findall(promise, body):
                 of = self._about(says)
                 if of and crates.get(one) == crates.get(other) == of[0]:
@@ -279,9 +279,9 @@ class Functions(unittest.TestCase):
     def test_a_promise_that_does_not_decide(self) -> None:
         """In a copy one law is taken away, mostly with another's put in its place, and that alone is told."""
         says = "{0}-kinds.ps {0}-kinds.r {0}-reads.Pre {0}-reads.Learnt"
-        law = "pub device-of-decides : Decides 0 " + says
+        law = "pub device-of-decides : Decides " + says
         own, other = law.format("device-of"), law.format("offers")
-        promise = f"promise 0 blocks-{says} blocks.{{0}}-decides blocks.{{0}}-allows (".replace(" {0}", " blocks-{0}")
+        promise = f"promise blocks-{says} blocks.{{0}}-decides blocks.{{0}}-allows (".replace(" {0}", " blocks-{0}")
         contract = "pub fn device_of(byte: u8) -> Letter\n    ensures "
         source, decided, demands = "blocks/src/lib.rt", "blocks/proofs/Decided.antt", "demands/proofs/Decided.antt"
         no_law = [f"{source} device_of: no law that it {word}" for word in ENDINGS]

@@ -19,32 +19,32 @@ use Rattle.acts.proofs.read.Reads as read-reads
 use Rattle.acts.proofs.write.Kinds as write-kinds
 use Rattle.acts.proofs.write.Reads as write-reads
 
-pub fresh-decides : Decides 1 fresh-kinds.ps fresh-kinds.r fresh-reads.Pre fresh-reads.Learnt
+pub fresh-decides : Decides fresh-kinds.ps fresh-kinds.r fresh-reads.Pre fresh-reads.Learnt
 fresh-decides κs a z z′ ws ws′ p e e′ = let q = e ∙ sym e′ in (ap (λ (w : ConsoleGroup). w .console) q, ap (λ (w : ConsoleGroup). (w .screen, tt)) q)
 
-pub fresh-allows : Allows 1 fresh-kinds.ps fresh-kinds.r fresh-reads.Pre fresh-reads.Learnt
+pub fresh-allows : Allows fresh-kinds.ps fresh-kinds.r fresh-reads.Pre fresh-reads.Learnt
 fresh-allows κs a p = (_, (_, refl))
 
-pub open-decides : Decides 1 open-kinds.ps open-kinds.r open-reads.Pre open-reads.Learnt
+pub open-decides : Decides open-kinds.ps open-kinds.r open-reads.Pre open-reads.Learnt
 open-decides κs a z z′ ws ws′ p e e′ = let q = e ∙ sym e′ in (ap (λ (w : Answer Done ConsoleGroup). record { console = w .leaves .console; done = w .says }) q, ap (λ (w : Answer Done ConsoleGroup). (tt, (tt, (w .leaves .screen, (tt, (tt, tt)))))) q)
 
-pub open-allows : Allows 1 open-kinds.ps open-kinds.r open-reads.Pre open-reads.Learnt
+pub open-allows : Allows open-kinds.ps open-kinds.r open-reads.Pre open-reads.Learnt
 open-allows κs a p = (_, (_, refl))
 
-pub prepare-decides : Decides 1 prepare-kinds.ps prepare-kinds.r prepare-reads.Pre prepare-reads.Learnt
+pub prepare-decides : Decides prepare-kinds.ps prepare-kinds.r prepare-reads.Pre prepare-reads.Learnt
 prepare-decides κs a z z′ ws ws′ p e e′ = let q = e ∙ sym e′ in (ap (λ (w : Answer Done ConsoleGroup). record { console = w .leaves .console; done = w .says }) q, ap (λ (w : Answer Done ConsoleGroup). (tt, (tt, (w .leaves .screen, tt)))) q)
 
-pub prepare-allows : Allows 1 prepare-kinds.ps prepare-kinds.r prepare-reads.Pre prepare-reads.Learnt
+pub prepare-allows : Allows prepare-kinds.ps prepare-kinds.r prepare-reads.Pre prepare-reads.Learnt
 prepare-allows κs a p = (_, (_, refl))
 
-pub read-decides : Decides 1 read-kinds.ps read-kinds.r read-reads.Pre read-reads.Learnt
+pub read-decides : Decides read-kinds.ps read-kinds.r read-reads.Pre read-reads.Learnt
 read-decides κs a z z′ ws ws′ p e e′ = let q = e ∙ sym e′ in (ap (λ (w : Answer Got ConsoleGroup). record { console = w .leaves .console; got = w .says }) q, ap (λ (w : Answer Got ConsoleGroup). (tt, (tt, (w .leaves .screen, tt)))) q)
 
-pub read-allows : Allows 1 read-kinds.ps read-kinds.r read-reads.Pre read-reads.Learnt
+pub read-allows : Allows read-kinds.ps read-kinds.r read-reads.Pre read-reads.Learnt
 read-allows κs a p = (_, (_, refl))
 
-pub write-decides : Decides 1 write-kinds.ps write-kinds.r write-reads.Pre write-reads.Learnt
+pub write-decides : Decides write-kinds.ps write-kinds.r write-reads.Pre write-reads.Learnt
 write-decides κs a z z′ ws ws′ p e e′ = let q = e ∙ sym e′ in (ap (λ (w : Answer Done ConsoleGroup). record { console = w .leaves .console; done = w .says }) q, ap (λ (w : Answer Done ConsoleGroup). (tt, (tt, (w .leaves .screen, (tt, tt))))) q)
 
-pub write-allows : Allows 1 write-kinds.ps write-kinds.r write-reads.Pre write-reads.Learnt
+pub write-allows : Allows write-kinds.ps write-kinds.r write-reads.Pre write-reads.Learnt
 write-allows κs a p = (_, (_, refl))

@@ -11,14 +11,14 @@ use Rattle.base.proofs.byte_at.Reads as byte-at-reads
 use Rattle.base.proofs.set_byte.Kinds as set-byte-kinds
 use Rattle.base.proofs.set_byte.Reads as set-byte-reads
 
-pub byte-at-decides : Decides 1 byte-at-kinds.ps byte-at-kinds.r byte-at-reads.Pre byte-at-reads.Learnt
+pub byte-at-decides : Decides byte-at-kinds.ps byte-at-kinds.r byte-at-reads.Pre byte-at-reads.Learnt
 byte-at-decides κs a z z′ ws ws′ p e e′ = (e ∙ sym e′, refl)
 
-pub byte-at-allows : Allows 1 byte-at-kinds.ps byte-at-kinds.r byte-at-reads.Pre byte-at-reads.Learnt
+pub byte-at-allows : Allows byte-at-kinds.ps byte-at-kinds.r byte-at-reads.Pre byte-at-reads.Learnt
 byte-at-allows κs a p = (_, (_, refl))
 
-pub set-byte-decides : Decides 1 set-byte-kinds.ps set-byte-kinds.r set-byte-reads.Pre set-byte-reads.Learnt
+pub set-byte-decides : Decides set-byte-kinds.ps set-byte-kinds.r set-byte-reads.Pre set-byte-reads.Learnt
 set-byte-decides κs a z z′ ws ws′ p e e′ = (refl, ap (λ (l : List ℕ). (l, (tt, (tt, tt)))) (e ∙ sym e′))
 
-pub set-byte-allows : Allows 1 set-byte-kinds.ps set-byte-kinds.r set-byte-reads.Pre set-byte-reads.Learnt
+pub set-byte-allows : Allows set-byte-kinds.ps set-byte-kinds.r set-byte-reads.Pre set-byte-reads.Learnt
 set-byte-allows κs a p = (_, (_, refl))

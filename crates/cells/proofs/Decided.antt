@@ -29,74 +29,74 @@ use Rattle.cells.proofs.part.reduce_all.Reads as reduce-all-reads
 use Rattle.cells.proofs.part.raise.Kinds as raise-kinds
 use Rattle.cells.proofs.part.raise.Reads as raise-reads
 
-pub is-mode-decides : Decides 0 is-mode-kinds.ps is-mode-kinds.r is-mode-reads.Pre is-mode-reads.Learnt
+pub is-mode-decides : Decides is-mode-kinds.ps is-mode-kinds.r is-mode-reads.Pre is-mode-reads.Learnt
 is-mode-decides κs a z z′ ws ws′ p e e′ = (e ∙ sym e′, refl)
 
-pub is-mode-allows : Allows 0 is-mode-kinds.ps is-mode-kinds.r is-mode-reads.Pre is-mode-reads.Learnt
+pub is-mode-allows : Allows is-mode-kinds.ps is-mode-kinds.r is-mode-reads.Pre is-mode-reads.Learnt
 is-mode-allows κs a p = (_, (_, refl))
 
-pub shape-of-decides : Decides 0 shape-of-kinds.ps shape-of-kinds.r shape-of-reads.Pre shape-of-reads.Learnt
+pub shape-of-decides : Decides shape-of-kinds.ps shape-of-kinds.r shape-of-reads.Pre shape-of-reads.Learnt
 shape-of-decides κs a z z′ ws ws′ p e e′ = (e ∙ sym e′, refl)
 
-pub shape-of-allows : Allows 0 shape-of-kinds.ps shape-of-kinds.r shape-of-reads.Pre shape-of-reads.Learnt
+pub shape-of-allows : Allows shape-of-kinds.ps shape-of-kinds.r shape-of-reads.Pre shape-of-reads.Learnt
 shape-of-allows κs a p = (_, (_, refl))
 
-pub count-decides : Decides 0 count-kinds.ps count-kinds.r count-reads.Pre count-reads.Learnt
+pub count-decides : Decides count-kinds.ps count-kinds.r count-reads.Pre count-reads.Learnt
 count-decides κs a z z′ ws ws′ p e e′ = (e ∙ sym e′, refl)
 
-pub count-allows : Allows 0 count-kinds.ps count-kinds.r count-reads.Pre count-reads.Learnt
+pub count-allows : Allows count-kinds.ps count-kinds.r count-reads.Pre count-reads.Learnt
 count-allows κs a p = (_, (_, refl))
 
-pub place-decides : Decides 0 place-kinds.ps place-kinds.r place-reads.Pre place-reads.Learnt
+pub place-decides : Decides place-kinds.ps place-kinds.r place-reads.Pre place-reads.Learnt
 place-decides κs a z z′ ws ws′ p e e′ = (e ∙ sym e′, refl)
 
-pub place-allows : Allows 0 place-kinds.ps place-kinds.r place-reads.Pre place-reads.Learnt
+pub place-allows : Allows place-kinds.ps place-kinds.r place-reads.Pre place-reads.Learnt
 place-allows κs a p = (_, (_, refl))
 
-pub read-decides : Decides 1 read-kinds.ps read-kinds.r read-reads.Pre read-reads.Learnt
+pub read-decides : Decides read-kinds.ps read-kinds.r read-reads.Pre read-reads.Learnt
 read-decides κs a z z′ ws ws′ p e e′ = (e ∙ sym e′, refl)
 
-pub read-allows : Allows 1 read-kinds.ps read-kinds.r read-reads.Pre read-reads.Learnt
+pub read-allows : Allows read-kinds.ps read-kinds.r read-reads.Pre read-reads.Learnt
 read-allows κs a p = (_, (_, refl))
 
-pub write-decides : Decides 1 write-kinds.ps write-kinds.r write-reads.Pre write-reads.Learnt
+pub write-decides : Decides write-kinds.ps write-kinds.r write-reads.Pre write-reads.Learnt
 write-decides κs a z z′ ws ws′ p e e′ = (refl, ap (λ (l : List ℕ). (l, (tt, (tt, (tt, (tt, tt)))))) (e ∙ sym e′))
 
-pub write-allows : Allows 1 write-kinds.ps write-kinds.r write-reads.Pre write-reads.Learnt
+pub write-allows : Allows write-kinds.ps write-kinds.r write-reads.Pre write-reads.Learnt
 write-allows κs a p = (_, (_, refl))
 
-pub fill-decides : Decides 1 fill-kinds.ps fill-kinds.r fill-reads.Pre fill-reads.Learnt
+pub fill-decides : Decides fill-kinds.ps fill-kinds.r fill-reads.Pre fill-reads.Learnt
 fill-decides κs a z z′ ws ws′ p e e′ = (refl, ap (λ (l : List ℕ). (l, (tt, (tt, tt)))) (e ∙ sym e′))
 
-pub fill-allows : Allows 1 fill-kinds.ps fill-kinds.r fill-reads.Pre fill-reads.Learnt
+pub fill-allows : Allows fill-kinds.ps fill-kinds.r fill-reads.Pre fill-reads.Learnt
 fill-allows κs a p = (_, (_, refl))
 
-pub reduce-decides : Decides 1 reduce-kinds.ps reduce-kinds.r reduce-reads.Pre reduce-reads.Learnt
+pub reduce-decides : Decides reduce-kinds.ps reduce-kinds.r reduce-reads.Pre reduce-reads.Learnt
 reduce-decides κs a z z′ ws ws′ p e e′ = (refl, ap (λ (l : List ℕ). (l, (tt, tt))) (e ∙ sym e′))
 
-pub reduce-allows : Allows 1 reduce-kinds.ps reduce-kinds.r reduce-reads.Pre reduce-reads.Learnt
+pub reduce-allows : Allows reduce-kinds.ps reduce-kinds.r reduce-reads.Pre reduce-reads.Learnt
 reduce-allows κs a p = (_, (_, refl))
 
-pub scroll-decides : Decides 1 scroll-kinds.ps scroll-kinds.r scroll-reads.Pre scroll-reads.Learnt
+pub scroll-decides : Decides scroll-kinds.ps scroll-kinds.r scroll-reads.Pre scroll-reads.Learnt
 scroll-decides κs a z z′ ws ws′ p e e′ = (refl, ap (λ (l : List ℕ). (l, tt)) (e ∙ sym e′))
 
-pub scroll-allows : Allows 1 scroll-kinds.ps scroll-kinds.r scroll-reads.Pre scroll-reads.Learnt
+pub scroll-allows : Allows scroll-kinds.ps scroll-kinds.r scroll-reads.Pre scroll-reads.Learnt
 scroll-allows κs a p = (_, (_, refl))
 
-pub paint-decides : Decides 1 paint-kinds.ps paint-kinds.r paint-reads.Pre paint-reads.Learnt
+pub paint-decides : Decides paint-kinds.ps paint-kinds.r paint-reads.Pre paint-reads.Learnt
 paint-decides κs a z z′ ws ws′ p e e′ = (refl, ap (λ (l : List ℕ). (l, (tt, tt))) (e ∙ sym e′))
 
-pub paint-allows : Allows 1 paint-kinds.ps paint-kinds.r paint-reads.Pre paint-reads.Learnt
+pub paint-allows : Allows paint-kinds.ps paint-kinds.r paint-reads.Pre paint-reads.Learnt
 paint-allows κs a p = (_, (_, refl))
 
-pub reduce-all-decides : Decides 1 reduce-all-kinds.ps reduce-all-kinds.r reduce-all-reads.Pre reduce-all-reads.Learnt
+pub reduce-all-decides : Decides reduce-all-kinds.ps reduce-all-kinds.r reduce-all-reads.Pre reduce-all-reads.Learnt
 reduce-all-decides κs a z z′ ws ws′ p e e′ = (refl, ap (λ (l : List ℕ). (l, (tt, tt))) (e ∙ sym e′))
 
-pub reduce-all-allows : Allows 1 reduce-all-kinds.ps reduce-all-kinds.r reduce-all-reads.Pre reduce-all-reads.Learnt
+pub reduce-all-allows : Allows reduce-all-kinds.ps reduce-all-kinds.r reduce-all-reads.Pre reduce-all-reads.Learnt
 reduce-all-allows κs a p = (_, (_, refl))
 
-pub raise-decides : Decides 1 raise-kinds.ps raise-kinds.r raise-reads.Pre raise-reads.Learnt
+pub raise-decides : Decides raise-kinds.ps raise-kinds.r raise-reads.Pre raise-reads.Learnt
 raise-decides κs a z z′ ws ws′ p e e′ = (refl, ap (λ (l : List ℕ). (l, tt)) (e ∙ sym e′))
 
-pub raise-allows : Allows 1 raise-kinds.ps raise-kinds.r raise-reads.Pre raise-reads.Learnt
+pub raise-allows : Allows raise-kinds.ps raise-kinds.r raise-reads.Pre raise-reads.Learnt
 raise-allows κs a p = (_, (_, refl))

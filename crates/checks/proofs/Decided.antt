@@ -7,14 +7,14 @@ use Rattle.checks.proofs.iocb_of.Reads as iocb-of-reads
 use Rattle.checks.proofs.plan_in.Kinds as plan-in-kinds
 use Rattle.checks.proofs.plan_in.Reads as plan-in-reads
 
-pub iocb-of-decides : Decides 0 iocb-of-kinds.ps iocb-of-kinds.r iocb-of-reads.Pre iocb-of-reads.Learnt
+pub iocb-of-decides : Decides iocb-of-kinds.ps iocb-of-kinds.r iocb-of-reads.Pre iocb-of-reads.Learnt
 iocb-of-decides κs a z z′ ws ws′ p e e′ = (e ∙ sym e′, refl)
 
-pub iocb-of-allows : Allows 0 iocb-of-kinds.ps iocb-of-kinds.r iocb-of-reads.Pre iocb-of-reads.Learnt
+pub iocb-of-allows : Allows iocb-of-kinds.ps iocb-of-kinds.r iocb-of-reads.Pre iocb-of-reads.Learnt
 iocb-of-allows κs a p = (_, (_, refl))
 
-pub plan-in-decides : Decides 1 plan-in-kinds.ps plan-in-kinds.r plan-in-reads.Pre plan-in-reads.Learnt
+pub plan-in-decides : Decides plan-in-kinds.ps plan-in-kinds.r plan-in-reads.Pre plan-in-reads.Learnt
 plan-in-decides κs a z z′ ws ws′ p e e′ = (e ∙ sym e′, refl)
 
-pub plan-in-allows : Allows 1 plan-in-kinds.ps plan-in-kinds.r plan-in-reads.Pre plan-in-reads.Learnt
+pub plan-in-allows : Allows plan-in-kinds.ps plan-in-kinds.r plan-in-reads.Pre plan-in-reads.Learnt
 plan-in-allows κs a p = (_, (_, refl))

@@ -17,20 +17,20 @@ use Rattle.cio.proofs.errand.run_errand.Reads as run-errand-reads
 use Rattle.cio.proofs.start.start.Kinds as start-kinds
 use Rattle.cio.proofs.start.start.Reads as start-reads
 
-pub load-decides : Decides 2 load-kinds.ps load-kinds.r load-reads.Pre load-reads.Learnt
+pub load-decides : Decides load-kinds.ps load-kinds.r load-reads.Pre load-reads.Learnt
 load-decides κs a z z′ ws ws′ p e e′ = let q = e ∙ sym e′ in (ap (λ (w : Freed). w .port .phase) q, ap (λ (w : Freed). (tt, (tt, (w .area, (w .port .room, tt))))) q)
 
-pub load-allows : Allows 2 load-kinds.ps load-kinds.r load-reads.Pre load-reads.Learnt
+pub load-allows : Allows load-kinds.ps load-kinds.r load-reads.Pre load-reads.Learnt
 load-allows κs a p = (_, (_, refl))
 
-pub run-errand-decides : Decides 2 run-errand-kinds.ps run-errand-kinds.r run-errand-reads.Pre run-errand-reads.Learnt
+pub run-errand-decides : Decides run-errand-kinds.ps run-errand-kinds.r run-errand-reads.Pre run-errand-reads.Learnt
 run-errand-decides κs a z z′ ws ws′ p e e′ = let q = e ∙ sym e′ in (ap (λ (w : Freed). w .port .phase) q, ap (λ (w : Freed). (tt, (w .area, (w .port .room, tt)))) q)
 
-pub run-errand-allows : Allows 2 run-errand-kinds.ps run-errand-kinds.r run-errand-reads.Pre run-errand-reads.Learnt
+pub run-errand-allows : Allows run-errand-kinds.ps run-errand-kinds.r run-errand-reads.Pre run-errand-reads.Learnt
 run-errand-allows κs a p = (_, (_, refl))
 
-pub start-decides : Decides 4 start-kinds.ps start-kinds.r start-reads.Pre start-reads.Learnt
+pub start-decides : Decides start-kinds.ps start-kinds.r start-reads.Pre start-reads.Learnt
 start-decides κs a z z′ ws ws′ p e e′ = let q = e ∙ sym e′ in let same = out-decides (z .next) (z′ .next) (ap (λ (w : Begun DevicesLent). w .out) q) in (ap (λ (b : ControlBlock). record { block = b; next = z .next }) (ap (λ (w : Begun DevicesLent). w .block) q) ∙ ap (λ (n : Next). record { block = z′ .block; next = n }) same, ap (λ (w : Begun DevicesLent). (tt, (tt, (tt, (w .device .numbers, (w .device .screen, (w .device .paper, (w .device .tape, tt)))))))) q)
 
-pub start-allows : Allows 4 start-kinds.ps start-kinds.r start-reads.Pre start-reads.Learnt
+pub start-allows : Allows start-kinds.ps start-kinds.r start-reads.Pre start-reads.Learnt
 start-allows κs a p = (record { block = _; next = nextIn _ }, (_, start-allowed _ _ _ _ _))

@@ -7,14 +7,14 @@ use Rattle.commands.proofs.command_of.Reads as command-of-reads
 use Rattle.commands.proofs.transfer_kind.Kinds as transfer-kind-kinds
 use Rattle.commands.proofs.transfer_kind.Reads as transfer-kind-reads
 
-pub command-of-decides : Decides 0 command-of-kinds.ps command-of-kinds.r command-of-reads.Pre command-of-reads.Learnt
+pub command-of-decides : Decides command-of-kinds.ps command-of-kinds.r command-of-reads.Pre command-of-reads.Learnt
 command-of-decides κs a z z′ ws ws′ p e e′ = (e ∙ sym e′, refl)
 
-pub command-of-allows : Allows 0 command-of-kinds.ps command-of-kinds.r command-of-reads.Pre command-of-reads.Learnt
+pub command-of-allows : Allows command-of-kinds.ps command-of-kinds.r command-of-reads.Pre command-of-reads.Learnt
 command-of-allows κs a p = (_, (_, refl))
 
-pub transfer-kind-decides : Decides 0 transfer-kind-kinds.ps transfer-kind-kinds.r transfer-kind-reads.Pre transfer-kind-reads.Learnt
+pub transfer-kind-decides : Decides transfer-kind-kinds.ps transfer-kind-kinds.r transfer-kind-reads.Pre transfer-kind-reads.Learnt
 transfer-kind-decides κs a z z′ ws ws′ p e e′ = (e ∙ sym e′, refl)
 
-pub transfer-kind-allows : Allows 0 transfer-kind-kinds.ps transfer-kind-kinds.r transfer-kind-reads.Pre transfer-kind-reads.Learnt
+pub transfer-kind-allows : Allows transfer-kind-kinds.ps transfer-kind-kinds.r transfer-kind-reads.Pre transfer-kind-reads.Learnt
 transfer-kind-allows κs a p = (_, (_, refl))

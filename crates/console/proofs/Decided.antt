@@ -38,80 +38,80 @@ use Rattle.console.proofs.each.write_editor.Reads as write-editor-reads
 use Rattle.console.proofs.each.write_screen.Kinds as write-screen-kinds
 use Rattle.console.proofs.each.write_screen.Reads as write-screen-reads
 
-pub state-fresh-decides : Decides 0 state-fresh-kinds.ps state-fresh-kinds.r state-fresh-reads.Pre state-fresh-reads.Learnt
+pub state-fresh-decides : Decides state-fresh-kinds.ps state-fresh-kinds.r state-fresh-reads.Pre state-fresh-reads.Learnt
 state-fresh-decides κs a z z′ ws ws′ p e e′ = (e ∙ sym e′, refl)
 
-pub state-fresh-allows : Allows 0 state-fresh-kinds.ps state-fresh-kinds.r state-fresh-reads.Pre state-fresh-reads.Learnt
+pub state-fresh-allows : Allows state-fresh-kinds.ps state-fresh-kinds.r state-fresh-reads.Pre state-fresh-reads.Learnt
 state-fresh-allows κs a p = (_, (_, refl))
 
-pub editor-decides : Decides 0 editor-kinds.ps editor-kinds.r editor-reads.Pre editor-reads.Learnt
+pub editor-decides : Decides editor-kinds.ps editor-kinds.r editor-reads.Pre editor-reads.Learnt
 editor-decides κs a z z′ ws ws′ p e e′ = (e ∙ sym e′, refl)
 
-pub editor-allows : Allows 0 editor-kinds.ps editor-kinds.r editor-reads.Pre editor-reads.Learnt
+pub editor-allows : Allows editor-kinds.ps editor-kinds.r editor-reads.Pre editor-reads.Learnt
 editor-allows κs a p = (_, (_, refl))
 
-pub with-editor-decides : Decides 0 with-editor-kinds.ps with-editor-kinds.r with-editor-reads.Pre with-editor-reads.Learnt
+pub with-editor-decides : Decides with-editor-kinds.ps with-editor-kinds.r with-editor-reads.Pre with-editor-reads.Learnt
 with-editor-decides κs a z z′ ws ws′ p e e′ = (e ∙ sym e′, refl)
 
-pub with-editor-allows : Allows 0 with-editor-kinds.ps with-editor-kinds.r with-editor-reads.Pre with-editor-reads.Learnt
+pub with-editor-allows : Allows with-editor-kinds.ps with-editor-kinds.r with-editor-reads.Pre with-editor-reads.Learnt
 with-editor-allows κs a p = (_, (_, refl))
 
-pub graphics-decides : Decides 0 graphics-kinds.ps graphics-kinds.r graphics-reads.Pre graphics-reads.Learnt
+pub graphics-decides : Decides graphics-kinds.ps graphics-kinds.r graphics-reads.Pre graphics-reads.Learnt
 graphics-decides κs a z z′ ws ws′ p e e′ = (e ∙ sym e′, refl)
 
-pub graphics-allows : Allows 0 graphics-kinds.ps graphics-kinds.r graphics-reads.Pre graphics-reads.Learnt
+pub graphics-allows : Allows graphics-kinds.ps graphics-kinds.r graphics-reads.Pre graphics-reads.Learnt
 graphics-allows κs a p = (_, (_, refl))
 
-pub with-graphics-decides : Decides 0 with-graphics-kinds.ps with-graphics-kinds.r with-graphics-reads.Pre with-graphics-reads.Learnt
+pub with-graphics-decides : Decides with-graphics-kinds.ps with-graphics-kinds.r with-graphics-reads.Pre with-graphics-reads.Learnt
 with-graphics-decides κs a z z′ ws ws′ p e e′ = (e ∙ sym e′, refl)
 
-pub with-graphics-allows : Allows 0 with-graphics-kinds.ps with-graphics-kinds.r with-graphics-reads.Pre with-graphics-reads.Learnt
+pub with-graphics-allows : Allows with-graphics-kinds.ps with-graphics-kinds.r with-graphics-reads.Pre with-graphics-reads.Learnt
 with-graphics-allows κs a p = (_, (_, refl))
 
-pub press-decides : Decides 0 press-kinds.ps press-kinds.r press-reads.Pre press-reads.Learnt
+pub press-decides : Decides press-kinds.ps press-kinds.r press-reads.Pre press-reads.Learnt
 press-decides κs a z z′ ws ws′ p e e′ = (e ∙ sym e′, refl)
 
-pub press-allows : Allows 0 press-kinds.ps press-kinds.r press-reads.Pre press-reads.Learnt
+pub press-allows : Allows press-kinds.ps press-kinds.r press-reads.Pre press-reads.Learnt
 press-allows κs a p = (_, (_, refl))
 
-pub open-editor-decides : Decides 1 open-editor-kinds.ps open-editor-kinds.r open-editor-reads.Pre open-editor-reads.Learnt
+pub open-editor-decides : Decides open-editor-kinds.ps open-editor-kinds.r open-editor-reads.Pre open-editor-reads.Learnt
 open-editor-decides κs a z z′ ws ws′ p e e′ = let q = e ∙ sym e′ in (ap (λ (w : ConsoleGroup). w .console) q, ap (λ (w : ConsoleGroup). (tt, (w .screen, tt))) q)
 
-pub open-editor-allows : Allows 1 open-editor-kinds.ps open-editor-kinds.r open-editor-reads.Pre open-editor-reads.Learnt
+pub open-editor-allows : Allows open-editor-kinds.ps open-editor-kinds.r open-editor-reads.Pre open-editor-reads.Learnt
 open-editor-allows κs a p = (_, (_, refl))
 
-pub open-screen-decides : Decides 1 open-screen-kinds.ps open-screen-kinds.r open-screen-reads.Pre open-screen-reads.Learnt
+pub open-screen-decides : Decides open-screen-kinds.ps open-screen-kinds.r open-screen-reads.Pre open-screen-reads.Learnt
 open-screen-decides κs a z z′ ws ws′ p e e′ = let q = e ∙ sym e′ in (ap (λ (w : Answer Done ConsoleGroup). record { console = w .leaves .console; done = w .says }) q, ap (λ (w : Answer Done ConsoleGroup). (tt, (w .leaves .screen, (tt, (tt, tt))))) q)
 
-pub open-screen-allows : Allows 1 open-screen-kinds.ps open-screen-kinds.r open-screen-reads.Pre open-screen-reads.Learnt
+pub open-screen-allows : Allows open-screen-kinds.ps open-screen-kinds.r open-screen-reads.Pre open-screen-reads.Learnt
 open-screen-allows κs a p = (_, (_, refl))
 
-pub read-editor-decides : Decides 1 read-editor-kinds.ps read-editor-kinds.r read-editor-reads.Pre read-editor-reads.Learnt
+pub read-editor-decides : Decides read-editor-kinds.ps read-editor-kinds.r read-editor-reads.Pre read-editor-reads.Learnt
 read-editor-decides κs a z z′ ws ws′ p e e′ = let q = e ∙ sym e′ in (ap (λ (w : Answer Got ConsoleGroup). record { console = w .leaves .console; got = w .says }) q, ap (λ (w : Answer Got ConsoleGroup). (tt, (w .leaves .screen, tt))) q)
 
-pub read-editor-allows : Allows 1 read-editor-kinds.ps read-editor-kinds.r read-editor-reads.Pre read-editor-reads.Learnt
+pub read-editor-allows : Allows read-editor-kinds.ps read-editor-kinds.r read-editor-reads.Pre read-editor-reads.Learnt
 read-editor-allows κs a p = (_, (_, refl))
 
-pub read-screen-decides : Decides 1 read-screen-kinds.ps read-screen-kinds.r read-screen-reads.Pre read-screen-reads.Learnt
+pub read-screen-decides : Decides read-screen-kinds.ps read-screen-kinds.r read-screen-reads.Pre read-screen-reads.Learnt
 read-screen-decides κs a z z′ ws ws′ p e e′ = let q = e ∙ sym e′ in (ap (λ (w : Answer Got Console). record { console = w .leaves; got = w .says }) q, refl)
 
-pub read-screen-allows : Allows 1 read-screen-kinds.ps read-screen-kinds.r read-screen-reads.Pre read-screen-reads.Learnt
+pub read-screen-allows : Allows read-screen-kinds.ps read-screen-kinds.r read-screen-reads.Pre read-screen-reads.Learnt
 read-screen-allows κs a p = (_, (_, refl))
 
-pub read-keyboard-decides : Decides 0 read-keyboard-kinds.ps read-keyboard-kinds.r read-keyboard-reads.Pre read-keyboard-reads.Learnt
+pub read-keyboard-decides : Decides read-keyboard-kinds.ps read-keyboard-kinds.r read-keyboard-reads.Pre read-keyboard-reads.Learnt
 read-keyboard-decides κs a z z′ ws ws′ p e e′ = let q = e ∙ sym e′ in (ap (λ (w : Answer Got Console). record { console = w .leaves; got = w .says }) q, refl)
 
-pub read-keyboard-allows : Allows 0 read-keyboard-kinds.ps read-keyboard-kinds.r read-keyboard-reads.Pre read-keyboard-reads.Learnt
+pub read-keyboard-allows : Allows read-keyboard-kinds.ps read-keyboard-kinds.r read-keyboard-reads.Pre read-keyboard-reads.Learnt
 read-keyboard-allows κs a p = (_, (_, refl))
 
-pub write-editor-decides : Decides 1 write-editor-kinds.ps write-editor-kinds.r write-editor-reads.Pre write-editor-reads.Learnt
+pub write-editor-decides : Decides write-editor-kinds.ps write-editor-kinds.r write-editor-reads.Pre write-editor-reads.Learnt
 write-editor-decides κs a z z′ ws ws′ p e e′ = let q = e ∙ sym e′ in (ap (λ (w : Answer Done ConsoleGroup). record { console = w .leaves .console; done = w .says }) q, ap (λ (w : Answer Done ConsoleGroup). (tt, (w .leaves .screen, (tt, tt)))) q)
 
-pub write-editor-allows : Allows 1 write-editor-kinds.ps write-editor-kinds.r write-editor-reads.Pre write-editor-reads.Learnt
+pub write-editor-allows : Allows write-editor-kinds.ps write-editor-kinds.r write-editor-reads.Pre write-editor-reads.Learnt
 write-editor-allows κs a p = (_, (_, refl))
 
-pub write-screen-decides : Decides 1 write-screen-kinds.ps write-screen-kinds.r write-screen-reads.Pre write-screen-reads.Learnt
+pub write-screen-decides : Decides write-screen-kinds.ps write-screen-kinds.r write-screen-reads.Pre write-screen-reads.Learnt
 write-screen-decides κs a z z′ ws ws′ p e e′ = let q = e ∙ sym e′ in (ap (λ (w : Answer Done ConsoleGroup). record { console = w .leaves .console; done = w .says }) q, ap (λ (w : Answer Done ConsoleGroup). (tt, (w .leaves .screen, (tt, tt)))) q)
 
-pub write-screen-allows : Allows 1 write-screen-kinds.ps write-screen-kinds.r write-screen-reads.Pre write-screen-reads.Learnt
+pub write-screen-allows : Allows write-screen-kinds.ps write-screen-kinds.r write-screen-reads.Pre write-screen-reads.Learnt
 write-screen-allows κs a p = (_, (_, refl))

@@ -13,20 +13,20 @@ use Rattle.controls.proofs.decide.act_of.Reads as act-of-reads
 use Rattle.controls.proofs.put.Kinds as put-kinds
 use Rattle.controls.proofs.put.Reads as put-reads
 
-pub plain-decides : Decides 0 plain-kinds.ps plain-kinds.r plain-reads.Pre plain-reads.Learnt
+pub plain-decides : Decides plain-kinds.ps plain-kinds.r plain-reads.Pre plain-reads.Learnt
 plain-decides κs a z z′ ws ws′ p e e′ = (e ∙ sym e′, refl)
 
-pub plain-allows : Allows 0 plain-kinds.ps plain-kinds.r plain-reads.Pre plain-reads.Learnt
+pub plain-allows : Allows plain-kinds.ps plain-kinds.r plain-reads.Pre plain-reads.Learnt
 plain-allows κs a p = (_, (_, refl))
 
-pub act-of-decides : Decides 0 act-of-kinds.ps act-of-kinds.r act-of-reads.Pre act-of-reads.Learnt
+pub act-of-decides : Decides act-of-kinds.ps act-of-kinds.r act-of-reads.Pre act-of-reads.Learnt
 act-of-decides κs a z z′ ws ws′ p e e′ = (e ∙ sym e′, refl)
 
-pub act-of-allows : Allows 0 act-of-kinds.ps act-of-kinds.r act-of-reads.Pre act-of-reads.Learnt
+pub act-of-allows : Allows act-of-kinds.ps act-of-kinds.r act-of-reads.Pre act-of-reads.Learnt
 act-of-allows κs a p = (_, (_, refl))
 
-pub put-decides : Decides 1 put-kinds.ps put-kinds.r put-reads.Pre put-reads.Learnt
+pub put-decides : Decides put-kinds.ps put-kinds.r put-reads.Pre put-reads.Learnt
 put-decides κs a z z′ ws ws′ p e e′ = let q = e ∙ sym e′ in (ap (λ (w : Answer Done Text). record { editor = w .leaves .editor; done = w .says }) q, ap (λ (w : Answer Done Text). (tt, (w .leaves .cells, (tt, tt)))) q)
 
-pub put-allows : Allows 1 put-kinds.ps put-kinds.r put-reads.Pre put-reads.Learnt
+pub put-allows : Allows put-kinds.ps put-kinds.r put-reads.Pre put-reads.Learnt
 put-allows κs a p = (_, (_, refl))

@@ -367,263 +367,263 @@ use Rattle.firmware.proofs.Decided as firmware
 
 pub data Promises : Type 3 where
   none : Promises
-  promise : (n : ℕ) (ps : List (PK n)) (r : RK n) (Pre : In n ps) (Learnt : Out n ps r) → Decides n ps r Pre Learnt → Allows n ps r Pre Learnt → Promises → Promises
+  promise : {n : ℕ} (ps : List (PK n)) (r : RK n) (Pre : In n ps) (Learnt : Out n ps r) → Decides ps r Pre Learnt → Allows ps r Pre Learnt → Promises → Promises
 
 pub base-decided : Promises
 base-decided =
-    promise 1 base-byte-at-kinds.ps base-byte-at-kinds.r base-byte-at-reads.Pre base-byte-at-reads.Learnt base.byte-at-decides base.byte-at-allows (
-    promise 1 base-set-byte-kinds.ps base-set-byte-kinds.r base-set-byte-reads.Pre base-set-byte-reads.Learnt base.set-byte-decides base.set-byte-allows none)
+    promise base-byte-at-kinds.ps base-byte-at-kinds.r base-byte-at-reads.Pre base-byte-at-reads.Learnt base.byte-at-decides base.byte-at-allows (
+    promise base-set-byte-kinds.ps base-set-byte-kinds.r base-set-byte-reads.Pre base-set-byte-reads.Learnt base.set-byte-decides base.set-byte-allows none)
 
 pub handler-decided : Promises
 handler-decided =
-    promise 0 handler-on-block-kinds.ps handler-on-block-kinds.r handler-on-block-reads.Pre handler-on-block-reads.Learnt handler.on-block-decides handler.on-block-allows base-decided
+    promise handler-on-block-kinds.ps handler-on-block-kinds.r handler-on-block-reads.Pre handler-on-block-reads.Learnt handler.on-block-decides handler.on-block-allows base-decided
 
 pub keys-decided : Promises
 keys-decided =
-    promise 0 keys-entry-kinds.ps keys-entry-kinds.r keys-entry-reads.Pre keys-entry-reads.Learnt keys.entry-decides keys.entry-allows (
-    promise 0 keys-translate-kinds.ps keys-translate-kinds.r keys-translate-reads.Pre keys-translate-reads.Learnt keys.translate-decides keys.translate-allows (
-    promise 0 keys-fresh-kinds.ps keys-fresh-kinds.r keys-fresh-reads.Pre keys-fresh-reads.Learnt keys.fresh-decides keys.fresh-allows (
-    promise 0 keys-press-kinds.ps keys-press-kinds.r keys-press-reads.Pre keys-press-reads.Learnt keys.press-decides keys.press-allows (
-    promise 0 keys-get-kinds.ps keys-get-kinds.r keys-get-reads.Pre keys-get-reads.Learnt keys.get-decides keys.get-allows handler-decided))))
+    promise keys-entry-kinds.ps keys-entry-kinds.r keys-entry-reads.Pre keys-entry-reads.Learnt keys.entry-decides keys.entry-allows (
+    promise keys-translate-kinds.ps keys-translate-kinds.r keys-translate-reads.Pre keys-translate-reads.Learnt keys.translate-decides keys.translate-allows (
+    promise keys-fresh-kinds.ps keys-fresh-kinds.r keys-fresh-reads.Pre keys-fresh-reads.Learnt keys.fresh-decides keys.fresh-allows (
+    promise keys-press-kinds.ps keys-press-kinds.r keys-press-reads.Pre keys-press-reads.Learnt keys.press-decides keys.press-allows (
+    promise keys-get-kinds.ps keys-get-kinds.r keys-get-reads.Pre keys-get-reads.Learnt keys.get-decides keys.get-allows handler-decided))))
 
 pub cells-decided : Promises
 cells-decided =
-    promise 0 cells-is-mode-kinds.ps cells-is-mode-kinds.r cells-is-mode-reads.Pre cells-is-mode-reads.Learnt cells.is-mode-decides cells.is-mode-allows (
-    promise 0 cells-shape-of-kinds.ps cells-shape-of-kinds.r cells-shape-of-reads.Pre cells-shape-of-reads.Learnt cells.shape-of-decides cells.shape-of-allows (
-    promise 0 cells-count-kinds.ps cells-count-kinds.r cells-count-reads.Pre cells-count-reads.Learnt cells.count-decides cells.count-allows (
-    promise 0 cells-place-kinds.ps cells-place-kinds.r cells-place-reads.Pre cells-place-reads.Learnt cells.place-decides cells.place-allows (
-    promise 1 cells-read-kinds.ps cells-read-kinds.r cells-read-reads.Pre cells-read-reads.Learnt cells.read-decides cells.read-allows (
-    promise 1 cells-write-kinds.ps cells-write-kinds.r cells-write-reads.Pre cells-write-reads.Learnt cells.write-decides cells.write-allows (
-    promise 1 cells-fill-kinds.ps cells-fill-kinds.r cells-fill-reads.Pre cells-fill-reads.Learnt cells.fill-decides cells.fill-allows (
-    promise 1 cells-reduce-kinds.ps cells-reduce-kinds.r cells-reduce-reads.Pre cells-reduce-reads.Learnt cells.reduce-decides cells.reduce-allows (
-    promise 1 cells-scroll-kinds.ps cells-scroll-kinds.r cells-scroll-reads.Pre cells-scroll-reads.Learnt cells.scroll-decides cells.scroll-allows (
-    promise 1 cells-paint-kinds.ps cells-paint-kinds.r cells-paint-reads.Pre cells-paint-reads.Learnt cells.paint-decides cells.paint-allows (
-    promise 1 cells-reduce-all-kinds.ps cells-reduce-all-kinds.r cells-reduce-all-reads.Pre cells-reduce-all-reads.Learnt cells.reduce-all-decides cells.reduce-all-allows (
-    promise 1 cells-raise-kinds.ps cells-raise-kinds.r cells-raise-reads.Pre cells-raise-reads.Learnt cells.raise-decides cells.raise-allows keys-decided)))))))))))
+    promise cells-is-mode-kinds.ps cells-is-mode-kinds.r cells-is-mode-reads.Pre cells-is-mode-reads.Learnt cells.is-mode-decides cells.is-mode-allows (
+    promise cells-shape-of-kinds.ps cells-shape-of-kinds.r cells-shape-of-reads.Pre cells-shape-of-reads.Learnt cells.shape-of-decides cells.shape-of-allows (
+    promise cells-count-kinds.ps cells-count-kinds.r cells-count-reads.Pre cells-count-reads.Learnt cells.count-decides cells.count-allows (
+    promise cells-place-kinds.ps cells-place-kinds.r cells-place-reads.Pre cells-place-reads.Learnt cells.place-decides cells.place-allows (
+    promise cells-read-kinds.ps cells-read-kinds.r cells-read-reads.Pre cells-read-reads.Learnt cells.read-decides cells.read-allows (
+    promise cells-write-kinds.ps cells-write-kinds.r cells-write-reads.Pre cells-write-reads.Learnt cells.write-decides cells.write-allows (
+    promise cells-fill-kinds.ps cells-fill-kinds.r cells-fill-reads.Pre cells-fill-reads.Learnt cells.fill-decides cells.fill-allows (
+    promise cells-reduce-kinds.ps cells-reduce-kinds.r cells-reduce-reads.Pre cells-reduce-reads.Learnt cells.reduce-decides cells.reduce-allows (
+    promise cells-scroll-kinds.ps cells-scroll-kinds.r cells-scroll-reads.Pre cells-scroll-reads.Learnt cells.scroll-decides cells.scroll-allows (
+    promise cells-paint-kinds.ps cells-paint-kinds.r cells-paint-reads.Pre cells-paint-reads.Learnt cells.paint-decides cells.paint-allows (
+    promise cells-reduce-all-kinds.ps cells-reduce-all-kinds.r cells-reduce-all-reads.Pre cells-reduce-all-reads.Learnt cells.reduce-all-decides cells.reduce-all-allows (
+    promise cells-raise-kinds.ps cells-raise-kinds.r cells-raise-reads.Pre cells-raise-reads.Learnt cells.raise-decides cells.raise-allows keys-decided)))))))))))
 
 pub editor-decided : Promises
 editor-decided =
-    promise 0 editor-place-kinds.ps editor-place-kinds.r editor-place-reads.Pre editor-place-reads.Learnt editor.place-decides editor.place-allows (
-    promise 1 editor-new-row-kinds.ps editor-new-row-kinds.r editor-new-row-reads.Pre editor-new-row-reads.Learnt editor.new-row-decides editor.new-row-allows (
-    promise 1 editor-open-kinds.ps editor-open-kinds.r editor-open-reads.Pre editor-open-reads.Learnt editor.open-decides editor.open-allows (
-    promise 1 editor-get-kinds.ps editor-get-kinds.r editor-get-reads.Pre editor-get-reads.Learnt editor.get-decides editor.get-allows (
-    promise 0 editor-column-of-kinds.ps editor-column-of-kinds.r editor-column-of-reads.Pre editor-column-of-reads.Learnt editor.column-of-decides editor.column-of-allows (
-    promise 1 editor-end-kinds.ps editor-end-kinds.r editor-end-reads.Pre editor-end-reads.Learnt editor.end-decides editor.end-allows (
-    promise 0 editor-dropped-kinds.ps editor-dropped-kinds.r editor-dropped-reads.Pre editor-dropped-reads.Learnt editor.dropped-decides editor.dropped-allows cells-decided))))))
+    promise editor-place-kinds.ps editor-place-kinds.r editor-place-reads.Pre editor-place-reads.Learnt editor.place-decides editor.place-allows (
+    promise editor-new-row-kinds.ps editor-new-row-kinds.r editor-new-row-reads.Pre editor-new-row-reads.Learnt editor.new-row-decides editor.new-row-allows (
+    promise editor-open-kinds.ps editor-open-kinds.r editor-open-reads.Pre editor-open-reads.Learnt editor.open-decides editor.open-allows (
+    promise editor-get-kinds.ps editor-get-kinds.r editor-get-reads.Pre editor-get-reads.Learnt editor.get-decides editor.get-allows (
+    promise editor-column-of-kinds.ps editor-column-of-kinds.r editor-column-of-reads.Pre editor-column-of-reads.Learnt editor.column-of-decides editor.column-of-allows (
+    promise editor-end-kinds.ps editor-end-kinds.r editor-end-reads.Pre editor-end-reads.Learnt editor.end-decides editor.end-allows (
+    promise editor-dropped-kinds.ps editor-dropped-kinds.r editor-dropped-reads.Pre editor-dropped-reads.Learnt editor.dropped-decides editor.dropped-allows cells-decided))))))
 
 pub controls-decided : Promises
 controls-decided =
-    promise 0 controls-plain-kinds.ps controls-plain-kinds.r controls-plain-reads.Pre controls-plain-reads.Learnt controls.plain-decides controls.plain-allows (
-    promise 0 controls-act-of-kinds.ps controls-act-of-kinds.r controls-act-of-reads.Pre controls-act-of-reads.Learnt controls.act-of-decides controls.act-of-allows (
-    promise 1 controls-put-kinds.ps controls-put-kinds.r controls-put-reads.Pre controls-put-reads.Learnt controls.put-decides controls.put-allows editor-decided))
+    promise controls-plain-kinds.ps controls-plain-kinds.r controls-plain-reads.Pre controls-plain-reads.Learnt controls.plain-decides controls.plain-allows (
+    promise controls-act-of-kinds.ps controls-act-of-kinds.r controls-act-of-reads.Pre controls-act-of-reads.Learnt controls.act-of-decides controls.act-of-allows (
+    promise controls-put-kinds.ps controls-put-kinds.r controls-put-reads.Pre controls-put-reads.Learnt controls.put-decides controls.put-allows editor-decided))
 
 pub graphics-decided : Promises
 graphics-decided =
-    promise 0 graphics-place-kinds.ps graphics-place-kinds.r graphics-place-reads.Pre graphics-place-reads.Learnt graphics.place-decides graphics.place-allows (
-    promise 1 graphics-open-kinds.ps graphics-open-kinds.r graphics-open-reads.Pre graphics-open-reads.Learnt graphics.open-decides graphics.open-allows (
-    promise 1 graphics-get-kinds.ps graphics-get-kinds.r graphics-get-reads.Pre graphics-get-reads.Learnt graphics.get-decides graphics.get-allows (
-    promise 1 graphics-put-kinds.ps graphics-put-kinds.r graphics-put-reads.Pre graphics-put-reads.Learnt graphics.put-decides graphics.put-allows controls-decided)))
+    promise graphics-place-kinds.ps graphics-place-kinds.r graphics-place-reads.Pre graphics-place-reads.Learnt graphics.place-decides graphics.place-allows (
+    promise graphics-open-kinds.ps graphics-open-kinds.r graphics-open-reads.Pre graphics-open-reads.Learnt graphics.open-decides graphics.open-allows (
+    promise graphics-get-kinds.ps graphics-get-kinds.r graphics-get-reads.Pre graphics-get-reads.Learnt graphics.get-decides graphics.get-allows (
+    promise graphics-put-kinds.ps graphics-put-kinds.r graphics-put-reads.Pre graphics-put-reads.Learnt graphics.put-decides graphics.put-allows controls-decided)))
 
 pub printer-decided : Promises
 printer-decided =
-    promise 0 printer-fresh-kinds.ps printer-fresh-kinds.r printer-fresh-reads.Pre printer-fresh-reads.Learnt printer.fresh-decides printer.fresh-allows (
-    promise 1 printer-put-kinds.ps printer-put-kinds.r printer-put-reads.Pre printer-put-reads.Learnt printer.put-decides printer.put-allows graphics-decided)
+    promise printer-fresh-kinds.ps printer-fresh-kinds.r printer-fresh-reads.Pre printer-fresh-reads.Learnt printer.fresh-decides printer.fresh-allows (
+    promise printer-put-kinds.ps printer-put-kinds.r printer-put-reads.Pre printer-put-reads.Learnt printer.put-decides printer.put-allows graphics-decided)
 
 pub records-decided : Promises
 records-decided =
-    promise 1 records-found-kinds.ps records-found-kinds.r records-found-reads.Pre records-found-reads.Learnt records.found-decides records.found-allows (
-    promise 2 records-lay-kinds.ps records-lay-kinds.r records-lay-reads.Pre records-lay-reads.Learnt records.lay-decides records.lay-allows printer-decided)
+    promise records-found-kinds.ps records-found-kinds.r records-found-reads.Pre records-found-reads.Learnt records.found-decides records.found-allows (
+    promise records-lay-kinds.ps records-lay-kinds.r records-lay-reads.Pre records-lay-reads.Learnt records.lay-decides records.lay-allows printer-decided)
 
 pub cassette-decided : Promises
 cassette-decided =
-    promise 0 cassette-fresh-kinds.ps cassette-fresh-kinds.r cassette-fresh-reads.Pre cassette-fresh-reads.Learnt cassette.fresh-decides cassette.fresh-allows (
-    promise 0 cassette-open-kinds.ps cassette-open-kinds.r cassette-open-reads.Pre cassette-open-reads.Learnt cassette.open-decides cassette.open-allows (
-    promise 2 cassette-close-kinds.ps cassette-close-kinds.r cassette-close-reads.Pre cassette-close-reads.Learnt cassette.close-decides cassette.close-allows (
-    promise 1 cassette-read-kinds.ps cassette-read-kinds.r cassette-read-reads.Pre cassette-read-reads.Learnt cassette.read-decides cassette.read-allows (
-    promise 2 cassette-write-kinds.ps cassette-write-kinds.r cassette-write-reads.Pre cassette-write-reads.Learnt cassette.write-decides cassette.write-allows records-decided))))
+    promise cassette-fresh-kinds.ps cassette-fresh-kinds.r cassette-fresh-reads.Pre cassette-fresh-reads.Learnt cassette.fresh-decides cassette.fresh-allows (
+    promise cassette-open-kinds.ps cassette-open-kinds.r cassette-open-reads.Pre cassette-open-reads.Learnt cassette.open-decides cassette.open-allows (
+    promise cassette-close-kinds.ps cassette-close-kinds.r cassette-close-reads.Pre cassette-close-reads.Learnt cassette.close-decides cassette.close-allows (
+    promise cassette-read-kinds.ps cassette-read-kinds.r cassette-read-reads.Pre cassette-read-reads.Learnt cassette.read-decides cassette.read-allows (
+    promise cassette-write-kinds.ps cassette-write-kinds.r cassette-write-reads.Pre cassette-write-reads.Learnt cassette.write-decides cassette.write-allows records-decided))))
 
 pub console-decided : Promises
 console-decided =
-    promise 0 console-state-fresh-kinds.ps console-state-fresh-kinds.r console-state-fresh-reads.Pre console-state-fresh-reads.Learnt console.state-fresh-decides console.state-fresh-allows (
-    promise 0 console-editor-kinds.ps console-editor-kinds.r console-editor-reads.Pre console-editor-reads.Learnt console.editor-decides console.editor-allows (
-    promise 0 console-with-editor-kinds.ps console-with-editor-kinds.r console-with-editor-reads.Pre console-with-editor-reads.Learnt console.with-editor-decides console.with-editor-allows (
-    promise 0 console-graphics-kinds.ps console-graphics-kinds.r console-graphics-reads.Pre console-graphics-reads.Learnt console.graphics-decides console.graphics-allows (
-    promise 0 console-with-graphics-kinds.ps console-with-graphics-kinds.r console-with-graphics-reads.Pre console-with-graphics-reads.Learnt console.with-graphics-decides console.with-graphics-allows (
-    promise 0 console-press-kinds.ps console-press-kinds.r console-press-reads.Pre console-press-reads.Learnt console.press-decides console.press-allows (
-    promise 1 console-open-editor-kinds.ps console-open-editor-kinds.r console-open-editor-reads.Pre console-open-editor-reads.Learnt console.open-editor-decides console.open-editor-allows (
-    promise 1 console-open-screen-kinds.ps console-open-screen-kinds.r console-open-screen-reads.Pre console-open-screen-reads.Learnt console.open-screen-decides console.open-screen-allows (
-    promise 1 console-read-editor-kinds.ps console-read-editor-kinds.r console-read-editor-reads.Pre console-read-editor-reads.Learnt console.read-editor-decides console.read-editor-allows (
-    promise 1 console-read-screen-kinds.ps console-read-screen-kinds.r console-read-screen-reads.Pre console-read-screen-reads.Learnt console.read-screen-decides console.read-screen-allows (
-    promise 0 console-read-keyboard-kinds.ps console-read-keyboard-kinds.r console-read-keyboard-reads.Pre console-read-keyboard-reads.Learnt console.read-keyboard-decides console.read-keyboard-allows (
-    promise 1 console-write-editor-kinds.ps console-write-editor-kinds.r console-write-editor-reads.Pre console-write-editor-reads.Learnt console.write-editor-decides console.write-editor-allows (
-    promise 1 console-write-screen-kinds.ps console-write-screen-kinds.r console-write-screen-reads.Pre console-write-screen-reads.Learnt console.write-screen-decides console.write-screen-allows cassette-decided))))))))))))
+    promise console-state-fresh-kinds.ps console-state-fresh-kinds.r console-state-fresh-reads.Pre console-state-fresh-reads.Learnt console.state-fresh-decides console.state-fresh-allows (
+    promise console-editor-kinds.ps console-editor-kinds.r console-editor-reads.Pre console-editor-reads.Learnt console.editor-decides console.editor-allows (
+    promise console-with-editor-kinds.ps console-with-editor-kinds.r console-with-editor-reads.Pre console-with-editor-reads.Learnt console.with-editor-decides console.with-editor-allows (
+    promise console-graphics-kinds.ps console-graphics-kinds.r console-graphics-reads.Pre console-graphics-reads.Learnt console.graphics-decides console.graphics-allows (
+    promise console-with-graphics-kinds.ps console-with-graphics-kinds.r console-with-graphics-reads.Pre console-with-graphics-reads.Learnt console.with-graphics-decides console.with-graphics-allows (
+    promise console-press-kinds.ps console-press-kinds.r console-press-reads.Pre console-press-reads.Learnt console.press-decides console.press-allows (
+    promise console-open-editor-kinds.ps console-open-editor-kinds.r console-open-editor-reads.Pre console-open-editor-reads.Learnt console.open-editor-decides console.open-editor-allows (
+    promise console-open-screen-kinds.ps console-open-screen-kinds.r console-open-screen-reads.Pre console-open-screen-reads.Learnt console.open-screen-decides console.open-screen-allows (
+    promise console-read-editor-kinds.ps console-read-editor-kinds.r console-read-editor-reads.Pre console-read-editor-reads.Learnt console.read-editor-decides console.read-editor-allows (
+    promise console-read-screen-kinds.ps console-read-screen-kinds.r console-read-screen-reads.Pre console-read-screen-reads.Learnt console.read-screen-decides console.read-screen-allows (
+    promise console-read-keyboard-kinds.ps console-read-keyboard-kinds.r console-read-keyboard-reads.Pre console-read-keyboard-reads.Learnt console.read-keyboard-decides console.read-keyboard-allows (
+    promise console-write-editor-kinds.ps console-write-editor-kinds.r console-write-editor-reads.Pre console-write-editor-reads.Learnt console.write-editor-decides console.write-editor-allows (
+    promise console-write-screen-kinds.ps console-write-screen-kinds.r console-write-screen-reads.Pre console-write-screen-reads.Learnt console.write-screen-decides console.write-screen-allows cassette-decided))))))))))))
 
 pub acts-decided : Promises
 acts-decided =
-    promise 1 acts-fresh-kinds.ps acts-fresh-kinds.r acts-fresh-reads.Pre acts-fresh-reads.Learnt acts.fresh-decides acts.fresh-allows (
-    promise 1 acts-open-kinds.ps acts-open-kinds.r acts-open-reads.Pre acts-open-reads.Learnt acts.open-decides acts.open-allows (
-    promise 1 acts-prepare-kinds.ps acts-prepare-kinds.r acts-prepare-reads.Pre acts-prepare-reads.Learnt acts.prepare-decides acts.prepare-allows (
-    promise 1 acts-read-kinds.ps acts-read-kinds.r acts-read-reads.Pre acts-read-reads.Learnt acts.read-decides acts.read-allows (
-    promise 1 acts-write-kinds.ps acts-write-kinds.r acts-write-reads.Pre acts-write-reads.Learnt acts.write-decides acts.write-allows console-decided))))
+    promise acts-fresh-kinds.ps acts-fresh-kinds.r acts-fresh-reads.Pre acts-fresh-reads.Learnt acts.fresh-decides acts.fresh-allows (
+    promise acts-open-kinds.ps acts-open-kinds.r acts-open-reads.Pre acts-open-reads.Learnt acts.open-decides acts.open-allows (
+    promise acts-prepare-kinds.ps acts-prepare-kinds.r acts-prepare-reads.Pre acts-prepare-reads.Learnt acts.prepare-decides acts.prepare-allows (
+    promise acts-read-kinds.ps acts-read-kinds.r acts-read-reads.Pre acts-read-reads.Learnt acts.read-decides acts.read-allows (
+    promise acts-write-kinds.ps acts-write-kinds.r acts-write-reads.Pre acts-write-reads.Learnt acts.write-decides acts.write-allows console-decided))))
 
 pub blocks-decided : Promises
 blocks-decided =
-    promise 0 blocks-table-closed-kinds.ps blocks-table-closed-kinds.r blocks-table-closed-reads.Pre blocks-table-closed-reads.Learnt blocks.table-closed-decides blocks.table-closed-allows (
-    promise 0 blocks-gather-fresh-kinds.ps blocks-gather-fresh-kinds.r blocks-gather-fresh-reads.Pre blocks-gather-fresh-reads.Learnt blocks.gather-fresh-decides blocks.gather-fresh-allows (
-    promise 0 blocks-port-fresh-kinds.ps blocks-port-fresh-kinds.r blocks-port-fresh-reads.Pre blocks-port-fresh-reads.Learnt blocks.port-fresh-decides blocks.port-fresh-allows (
-    promise 0 blocks-device-of-kinds.ps blocks-device-of-kinds.r blocks-device-of-reads.Pre blocks-device-of-reads.Learnt blocks.device-of-decides blocks.device-of-allows (
-    promise 1 blocks-specification-at-kinds.ps blocks-specification-at-kinds.r blocks-specification-at-reads.Pre blocks-specification-at-reads.Learnt blocks.specification-at-decides blocks.specification-at-allows (
-    promise 0 blocks-aux1-reads-kinds.ps blocks-aux1-reads-kinds.r blocks-aux1-reads-reads.Pre blocks-aux1-reads-reads.Learnt blocks.aux1-reads-decides blocks.aux1-reads-allows (
-    promise 0 blocks-aux1-writes-kinds.ps blocks-aux1-writes-kinds.r blocks-aux1-writes-reads.Pre blocks-aux1-writes-reads.Learnt blocks.aux1-writes-decides blocks.aux1-writes-allows (
-    promise 0 blocks-offers-kinds.ps blocks-offers-kinds.r blocks-offers-reads.Pre blocks-offers-reads.Learnt blocks.offers-decides blocks.offers-allows acts-decided)))))))
+    promise blocks-table-closed-kinds.ps blocks-table-closed-kinds.r blocks-table-closed-reads.Pre blocks-table-closed-reads.Learnt blocks.table-closed-decides blocks.table-closed-allows (
+    promise blocks-gather-fresh-kinds.ps blocks-gather-fresh-kinds.r blocks-gather-fresh-reads.Pre blocks-gather-fresh-reads.Learnt blocks.gather-fresh-decides blocks.gather-fresh-allows (
+    promise blocks-port-fresh-kinds.ps blocks-port-fresh-kinds.r blocks-port-fresh-reads.Pre blocks-port-fresh-reads.Learnt blocks.port-fresh-decides blocks.port-fresh-allows (
+    promise blocks-device-of-kinds.ps blocks-device-of-kinds.r blocks-device-of-reads.Pre blocks-device-of-reads.Learnt blocks.device-of-decides blocks.device-of-allows (
+    promise blocks-specification-at-kinds.ps blocks-specification-at-kinds.r blocks-specification-at-reads.Pre blocks-specification-at-reads.Learnt blocks.specification-at-decides blocks.specification-at-allows (
+    promise blocks-aux1-reads-kinds.ps blocks-aux1-reads-kinds.r blocks-aux1-reads-reads.Pre blocks-aux1-reads-reads.Learnt blocks.aux1-reads-decides blocks.aux1-reads-allows (
+    promise blocks-aux1-writes-kinds.ps blocks-aux1-writes-kinds.r blocks-aux1-writes-reads.Pre blocks-aux1-writes-reads.Learnt blocks.aux1-writes-decides blocks.aux1-writes-allows (
+    promise blocks-offers-kinds.ps blocks-offers-kinds.r blocks-offers-reads.Pre blocks-offers-reads.Learnt blocks.offers-decides blocks.offers-allows acts-decided)))))))
 
 pub commands-decided : Promises
 commands-decided =
-    promise 0 commands-command-of-kinds.ps commands-command-of-kinds.r commands-command-of-reads.Pre commands-command-of-reads.Learnt commands.command-of-decides commands.command-of-allows (
-    promise 0 commands-transfer-kind-kinds.ps commands-transfer-kind-kinds.r commands-transfer-kind-reads.Pre commands-transfer-kind-reads.Learnt commands.transfer-kind-decides commands.transfer-kind-allows blocks-decided)
+    promise commands-command-of-kinds.ps commands-command-of-kinds.r commands-command-of-reads.Pre commands-command-of-reads.Learnt commands.command-of-decides commands.command-of-allows (
+    promise commands-transfer-kind-kinds.ps commands-transfer-kind-kinds.r commands-transfer-kind-reads.Pre commands-transfer-kind-reads.Learnt commands.transfer-kind-decides commands.transfer-kind-allows blocks-decided)
 
 pub replies-decided : Promises
 replies-decided =
-    promise 2 replies-copy-bytes-kinds.ps replies-copy-bytes-kinds.r replies-copy-bytes-reads.Pre replies-copy-bytes-reads.Learnt replies.copy-bytes-decides replies.copy-bytes-allows (
-    promise 1 replies-call-reply-kinds.ps replies-call-reply-kinds.r replies-call-reply-reads.Pre replies-call-reply-reads.Learnt replies.call-reply-decides replies.call-reply-allows (
-    promise 1 replies-status-reply-kinds.ps replies-status-reply-kinds.r replies-status-reply-reads.Pre replies-status-reply-reads.Learnt replies.status-reply-decides replies.status-reply-allows (
-    promise 2 replies-fetch-reply-kinds.ps replies-fetch-reply-kinds.r replies-fetch-reply-reads.Pre replies-fetch-reply-reads.Learnt replies.fetch-reply-decides replies.fetch-reply-allows commands-decided)))
+    promise replies-copy-bytes-kinds.ps replies-copy-bytes-kinds.r replies-copy-bytes-reads.Pre replies-copy-bytes-reads.Learnt replies.copy-bytes-decides replies.copy-bytes-allows (
+    promise replies-call-reply-kinds.ps replies-call-reply-kinds.r replies-call-reply-reads.Pre replies-call-reply-reads.Learnt replies.call-reply-decides replies.call-reply-allows (
+    promise replies-status-reply-kinds.ps replies-status-reply-kinds.r replies-status-reply-reads.Pre replies-status-reply-reads.Learnt replies.status-reply-decides replies.status-reply-allows (
+    promise replies-fetch-reply-kinds.ps replies-fetch-reply-kinds.r replies-fetch-reply-reads.Pre replies-fetch-reply-reads.Learnt replies.fetch-reply-decides replies.fetch-reply-allows commands-decided)))
 
 pub wire-decided : Promises
 wire-decided =
-    promise 0 wire-field-is-good-kinds.ps wire-field-is-good-kinds.r wire-field-is-good-reads.Pre wire-field-is-good-reads.Learnt wire.field-is-good-decides wire.field-is-good-allows (
-    promise 0 wire-goes-on-kinds.ps wire-goes-on-kinds.r wire-goes-on-reads.Pre wire-goes-on-reads.Learnt wire.goes-on-decides wire.goes-on-allows (
-    promise 1 wire-value-kinds.ps wire-value-kinds.r wire-value-reads.Pre wire-value-reads.Learnt wire.value-decides wire.value-allows (
-    promise 1 wire-take-kinds.ps wire-take-kinds.r wire-take-reads.Pre wire-take-reads.Learnt wire.take-decides wire.take-allows (
-    promise 1 wire-message-of-kinds.ps wire-message-of-kinds.r wire-message-of-reads.Pre wire-message-of-reads.Learnt wire.message-of-decides wire.message-of-allows (
-    promise 1 wire-give-kinds.ps wire-give-kinds.r wire-give-reads.Pre wire-give-reads.Learnt wire.give-decides wire.give-allows (
-    promise 0 wire-gather-fits-kinds.ps wire-gather-fits-kinds.r wire-gather-fits-reads.Pre wire-gather-fits-reads.Learnt wire.gather-fits-decides wire.gather-fits-allows (
-    promise 0 wire-reply-fits-kinds.ps wire-reply-fits-kinds.r wire-reply-fits-reads.Pre wire-reply-fits-reads.Learnt wire.reply-fits-decides wire.reply-fits-allows replies-decided)))))))
+    promise wire-field-is-good-kinds.ps wire-field-is-good-kinds.r wire-field-is-good-reads.Pre wire-field-is-good-reads.Learnt wire.field-is-good-decides wire.field-is-good-allows (
+    promise wire-goes-on-kinds.ps wire-goes-on-kinds.r wire-goes-on-reads.Pre wire-goes-on-reads.Learnt wire.goes-on-decides wire.goes-on-allows (
+    promise wire-value-kinds.ps wire-value-kinds.r wire-value-reads.Pre wire-value-reads.Learnt wire.value-decides wire.value-allows (
+    promise wire-take-kinds.ps wire-take-kinds.r wire-take-reads.Pre wire-take-reads.Learnt wire.take-decides wire.take-allows (
+    promise wire-message-of-kinds.ps wire-message-of-kinds.r wire-message-of-reads.Pre wire-message-of-reads.Learnt wire.message-of-decides wire.message-of-allows (
+    promise wire-give-kinds.ps wire-give-kinds.r wire-give-reads.Pre wire-give-reads.Learnt wire.give-decides wire.give-allows (
+    promise wire-gather-fits-kinds.ps wire-gather-fits-kinds.r wire-gather-fits-reads.Pre wire-gather-fits-reads.Learnt wire.gather-fits-decides wire.gather-fits-allows (
+    promise wire-reply-fits-kinds.ps wire-reply-fits-kinds.r wire-reply-fits-reads.Pre wire-reply-fits-reads.Learnt wire.reply-fits-decides wire.reply-fits-allows replies-decided)))))))
 
 pub reading-decided : Promises
 reading-decided =
-    promise 0 reading-word-kinds.ps reading-word-kinds.r reading-word-reads.Pre reading-word-reads.Learnt reading.word-decides reading.word-allows (
-    promise 0 reading-three-kinds.ps reading-three-kinds.r reading-three-reads.Pre reading-three-reads.Learnt reading.three-decides reading.three-allows (
-    promise 1 reading-block-kinds.ps reading-block-kinds.r reading-block-reads.Pre reading-block-reads.Learnt reading.block-decides reading.block-allows (
-    promise 1 reading-phase-kinds.ps reading-phase-kinds.r reading-phase-reads.Pre reading-phase-reads.Learnt reading.phase-decides reading.phase-allows (
-    promise 1 reading-console-kinds.ps reading-console-kinds.r reading-console-reads.Pre reading-console-reads.Learnt reading.console-decides reading.console-allows (
-    promise 1 reading-printer-kinds.ps reading-printer-kinds.r reading-printer-reads.Pre reading-printer-reads.Learnt reading.printer-decides reading.printer-allows (
-    promise 1 reading-cassette-kinds.ps reading-cassette-kinds.r reading-cassette-reads.Pre reading-cassette-reads.Learnt reading.cassette-decides reading.cassette-allows (
-    promise 1 reading-gather-kinds.ps reading-gather-kinds.r reading-gather-reads.Pre reading-gather-reads.Learnt reading.gather-decides reading.gather-allows (
-    promise 1 reading-header-kinds.ps reading-header-kinds.r reading-header-reads.Pre reading-header-reads.Learnt reading.header-decides reading.header-allows (
-    promise 1 reading-run-kinds.ps reading-run-kinds.r reading-run-reads.Pre reading-run-reads.Learnt reading.run-decides reading.run-allows (
-    promise 1 reading-reply-kinds.ps reading-reply-kinds.r reading-reply-reads.Pre reading-reply-reads.Learnt reading.reply-decides reading.reply-allows wire-decided))))))))))
+    promise reading-word-kinds.ps reading-word-kinds.r reading-word-reads.Pre reading-word-reads.Learnt reading.word-decides reading.word-allows (
+    promise reading-three-kinds.ps reading-three-kinds.r reading-three-reads.Pre reading-three-reads.Learnt reading.three-decides reading.three-allows (
+    promise reading-block-kinds.ps reading-block-kinds.r reading-block-reads.Pre reading-block-reads.Learnt reading.block-decides reading.block-allows (
+    promise reading-phase-kinds.ps reading-phase-kinds.r reading-phase-reads.Pre reading-phase-reads.Learnt reading.phase-decides reading.phase-allows (
+    promise reading-console-kinds.ps reading-console-kinds.r reading-console-reads.Pre reading-console-reads.Learnt reading.console-decides reading.console-allows (
+    promise reading-printer-kinds.ps reading-printer-kinds.r reading-printer-reads.Pre reading-printer-reads.Learnt reading.printer-decides reading.printer-allows (
+    promise reading-cassette-kinds.ps reading-cassette-kinds.r reading-cassette-reads.Pre reading-cassette-reads.Learnt reading.cassette-decides reading.cassette-allows (
+    promise reading-gather-kinds.ps reading-gather-kinds.r reading-gather-reads.Pre reading-gather-reads.Learnt reading.gather-decides reading.gather-allows (
+    promise reading-header-kinds.ps reading-header-kinds.r reading-header-reads.Pre reading-header-reads.Learnt reading.header-decides reading.header-allows (
+    promise reading-run-kinds.ps reading-run-kinds.r reading-run-reads.Pre reading-run-reads.Learnt reading.run-decides reading.run-allows (
+    promise reading-reply-kinds.ps reading-reply-kinds.r reading-reply-reads.Pre reading-reply-reads.Learnt reading.reply-decides reading.reply-allows wire-decided))))))))))
 
 pub writing-decided : Promises
 writing-decided =
-    promise 1 writing-block-kinds.ps writing-block-kinds.r writing-block-reads.Pre writing-block-reads.Learnt writing.block-decides writing.block-allows (
-    promise 1 writing-gather-kinds.ps writing-gather-kinds.r writing-gather-reads.Pre writing-gather-reads.Learnt writing.gather-decides writing.gather-allows (
-    promise 1 writing-run-kinds.ps writing-run-kinds.r writing-run-reads.Pre writing-run-reads.Learnt writing.run-decides writing.run-allows (
-    promise 1 writing-phase-kinds.ps writing-phase-kinds.r writing-phase-reads.Pre writing-phase-reads.Learnt writing.phase-decides writing.phase-allows (
-    promise 1 writing-port-kinds.ps writing-port-kinds.r writing-port-reads.Pre writing-port-reads.Learnt writing.port-decides writing.port-allows (
-    promise 1 writing-console-kinds.ps writing-console-kinds.r writing-console-reads.Pre writing-console-reads.Learnt writing.console-decides writing.console-allows (
-    promise 1 writing-printer-kinds.ps writing-printer-kinds.r writing-printer-reads.Pre writing-printer-reads.Learnt writing.printer-decides writing.printer-allows (
-    promise 1 writing-cassette-kinds.ps writing-cassette-kinds.r writing-cassette-reads.Pre writing-cassette-reads.Learnt writing.cassette-decides writing.cassette-allows reading-decided)))))))
+    promise writing-block-kinds.ps writing-block-kinds.r writing-block-reads.Pre writing-block-reads.Learnt writing.block-decides writing.block-allows (
+    promise writing-gather-kinds.ps writing-gather-kinds.r writing-gather-reads.Pre writing-gather-reads.Learnt writing.gather-decides writing.gather-allows (
+    promise writing-run-kinds.ps writing-run-kinds.r writing-run-reads.Pre writing-run-reads.Learnt writing.run-decides writing.run-allows (
+    promise writing-phase-kinds.ps writing-phase-kinds.r writing-phase-reads.Pre writing-phase-reads.Learnt writing.phase-decides writing.phase-allows (
+    promise writing-port-kinds.ps writing-port-kinds.r writing-port-reads.Pre writing-port-reads.Learnt writing.port-decides writing.port-allows (
+    promise writing-console-kinds.ps writing-console-kinds.r writing-console-reads.Pre writing-console-reads.Learnt writing.console-decides writing.console-allows (
+    promise writing-printer-kinds.ps writing-printer-kinds.r writing-printer-reads.Pre writing-printer-reads.Learnt writing.printer-decides writing.printer-allows (
+    promise writing-cassette-kinds.ps writing-cassette-kinds.r writing-cassette-reads.Pre writing-cassette-reads.Learnt writing.cassette-decides writing.cassette-allows reading-decided)))))))
 
 pub ports-decided : Promises
 ports-decided =
-    promise 1 ports-phase-of-kinds.ps ports-phase-of-kinds.r ports-phase-of-reads.Pre ports-phase-of-reads.Learnt ports.phase-of-decides ports.phase-of-allows (
-    promise 1 ports-set-phase-kinds.ps ports-set-phase-kinds.r ports-set-phase-reads.Pre ports-set-phase-reads.Learnt ports.set-phase-decides ports.set-phase-allows (
-    promise 1 ports-set-gather-kinds.ps ports-set-gather-kinds.r ports-set-gather-reads.Pre ports-set-gather-reads.Learnt ports.set-gather-decides ports.set-gather-allows (
-    promise 1 ports-set-run-kinds.ps ports-set-run-kinds.r ports-set-run-reads.Pre ports-set-run-reads.Learnt ports.set-run-decides ports.set-run-allows (
-    promise 1 ports-block-of-kinds.ps ports-block-of-kinds.r ports-block-of-reads.Pre ports-block-of-reads.Learnt ports.block-of-decides ports.block-of-allows (
-    promise 1 ports-set-block-kinds.ps ports-set-block-kinds.r ports-set-block-reads.Pre ports-set-block-reads.Learnt ports.set-block-decides ports.set-block-allows (
-    promise 1 ports-set-port-kinds.ps ports-set-port-kinds.r ports-set-port-reads.Pre ports-set-port-reads.Learnt ports.set-port-decides ports.set-port-allows (
-    promise 1 ports-phase-number-kinds.ps ports-phase-number-kinds.r ports-phase-number-reads.Pre ports-phase-number-reads.Learnt ports.phase-number-decides ports.phase-number-allows (
-    promise 1 ports-gather-of-kinds.ps ports-gather-of-kinds.r ports-gather-of-reads.Pre ports-gather-of-reads.Learnt ports.gather-of-decides ports.gather-of-allows (
-    promise 1 ports-header-of-kinds.ps ports-header-of-kinds.r ports-header-of-reads.Pre ports-header-of-reads.Learnt ports.header-of-decides ports.header-of-allows (
-    promise 1 ports-run-of-kinds.ps ports-run-of-kinds.r ports-run-of-reads.Pre ports-run-of-reads.Learnt ports.run-of-decides ports.run-of-allows (
-    promise 1 ports-reply-of-kinds.ps ports-reply-of-kinds.r ports-reply-of-reads.Pre ports-reply-of-reads.Learnt ports.reply-of-decides ports.reply-of-allows writing-decided)))))))))))
+    promise ports-phase-of-kinds.ps ports-phase-of-kinds.r ports-phase-of-reads.Pre ports-phase-of-reads.Learnt ports.phase-of-decides ports.phase-of-allows (
+    promise ports-set-phase-kinds.ps ports-set-phase-kinds.r ports-set-phase-reads.Pre ports-set-phase-reads.Learnt ports.set-phase-decides ports.set-phase-allows (
+    promise ports-set-gather-kinds.ps ports-set-gather-kinds.r ports-set-gather-reads.Pre ports-set-gather-reads.Learnt ports.set-gather-decides ports.set-gather-allows (
+    promise ports-set-run-kinds.ps ports-set-run-kinds.r ports-set-run-reads.Pre ports-set-run-reads.Learnt ports.set-run-decides ports.set-run-allows (
+    promise ports-block-of-kinds.ps ports-block-of-kinds.r ports-block-of-reads.Pre ports-block-of-reads.Learnt ports.block-of-decides ports.block-of-allows (
+    promise ports-set-block-kinds.ps ports-set-block-kinds.r ports-set-block-reads.Pre ports-set-block-reads.Learnt ports.set-block-decides ports.set-block-allows (
+    promise ports-set-port-kinds.ps ports-set-port-kinds.r ports-set-port-reads.Pre ports-set-port-reads.Learnt ports.set-port-decides ports.set-port-allows (
+    promise ports-phase-number-kinds.ps ports-phase-number-kinds.r ports-phase-number-reads.Pre ports-phase-number-reads.Learnt ports.phase-number-decides ports.phase-number-allows (
+    promise ports-gather-of-kinds.ps ports-gather-of-kinds.r ports-gather-of-reads.Pre ports-gather-of-reads.Learnt ports.gather-of-decides ports.gather-of-allows (
+    promise ports-header-of-kinds.ps ports-header-of-kinds.r ports-header-of-reads.Pre ports-header-of-reads.Learnt ports.header-of-decides ports.header-of-allows (
+    promise ports-run-of-kinds.ps ports-run-of-kinds.r ports-run-of-reads.Pre ports-run-of-reads.Learnt ports.run-of-decides ports.run-of-allows (
+    promise ports-reply-of-kinds.ps ports-reply-of-kinds.r ports-reply-of-reads.Pre ports-reply-of-reads.Learnt ports.reply-of-decides ports.reply-of-allows writing-decided)))))))))))
 
 pub transfer-decided : Promises
 transfer-decided =
-    promise 1 transfer-after-get-kinds.ps transfer-after-get-kinds.r transfer-after-get-reads.Pre transfer-after-get-reads.Learnt transfer.after-get-decides transfer.after-get-allows (
-    promise 1 transfer-byte-to-send-kinds.ps transfer-byte-to-send-kinds.r transfer-byte-to-send-reads.Pre transfer-byte-to-send-reads.Learnt transfer.byte-to-send-decides transfer.byte-to-send-allows (
-    promise 0 transfer-after-put-kinds.ps transfer-after-put-kinds.r transfer-after-put-reads.Pre transfer-after-put-reads.Learnt transfer.after-put-decides transfer.after-put-allows (
-    promise 1 transfer-land-kinds.ps transfer-land-kinds.r transfer-land-reads.Pre transfer-land-reads.Learnt transfer.land-decides transfer.land-allows ports-decided)))
+    promise transfer-after-get-kinds.ps transfer-after-get-kinds.r transfer-after-get-reads.Pre transfer-after-get-reads.Learnt transfer.after-get-decides transfer.after-get-allows (
+    promise transfer-byte-to-send-kinds.ps transfer-byte-to-send-kinds.r transfer-byte-to-send-reads.Pre transfer-byte-to-send-reads.Learnt transfer.byte-to-send-decides transfer.byte-to-send-allows (
+    promise transfer-after-put-kinds.ps transfer-after-put-kinds.r transfer-after-put-reads.Pre transfer-after-put-reads.Learnt transfer.after-put-decides transfer.after-put-allows (
+    promise transfer-land-kinds.ps transfer-land-kinds.r transfer-land-reads.Pre transfer-land-reads.Learnt transfer.land-decides transfer.land-allows ports-decided)))
 
 pub recorder-decided : Promises
 recorder-decided =
-    promise 2 recorder-open-kinds.ps recorder-open-kinds.r recorder-open-reads.Pre recorder-open-reads.Learnt recorder.open-decides recorder.open-allows (
-    promise 2 recorder-close-kinds.ps recorder-close-kinds.r recorder-close-reads.Pre recorder-close-reads.Learnt recorder.close-decides recorder.close-allows (
-    promise 2 recorder-read-kinds.ps recorder-read-kinds.r recorder-read-reads.Pre recorder-read-reads.Learnt recorder.read-decides recorder.read-allows (
-    promise 2 recorder-write-kinds.ps recorder-write-kinds.r recorder-write-reads.Pre recorder-write-reads.Learnt recorder.write-decides recorder.write-allows (
-    promise 0 recorder-fits-kinds.ps recorder-fits-kinds.r recorder-fits-reads.Pre recorder-fits-reads.Learnt recorder.fits-decides recorder.fits-allows transfer-decided))))
+    promise recorder-open-kinds.ps recorder-open-kinds.r recorder-open-reads.Pre recorder-open-reads.Learnt recorder.open-decides recorder.open-allows (
+    promise recorder-close-kinds.ps recorder-close-kinds.r recorder-close-reads.Pre recorder-close-reads.Learnt recorder.close-decides recorder.close-allows (
+    promise recorder-read-kinds.ps recorder-read-kinds.r recorder-read-reads.Pre recorder-read-reads.Learnt recorder.read-decides recorder.read-allows (
+    promise recorder-write-kinds.ps recorder-write-kinds.r recorder-write-reads.Pre recorder-write-reads.Learnt recorder.write-decides recorder.write-allows (
+    promise recorder-fits-kinds.ps recorder-fits-kinds.r recorder-fits-reads.Pre recorder-fits-reads.Learnt recorder.fits-decides recorder.fits-allows transfer-decided))))
 
 pub devices-decided : Promises
 devices-decided =
-    promise 0 devices-owner-of-kinds.ps devices-owner-of-kinds.r devices-owner-of-reads.Pre devices-owner-of-reads.Learnt devices.owner-of-decides devices.owner-of-allows (
-    promise 0 devices-group-of-kinds.ps devices-group-of-kinds.r devices-group-of-reads.Pre devices-group-of-reads.Learnt devices.group-of-decides devices.group-of-allows (
-    promise 0 devices-held-by-kinds.ps devices-held-by-kinds.r devices-held-by-reads.Pre devices-held-by-reads.Learnt devices.held-by-decides devices.held-by-allows (
-    promise 0 devices-clashes-kinds.ps devices-clashes-kinds.r devices-clashes-reads.Pre devices-clashes-reads.Learnt devices.clashes-decides devices.clashes-allows (
-    promise 4 devices-open-kinds.ps devices-open-kinds.r devices-open-reads.Pre devices-open-reads.Learnt devices.open-decides devices.open-allows (
-    promise 4 devices-close-kinds.ps devices-close-kinds.r devices-close-reads.Pre devices-close-reads.Learnt devices.close-decides devices.close-allows (
-    promise 4 devices-prepare-kinds.ps devices-prepare-kinds.r devices-prepare-reads.Pre devices-prepare-reads.Learnt devices.prepare-decides devices.prepare-allows (
-    promise 4 devices-read-kinds.ps devices-read-kinds.r devices-read-reads.Pre devices-read-reads.Learnt devices.read-decides devices.read-allows (
-    promise 4 devices-write-kinds.ps devices-write-kinds.r devices-write-reads.Pre devices-write-reads.Learnt devices.write-decides devices.write-allows (
-    promise 4 devices-status-kinds.ps devices-status-kinds.r devices-status-reads.Pre devices-status-reads.Learnt devices.status-decides devices.status-allows (
-    promise 4 devices-special-kinds.ps devices-special-kinds.r devices-special-reads.Pre devices-special-reads.Learnt devices.special-decides devices.special-allows (
-    promise 4 devices-fresh-kinds.ps devices-fresh-kinds.r devices-fresh-reads.Pre devices-fresh-reads.Learnt devices.fresh-decides devices.fresh-allows (
-    promise 1 devices-console-of-kinds.ps devices-console-of-kinds.r devices-console-of-reads.Pre devices-console-of-reads.Learnt devices.console-of-decides devices.console-of-allows (
-    promise 1 devices-set-console-kinds.ps devices-set-console-kinds.r devices-set-console-reads.Pre devices-set-console-reads.Learnt devices.set-console-decides devices.set-console-allows (
-    promise 1 devices-printer-of-kinds.ps devices-printer-of-kinds.r devices-printer-of-reads.Pre devices-printer-of-reads.Learnt devices.printer-of-decides devices.printer-of-allows (
-    promise 1 devices-set-printer-kinds.ps devices-set-printer-kinds.r devices-set-printer-reads.Pre devices-set-printer-reads.Learnt devices.set-printer-decides devices.set-printer-allows recorder-decided)))))))))))))))
+    promise devices-owner-of-kinds.ps devices-owner-of-kinds.r devices-owner-of-reads.Pre devices-owner-of-reads.Learnt devices.owner-of-decides devices.owner-of-allows (
+    promise devices-group-of-kinds.ps devices-group-of-kinds.r devices-group-of-reads.Pre devices-group-of-reads.Learnt devices.group-of-decides devices.group-of-allows (
+    promise devices-held-by-kinds.ps devices-held-by-kinds.r devices-held-by-reads.Pre devices-held-by-reads.Learnt devices.held-by-decides devices.held-by-allows (
+    promise devices-clashes-kinds.ps devices-clashes-kinds.r devices-clashes-reads.Pre devices-clashes-reads.Learnt devices.clashes-decides devices.clashes-allows (
+    promise devices-open-kinds.ps devices-open-kinds.r devices-open-reads.Pre devices-open-reads.Learnt devices.open-decides devices.open-allows (
+    promise devices-close-kinds.ps devices-close-kinds.r devices-close-reads.Pre devices-close-reads.Learnt devices.close-decides devices.close-allows (
+    promise devices-prepare-kinds.ps devices-prepare-kinds.r devices-prepare-reads.Pre devices-prepare-reads.Learnt devices.prepare-decides devices.prepare-allows (
+    promise devices-read-kinds.ps devices-read-kinds.r devices-read-reads.Pre devices-read-reads.Learnt devices.read-decides devices.read-allows (
+    promise devices-write-kinds.ps devices-write-kinds.r devices-write-reads.Pre devices-write-reads.Learnt devices.write-decides devices.write-allows (
+    promise devices-status-kinds.ps devices-status-kinds.r devices-status-reads.Pre devices-status-reads.Learnt devices.status-decides devices.status-allows (
+    promise devices-special-kinds.ps devices-special-kinds.r devices-special-reads.Pre devices-special-reads.Learnt devices.special-decides devices.special-allows (
+    promise devices-fresh-kinds.ps devices-fresh-kinds.r devices-fresh-reads.Pre devices-fresh-reads.Learnt devices.fresh-decides devices.fresh-allows (
+    promise devices-console-of-kinds.ps devices-console-of-kinds.r devices-console-of-reads.Pre devices-console-of-reads.Learnt devices.console-of-decides devices.console-of-allows (
+    promise devices-set-console-kinds.ps devices-set-console-kinds.r devices-set-console-reads.Pre devices-set-console-reads.Learnt devices.set-console-decides devices.set-console-allows (
+    promise devices-printer-of-kinds.ps devices-printer-of-kinds.r devices-printer-of-reads.Pre devices-printer-of-reads.Learnt devices.printer-of-decides devices.printer-of-allows (
+    promise devices-set-printer-kinds.ps devices-set-printer-kinds.r devices-set-printer-reads.Pre devices-set-printer-reads.Learnt devices.set-printer-decides devices.set-printer-allows recorder-decided)))))))))))))))
 
 pub judge-decided : Promises
 judge-decided =
-    promise 5 judge-undamaged-kinds.ps judge-undamaged-kinds.r judge-undamaged-reads.Pre judge-undamaged-reads.Learnt judge.undamaged-decides judge.undamaged-allows devices-decided
+    promise judge-undamaged-kinds.ps judge-undamaged-kinds.r judge-undamaged-reads.Pre judge-undamaged-reads.Learnt judge.undamaged-decides judge.undamaged-allows devices-decided
 
 pub plan-decided : Promises
 plan-decided =
-    promise 0 plan-planned-kinds.ps plan-planned-kinds.r plan-planned-reads.Pre plan-planned-reads.Learnt plan.planned-decides plan.planned-allows (
-    promise 1 plan-open-plan-kinds.ps plan-open-plan-kinds.r plan-open-plan-reads.Pre plan-open-plan-reads.Learnt plan.open-plan-decides plan.open-plan-allows (
-    promise 0 plan-transfer-plan-kinds.ps plan-transfer-plan-kinds.r plan-transfer-plan-reads.Pre plan-transfer-plan-reads.Learnt plan.transfer-plan-decides plan.transfer-plan-allows (
-    promise 0 plan-group-needed-kinds.ps plan-group-needed-kinds.r plan-group-needed-reads.Pre plan-group-needed-reads.Learnt plan.group-needed-decides plan.group-needed-allows judge-decided)))
+    promise plan-planned-kinds.ps plan-planned-kinds.r plan-planned-reads.Pre plan-planned-reads.Learnt plan.planned-decides plan.planned-allows (
+    promise plan-open-plan-kinds.ps plan-open-plan-kinds.r plan-open-plan-reads.Pre plan-open-plan-reads.Learnt plan.open-plan-decides plan.open-plan-allows (
+    promise plan-transfer-plan-kinds.ps plan-transfer-plan-kinds.r plan-transfer-plan-reads.Pre plan-transfer-plan-reads.Learnt plan.transfer-plan-decides plan.transfer-plan-allows (
+    promise plan-group-needed-kinds.ps plan-group-needed-kinds.r plan-group-needed-reads.Pre plan-group-needed-reads.Learnt plan.group-needed-decides plan.group-needed-allows judge-decided)))
 
 pub checks-decided : Promises
 checks-decided =
-    promise 0 checks-iocb-of-kinds.ps checks-iocb-of-kinds.r checks-iocb-of-reads.Pre checks-iocb-of-reads.Learnt checks.iocb-of-decides checks.iocb-of-allows (
-    promise 1 checks-plan-in-kinds.ps checks-plan-in-kinds.r checks-plan-in-reads.Pre checks-plan-in-reads.Learnt checks.plan-in-decides checks.plan-in-allows plan-decided)
+    promise checks-iocb-of-kinds.ps checks-iocb-of-kinds.r checks-iocb-of-reads.Pre checks-iocb-of-reads.Learnt checks.iocb-of-decides checks.iocb-of-allows (
+    promise checks-plan-in-kinds.ps checks-plan-in-kinds.r checks-plan-in-reads.Pre checks-plan-in-reads.Learnt checks.plan-in-decides checks.plan-in-allows plan-decided)
 
 pub moves-decided : Promises
 moves-decided =
-    promise 5 moves-advance-kinds.ps moves-advance-kinds.r moves-advance-reads.Pre moves-advance-reads.Learnt moves.advance-decides moves.advance-allows checks-decided
+    promise moves-advance-kinds.ps moves-advance-kinds.r moves-advance-reads.Pre moves-advance-reads.Learnt moves.advance-decides moves.advance-allows checks-decided
 
 pub cio-decided : Promises
 cio-decided =
-    promise 2 cio-load-kinds.ps cio-load-kinds.r cio-load-reads.Pre cio-load-reads.Learnt cio.load-decides cio.load-allows (
-    promise 2 cio-run-errand-kinds.ps cio-run-errand-kinds.r cio-run-errand-reads.Pre cio-run-errand-reads.Learnt cio.run-errand-decides cio.run-errand-allows (
-    promise 4 cio-start-kinds.ps cio-start-kinds.r cio-start-reads.Pre cio-start-reads.Learnt cio.start-decides cio.start-allows moves-decided))
+    promise cio-load-kinds.ps cio-load-kinds.r cio-load-reads.Pre cio-load-reads.Learnt cio.load-decides cio.load-allows (
+    promise cio-run-errand-kinds.ps cio-run-errand-kinds.r cio-run-errand-reads.Pre cio-run-errand-reads.Learnt cio.run-errand-decides cio.run-errand-allows (
+    promise cio-start-kinds.ps cio-start-kinds.r cio-start-reads.Pre cio-start-reads.Learnt cio.start-decides cio.start-allows moves-decided))
 
 pub running-decided : Promises
 running-decided =
-    promise 1 running-land-at-kinds.ps running-land-at-kinds.r running-land-at-reads.Pre running-land-at-reads.Learnt running.land-at-decides running.land-at-allows (
-    promise 5 running-advance-at-kinds.ps running-advance-at-kinds.r running-advance-at-reads.Pre running-advance-at-reads.Learnt running.advance-at-decides running.advance-at-allows cio-decided)
+    promise running-land-at-kinds.ps running-land-at-kinds.r running-land-at-reads.Pre running-land-at-reads.Learnt running.land-at-decides running.land-at-allows (
+    promise running-advance-at-kinds.ps running-advance-at-kinds.r running-advance-at-reads.Pre running-advance-at-reads.Learnt running.advance-at-decides running.advance-at-allows cio-decided)
 
 pub ticks-decided : Promises
 ticks-decided =
-    promise 5 ticks-tick-at-kinds.ps ticks-tick-at-kinds.r ticks-tick-at-reads.Pre ticks-tick-at-reads.Learnt ticks.tick-at-decides ticks.tick-at-allows running-decided
+    promise ticks-tick-at-kinds.ps ticks-tick-at-kinds.r ticks-tick-at-reads.Pre ticks-tick-at-reads.Learnt ticks.tick-at-decides ticks.tick-at-allows running-decided
 
 pub stick-decided : Promises
 stick-decided =
-    promise 5 stick-take-at-kinds.ps stick-take-at-kinds.r stick-take-at-reads.Pre stick-take-at-reads.Learnt stick.take-at-decides stick.take-at-allows (
-    promise 5 stick-give-at-kinds.ps stick-give-at-kinds.r stick-give-at-reads.Pre stick-give-at-reads.Learnt stick.give-at-decides stick.give-at-allows (
-    promise 5 stick-press-at-kinds.ps stick-press-at-kinds.r stick-press-at-reads.Pre stick-press-at-reads.Learnt stick.press-at-decides stick.press-at-allows (
-    promise 5 stick-fresh-all-kinds.ps stick-fresh-all-kinds.r stick-fresh-all-reads.Pre stick-fresh-all-reads.Learnt stick.fresh-all-decides stick.fresh-all-allows ticks-decided)))
+    promise stick-take-at-kinds.ps stick-take-at-kinds.r stick-take-at-reads.Pre stick-take-at-reads.Learnt stick.take-at-decides stick.take-at-allows (
+    promise stick-give-at-kinds.ps stick-give-at-kinds.r stick-give-at-reads.Pre stick-give-at-reads.Learnt stick.give-at-decides stick.give-at-allows (
+    promise stick-press-at-kinds.ps stick-press-at-kinds.r stick-press-at-reads.Pre stick-press-at-reads.Learnt stick.press-at-decides stick.press-at-allows (
+    promise stick-fresh-all-kinds.ps stick-fresh-all-kinds.r stick-fresh-all-reads.Pre stick-fresh-all-reads.Learnt stick.fresh-all-decides stick.fresh-all-allows ticks-decided)))
 
 pub firmware-decided : Promises
 firmware-decided =
-    promise 0 firmware-translate-kinds.ps firmware-translate-kinds.r firmware-translate-reads.Pre firmware-translate-reads.Learnt firmware.translate-decides firmware.translate-allows (
-    promise 5 firmware-fresh-kinds.ps firmware-fresh-kinds.r firmware-fresh-reads.Pre firmware-fresh-reads.Learnt firmware.fresh-decides firmware.fresh-allows (
-    promise 5 firmware-take-kinds.ps firmware-take-kinds.r firmware-take-reads.Pre firmware-take-reads.Learnt firmware.take-decides firmware.take-allows (
-    promise 5 firmware-tick-kinds.ps firmware-tick-kinds.r firmware-tick-reads.Pre firmware-tick-reads.Learnt firmware.tick-decides firmware.tick-allows (
-    promise 5 firmware-give-kinds.ps firmware-give-kinds.r firmware-give-reads.Pre firmware-give-reads.Learnt firmware.give-decides firmware.give-allows (
-    promise 5 firmware-press-kinds.ps firmware-press-kinds.r firmware-press-reads.Pre firmware-press-reads.Learnt firmware.press-decides firmware.press-allows stick-decided)))))
+    promise firmware-translate-kinds.ps firmware-translate-kinds.r firmware-translate-reads.Pre firmware-translate-reads.Learnt firmware.translate-decides firmware.translate-allows (
+    promise firmware-fresh-kinds.ps firmware-fresh-kinds.r firmware-fresh-reads.Pre firmware-fresh-reads.Learnt firmware.fresh-decides firmware.fresh-allows (
+    promise firmware-take-kinds.ps firmware-take-kinds.r firmware-take-reads.Pre firmware-take-reads.Learnt firmware.take-decides firmware.take-allows (
+    promise firmware-tick-kinds.ps firmware-tick-kinds.r firmware-tick-reads.Pre firmware-tick-reads.Learnt firmware.tick-decides firmware.tick-allows (
+    promise firmware-give-kinds.ps firmware-give-kinds.r firmware-give-reads.Pre firmware-give-reads.Learnt firmware.give-decides firmware.give-allows (
+    promise firmware-press-kinds.ps firmware-press-kinds.r firmware-press-reads.Pre firmware-press-reads.Learnt firmware.press-decides firmware.press-allows stick-decided)))))
 
 -- all of them
 pub all-decided : Promises

@@ -31,22 +31,22 @@ use Rattle.demands.specs.Told.{fiveLent, FreshCall, TakeCall, TickCall, 
 use Rattle.demands.specs.Demand1.{Open}
 
 -- "No entry point trusts its caller to have checked"
-pub fresh-open : Open 5 fresh-kinds.ps fresh-kinds.r fresh-reads.Pre fresh-reads.Learnt
+pub fresh-open : Open fresh-kinds.ps fresh-kinds.r fresh-reads.Pre fresh-reads.Learnt
 fresh-open = record { asks-nothing = λ κs a. tt; answers = firmware.fresh-allows }
 
-pub take-open : Open 5 take-kinds.ps take-kinds.r take-reads.Pre take-reads.Learnt
+pub take-open : Open take-kinds.ps take-kinds.r take-reads.Pre take-reads.Learnt
 take-open = record { asks-nothing = λ κs a. tt; answers = firmware.take-allows }
 
-pub tick-open : Open 5 tick-kinds.ps tick-kinds.r tick-reads.Pre tick-reads.Learnt
+pub tick-open : Open tick-kinds.ps tick-kinds.r tick-reads.Pre tick-reads.Learnt
 tick-open = record { asks-nothing = λ κs a. tt; answers = firmware.tick-allows }
 
-pub give-open : Open 5 give-kinds.ps give-kinds.r give-reads.Pre give-reads.Learnt
+pub give-open : Open give-kinds.ps give-kinds.r give-reads.Pre give-reads.Learnt
 give-open = record { asks-nothing = λ κs a. tt; answers = firmware.give-allows }
 
-pub press-open : Open 5 press-kinds.ps press-kinds.r press-reads.Pre press-reads.Learnt
+pub press-open : Open press-kinds.ps press-kinds.r press-reads.Pre press-reads.Learnt
 press-open = record { asks-nothing = λ κs a. tt; answers = firmware.press-allows }
 
-pub translate-open : Open 0 translate-kinds.ps translate-kinds.r translate-reads.Pre translate-reads.Learnt
+pub translate-open : Open translate-kinds.ps translate-kinds.r translate-reads.Pre translate-reads.Learnt
 translate-open = record { asks-nothing = λ κs a. tt; answers = firmware.translate-allows }
 
 -- a buffer, lent from anywhere
@@ -58,7 +58,7 @@ lifetimes = ([], ([], ([], ([], ([], tt)))))
 
 -- a call with these buffers and numbers, as its claim allows one
 module _ {given : List (PK 5)} {r : RK 5} {Pre : In 5 (fiveLent given)} {Learnt : Out 5 (fiveLent given) r} where
-  abbrev asked : Open 5 (fiveLent given) r Pre Learnt → Buffers → Dens lifetimes given → Told 5 (fiveLent given) r Learnt
+  abbrev asked : Open (fiveLent given) r Pre Learnt → Buffers → Dens lifetimes given → Told (fiveLent given) r Learnt
   asked o b numbers =
       let a : Dens lifetimes (fiveLent given) =
       (lentAs (b .state), (lentAs (b .area), (lentAs (b .screen), (lentAs (b .paper), (lentAs (b .tape), numbers))))) in

@@ -23,9 +23,9 @@ use Rattle.demands.specs.Told.{lends, leaves, answerIn, portNamed, byteO
 
 -- "No entry point trusts its caller to have checked": a function asks nothing of what it is given, and its promise allows an
 -- outcome
-pub record Open (n : ℕ) (ps : List (PK n)) (r : RK n) (Pre : In n ps) (Learnt : Out n ps r) : Type 0 where
+pub record Open {n : ℕ} (ps : List (PK n)) (r : RK n) (Pre : In n ps) (Learnt : Out n ps r) : Type 0 where
   pub asks-nothing : (κs : Lfts n) (a : Dens κs ps) → Pre κs a
-  pub answers : Allows n ps r Pre Learnt
+  pub answers : Allows ps r Pre Learnt
 
 -- the bytes stand for no stick, or for a damaged one, where the lengths fit
 pub record DamagedBuffers (b : Buffers) : Type 0 where

@@ -53,12 +53,12 @@ pub record Demands : Type 0 where
   -- 1. "Whatever bytes the two hosts send, whatever keys are pressed and in whatever order the core is called, every call
   -- returns, nothing is read or written outside its buffer [the check itself], and each refusal gives the number in the tables of
   -- document 01 and changes only what they say. No entry point trusts its caller to have checked."
-  pub fresh-open : Open 5 fresh-kinds.ps fresh-kinds.r fresh-reads.Pre fresh-reads.Learnt
-  pub take-open : Open 5 take-kinds.ps take-kinds.r take-reads.Pre take-reads.Learnt
-  pub tick-open : Open 5 tick-kinds.ps tick-kinds.r tick-reads.Pre tick-reads.Learnt
-  pub give-open : Open 5 give-kinds.ps give-kinds.r give-reads.Pre give-reads.Learnt
-  pub press-open : Open 5 press-kinds.ps press-kinds.r press-reads.Pre press-reads.Learnt
-  pub translate-open : Open 0 translate-kinds.ps translate-kinds.r translate-reads.Pre translate-reads.Learnt
+  pub fresh-open : Open fresh-kinds.ps fresh-kinds.r fresh-reads.Pre fresh-reads.Learnt
+  pub take-open : Open take-kinds.ps take-kinds.r take-reads.Pre take-reads.Learnt
+  pub tick-open : Open tick-kinds.ps tick-kinds.r tick-reads.Pre tick-reads.Learnt
+  pub give-open : Open give-kinds.ps give-kinds.r give-reads.Pre give-reads.Learnt
+  pub press-open : Open press-kinds.ps press-kinds.r press-reads.Pre press-reads.Learnt
+  pub translate-open : Open translate-kinds.ps translate-kinds.r translate-reads.Pre translate-reads.Learnt
   pub exactly : {b : Buffers} {r : Returned} (c : AnyCall b r) → Exactly c
   -- "Numbers 1 to 8 change nothing"; "A byte beside a refusal is 0.": every byte of every buffer stays. That a lent state is made
   -- of bytes is its type's.

@@ -32,16 +32,16 @@ use Rattle.firmware.proofs.fixlomand_translate.Kinds as translate-kinds
 use Rattle.firmware.proofs.fixlomand_translate.Reads as translate-reads
 use Rattle.firmware.proofs.fixlomand_translate.Symbol as translate-symbol
 
-pub record Tells (n : ℕ) (ps : List (PK n)) (r : RK n) (Asked : In n ps) (Learnt : Out n ps r) (routine : Routine) : Type 2 where
+pub record Tells {n : ℕ} (ps : List (PK n)) (r : RK n) (Asked : In n ps) (Learnt : Out n ps r) (routine : Routine) : Type 2 where
   pub asks-nothing : (κs : Lfts n) (a : Dens κs ps) → Asked κs a
   -- under whatever name it is called, in every model of what runs
   pub told : (w : World) (γ : Env) (k : Name) → γ k ≡ routine
       → Known (w .𝓤) (w .H) (w .𝓖 .A) (givenOf (w .𝓤) (w .H) (w .𝓜) (w .𝓖)) (Over (w .𝓤) (w .H) (w .𝓜) (w .𝓖) (w .𝓡) γ) n ps r Asked Learnt k
 
 pub record Routines : Type 2 where
-  pub fresh : Tells 5 fresh-kinds.ps fresh-kinds.r fresh-reads.Asked fresh-reads.Learnt fresh-symbol.routine
-  pub take : Tells 5 take-kinds.ps take-kinds.r take-reads.Asked take-reads.Learnt take-symbol.routine
-  pub tick : Tells 5 tick-kinds.ps tick-kinds.r tick-reads.Asked tick-reads.Learnt tick-symbol.routine
-  pub give : Tells 5 give-kinds.ps give-kinds.r give-reads.Asked give-reads.Learnt give-symbol.routine
-  pub press : Tells 5 press-kinds.ps press-kinds.r press-reads.Asked press-reads.Learnt press-symbol.routine
-  pub translate : Tells 0 translate-kinds.ps translate-kinds.r translate-reads.Asked translate-reads.Learnt translate-symbol.routine
+  pub fresh : Tells fresh-kinds.ps fresh-kinds.r fresh-reads.Asked fresh-reads.Learnt fresh-symbol.routine
+  pub take : Tells take-kinds.ps take-kinds.r take-reads.Asked take-reads.Learnt take-symbol.routine
+  pub tick : Tells tick-kinds.ps tick-kinds.r tick-reads.Asked tick-reads.Learnt tick-symbol.routine
+  pub give : Tells give-kinds.ps give-kinds.r give-reads.Asked give-reads.Learnt give-symbol.routine
+  pub press : Tells press-kinds.ps press-kinds.r press-reads.Asked press-reads.Learnt press-symbol.routine
+  pub translate : Tells translate-kinds.ps translate-kinds.r translate-reads.Asked translate-reads.Learnt translate-symbol.routine

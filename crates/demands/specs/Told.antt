@@ -36,11 +36,11 @@ fiveLent given =
 
 module _ {given : List (PK 5)} {returns : Width} {Learnt : Out 5 (fiveLent given) (rNum returns)} where
   -- the buffers that it is lent
-  abbrev pub lends : Told 5 (fiveLent given) (rNum returns) Learnt → Buffers
+  abbrev pub lends : Told (fiveLent given) (rNum returns) Learnt → Buffers
   lends o = buffers (now (o .args .0)) (now (o .args .1 .0)) (now (o .args .1 .1 .0)) (now (o .args .1 .1 .1 .0)) (now (o .args .1 .1 .1 .1 .0))
 
   -- the number that it returns, and the buffers as it leaves them
-  abbrev pub leaves : Told 5 (fiveLent given) (rNum returns) Learnt → Returned
+  abbrev pub leaves : Told (fiveLent given) (rNum returns) Learnt → Returned
   leaves o = returned (o .result) (buffers (o .lasts .0) (o .lasts .1 .0) (o .lasts .1 .1 .0) (o .lasts .1 .1 .1 .0) (o .lasts .1 .1 .1 .1 .0))
 
 -- the answer is the low byte of the number, a reply byte the high one
@@ -51,23 +51,23 @@ abbrev pub replyByteIn : Returned → ℕ
 replyByteIn r = r .number / 256
 
 abbrev pub FreshCall : Type 0
-FreshCall = Told 5 fresh-kinds.ps fresh-kinds.r fresh-reads.Learnt
+FreshCall = Told fresh-kinds.ps fresh-kinds.r fresh-reads.Learnt
 
 abbrev pub TakeCall : Type 0
-TakeCall = Told 5 take-kinds.ps take-kinds.r take-reads.Learnt
+TakeCall = Told take-kinds.ps take-kinds.r take-reads.Learnt
 
 abbrev pub TickCall : Type 0
-TickCall = Told 5 tick-kinds.ps tick-kinds.r tick-reads.Learnt
+TickCall = Told tick-kinds.ps tick-kinds.r tick-reads.Learnt
 
 abbrev pub GiveCall : Type 0
-GiveCall = Told 5 give-kinds.ps give-kinds.r give-reads.Learnt
+GiveCall = Told give-kinds.ps give-kinds.r give-reads.Learnt
 
 abbrev pub PressCall : Type 0
-PressCall = Told 5 press-kinds.ps press-kinds.r press-reads.Learnt
+PressCall = Told press-kinds.ps press-kinds.r press-reads.Learnt
 
 -- take, tick and give name a port next
 module _ {given : List (PK 5)} {returns : Width} {Learnt : Out 5 (fiveLent (pNum w8 ∷ given)) (rNum returns)} where
-  abbrev pub portNamed : Told 5 (fiveLent (pNum w8 ∷ given)) (rNum returns) Learnt → ℕ
+  abbrev pub portNamed : Told (fiveLent (pNum w8 ∷ given)) (rNum returns) Learnt → ℕ
   portNamed o = o .args .1 .1 .1 .1 .1 .0
 
 abbrev pub byteOffered : TakeCall → ℕ
@@ -78,7 +78,7 @@ codePressed o = o .args .1 .1 .1 .1 .1 .0
 
 -- key translation: "a code, lock .. and inverse", and its answer
 abbrev pub TranslateCall : Type 0
-TranslateCall = Told 0 translate-kinds.ps translate-kinds.r translate-reads.Learnt
+TranslateCall = Told translate-kinds.ps translate-kinds.r translate-reads.Learnt
 
 abbrev pub codeAsked : TranslateCall → ℕ
 codeAsked o = o .args .0

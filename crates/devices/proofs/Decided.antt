@@ -41,98 +41,98 @@ use Rattle.devices.proofs.numbers.printer_of.Reads as printer-of-reads
 use Rattle.devices.proofs.numbers.set_printer.Kinds as set-printer-kinds
 use Rattle.devices.proofs.numbers.set_printer.Reads as set-printer-reads
 
-pub owner-of-decides : Decides 0 owner-of-kinds.ps owner-of-kinds.r owner-of-reads.Pre owner-of-reads.Learnt
+pub owner-of-decides : Decides owner-of-kinds.ps owner-of-kinds.r owner-of-reads.Pre owner-of-reads.Learnt
 owner-of-decides κs a z z′ ws ws′ p e e′ = (e ∙ sym e′, refl)
 
-pub owner-of-allows : Allows 0 owner-of-kinds.ps owner-of-kinds.r owner-of-reads.Pre owner-of-reads.Learnt
+pub owner-of-allows : Allows owner-of-kinds.ps owner-of-kinds.r owner-of-reads.Pre owner-of-reads.Learnt
 owner-of-allows κs a p = (_, (_, refl))
 
-pub group-of-decides : Decides 0 group-of-kinds.ps group-of-kinds.r group-of-reads.Pre group-of-reads.Learnt
+pub group-of-decides : Decides group-of-kinds.ps group-of-kinds.r group-of-reads.Pre group-of-reads.Learnt
 group-of-decides κs a z z′ ws ws′ p e e′ = (e ∙ sym e′, refl)
 
-pub group-of-allows : Allows 0 group-of-kinds.ps group-of-kinds.r group-of-reads.Pre group-of-reads.Learnt
+pub group-of-allows : Allows group-of-kinds.ps group-of-kinds.r group-of-reads.Pre group-of-reads.Learnt
 group-of-allows κs a p = (_, (_, refl))
 
-pub held-by-decides : Decides 0 held-by-kinds.ps held-by-kinds.r held-by-reads.Pre held-by-reads.Learnt
+pub held-by-decides : Decides held-by-kinds.ps held-by-kinds.r held-by-reads.Pre held-by-reads.Learnt
 held-by-decides κs a z z′ ws ws′ p e e′ = (e ∙ sym e′, refl)
 
-pub held-by-allows : Allows 0 held-by-kinds.ps held-by-kinds.r held-by-reads.Pre held-by-reads.Learnt
+pub held-by-allows : Allows held-by-kinds.ps held-by-kinds.r held-by-reads.Pre held-by-reads.Learnt
 held-by-allows κs a p = (_, (_, refl))
 
-pub clashes-decides : Decides 0 clashes-kinds.ps clashes-kinds.r clashes-reads.Pre clashes-reads.Learnt
+pub clashes-decides : Decides clashes-kinds.ps clashes-kinds.r clashes-reads.Pre clashes-reads.Learnt
 clashes-decides κs a z z′ ws ws′ p e e′ = (e ∙ sym e′, refl)
 
-pub clashes-allows : Allows 0 clashes-kinds.ps clashes-kinds.r clashes-reads.Pre clashes-reads.Learnt
+pub clashes-allows : Allows clashes-kinds.ps clashes-kinds.r clashes-reads.Pre clashes-reads.Learnt
 clashes-allows κs a p = (_, (_, refl))
 
-pub open-decides : Decides 4 open-kinds.ps open-kinds.r open-reads.Pre open-reads.Learnt
+pub open-decides : Decides open-kinds.ps open-kinds.r open-reads.Pre open-reads.Learnt
 open-decides κs a z z′ ws ws′ p e e′ = let q = e ∙ sym e′ in (ap (λ (w : Answer Done DevicesLent). w .says) q, ap (λ (w : Answer Done DevicesLent). (tt, (tt, (w .leaves .numbers, (w .leaves .screen, (w .leaves .paper, (w .leaves .tape, tt))))))) q)
 
-pub open-allows : Allows 4 open-kinds.ps open-kinds.r open-reads.Pre open-reads.Learnt
+pub open-allows : Allows open-kinds.ps open-kinds.r open-reads.Pre open-reads.Learnt
 open-allows κs a p = (_, (_, refl))
 
-pub close-decides : Decides 4 close-kinds.ps close-kinds.r close-reads.Pre close-reads.Learnt
+pub close-decides : Decides close-kinds.ps close-kinds.r close-reads.Pre close-reads.Learnt
 close-decides κs a z z′ ws ws′ p e e′ = (refl, ap (λ (w : DevicesLent). (tt, (tt, (w .numbers, (w .screen, (w .paper, (w .tape, tt))))))) (e ∙ sym e′))
 
-pub close-allows : Allows 4 close-kinds.ps close-kinds.r close-reads.Pre close-reads.Learnt
+pub close-allows : Allows close-kinds.ps close-kinds.r close-reads.Pre close-reads.Learnt
 close-allows κs a p = (_, (_, refl))
 
-pub prepare-decides : Decides 4 prepare-kinds.ps prepare-kinds.r prepare-reads.Pre prepare-reads.Learnt
+pub prepare-decides : Decides prepare-kinds.ps prepare-kinds.r prepare-reads.Pre prepare-reads.Learnt
 prepare-decides κs a z z′ ws ws′ p e e′ = let q = e ∙ sym e′ in (ap (λ (w : Answer Done DevicesLent). w .says) q, ap (λ (w : Answer Done DevicesLent). (tt, (tt, (w .leaves .numbers, (w .leaves .screen, (w .leaves .paper, (w .leaves .tape, tt))))))) q)
 
-pub prepare-allows : Allows 4 prepare-kinds.ps prepare-kinds.r prepare-reads.Pre prepare-reads.Learnt
+pub prepare-allows : Allows prepare-kinds.ps prepare-kinds.r prepare-reads.Pre prepare-reads.Learnt
 prepare-allows κs a p = (_, (_, refl))
 
-pub read-decides : Decides 4 read-kinds.ps read-kinds.r read-reads.Pre read-reads.Learnt
+pub read-decides : Decides read-kinds.ps read-kinds.r read-reads.Pre read-reads.Learnt
 read-decides κs a z z′ ws ws′ p e e′ = let q = e ∙ sym e′ in (ap (λ (w : Answer Got DevicesLent). w .says) q, ap (λ (w : Answer Got DevicesLent). (tt, (tt, (w .leaves .numbers, (w .leaves .screen, (w .leaves .paper, (w .leaves .tape, tt))))))) q)
 
-pub read-allows : Allows 4 read-kinds.ps read-kinds.r read-reads.Pre read-reads.Learnt
+pub read-allows : Allows read-kinds.ps read-kinds.r read-reads.Pre read-reads.Learnt
 read-allows κs a p = (_, (_, refl))
 
-pub write-decides : Decides 4 write-kinds.ps write-kinds.r write-reads.Pre write-reads.Learnt
+pub write-decides : Decides write-kinds.ps write-kinds.r write-reads.Pre write-reads.Learnt
 write-decides κs a z z′ ws ws′ p e e′ = let q = e ∙ sym e′ in (ap (λ (w : Answer Done DevicesLent). w .says) q, ap (λ (w : Answer Done DevicesLent). (tt, (tt, (tt, (w .leaves .numbers, (w .leaves .screen, (w .leaves .paper, (w .leaves .tape, tt)))))))) q)
 
-pub write-allows : Allows 4 write-kinds.ps write-kinds.r write-reads.Pre write-reads.Learnt
+pub write-allows : Allows write-kinds.ps write-kinds.r write-reads.Pre write-reads.Learnt
 write-allows κs a p = (_, (_, refl))
 
-pub status-decides : Decides 4 status-kinds.ps status-kinds.r status-reads.Pre status-reads.Learnt
+pub status-decides : Decides status-kinds.ps status-kinds.r status-reads.Pre status-reads.Learnt
 status-decides κs a z z′ ws ws′ p e e′ = (e ∙ sym e′, refl)
 
-pub status-allows : Allows 4 status-kinds.ps status-kinds.r status-reads.Pre status-reads.Learnt
+pub status-allows : Allows status-kinds.ps status-kinds.r status-reads.Pre status-reads.Learnt
 status-allows κs a p = (_, (_, refl))
 
-pub special-decides : Decides 4 special-kinds.ps special-kinds.r special-reads.Pre special-reads.Learnt
+pub special-decides : Decides special-kinds.ps special-kinds.r special-reads.Pre special-reads.Learnt
 special-decides κs a z z′ ws ws′ p e e′ = let q = e ∙ sym e′ in (ap (λ (w : Answer Done DevicesLent). w .says) q, ap (λ (w : Answer Done DevicesLent). (tt, (tt, (w .leaves .numbers, (w .leaves .screen, (w .leaves .paper, (w .leaves .tape, tt))))))) q)
 
-pub special-allows : Allows 4 special-kinds.ps special-kinds.r special-reads.Pre special-reads.Learnt
+pub special-allows : Allows special-kinds.ps special-kinds.r special-reads.Pre special-reads.Learnt
 special-allows κs a p = (_, (_, refl))
 
-pub fresh-decides : Decides 4 fresh-kinds.ps fresh-kinds.r fresh-reads.Pre fresh-reads.Learnt
+pub fresh-decides : Decides fresh-kinds.ps fresh-kinds.r fresh-reads.Pre fresh-reads.Learnt
 fresh-decides κs a z z′ ws ws′ p e e′ = (refl, ap (λ (w : DevicesLent). (w .numbers, (w .screen, (tt, (tt, tt))))) (e ∙ sym e′))
 
-pub fresh-allows : Allows 4 fresh-kinds.ps fresh-kinds.r fresh-reads.Pre fresh-reads.Learnt
+pub fresh-allows : Allows fresh-kinds.ps fresh-kinds.r fresh-reads.Pre fresh-reads.Learnt
 fresh-allows κs a p = (_, (_, refl))
 
-pub console-of-decides : Decides 1 console-of-kinds.ps console-of-kinds.r console-of-reads.Pre console-of-reads.Learnt
+pub console-of-decides : Decides console-of-kinds.ps console-of-kinds.r console-of-reads.Pre console-of-reads.Learnt
 console-of-decides κs a z z′ ws ws′ p e e′ = (e ∙ sym e′, refl)
 
-pub console-of-allows : Allows 1 console-of-kinds.ps console-of-kinds.r console-of-reads.Pre console-of-reads.Learnt
+pub console-of-allows : Allows console-of-kinds.ps console-of-kinds.r console-of-reads.Pre console-of-reads.Learnt
 console-of-allows κs a p = (_, (_, refl))
 
-pub set-console-decides : Decides 1 set-console-kinds.ps set-console-kinds.r set-console-reads.Pre set-console-reads.Learnt
+pub set-console-decides : Decides set-console-kinds.ps set-console-kinds.r set-console-reads.Pre set-console-reads.Learnt
 set-console-decides κs a z z′ ws ws′ p e e′ = (refl, ap (λ (l : List ℕ). (l, (tt, tt))) (e ∙ sym e′))
 
-pub set-console-allows : Allows 1 set-console-kinds.ps set-console-kinds.r set-console-reads.Pre set-console-reads.Learnt
+pub set-console-allows : Allows set-console-kinds.ps set-console-kinds.r set-console-reads.Pre set-console-reads.Learnt
 set-console-allows κs a p = (_, (_, refl))
 
-pub printer-of-decides : Decides 1 printer-of-kinds.ps printer-of-kinds.r printer-of-reads.Pre printer-of-reads.Learnt
+pub printer-of-decides : Decides printer-of-kinds.ps printer-of-kinds.r printer-of-reads.Pre printer-of-reads.Learnt
 printer-of-decides κs a z z′ ws ws′ p e e′ = (e ∙ sym e′, refl)
 
-pub printer-of-allows : Allows 1 printer-of-kinds.ps printer-of-kinds.r printer-of-reads.Pre printer-of-reads.Learnt
+pub printer-of-allows : Allows printer-of-kinds.ps printer-of-kinds.r printer-of-reads.Pre printer-of-reads.Learnt
 printer-of-allows κs a p = (_, (_, refl))
 
-pub set-printer-decides : Decides 1 set-printer-kinds.ps set-printer-kinds.r set-printer-reads.Pre set-printer-reads.Learnt
+pub set-printer-decides : Decides set-printer-kinds.ps set-printer-kinds.r set-printer-reads.Pre set-printer-reads.Learnt
 set-printer-decides κs a z z′ ws ws′ p e e′ = (refl, ap (λ (l : List ℕ). (l, (tt, tt))) (e ∙ sym e′))
 
-pub set-printer-allows : Allows 1 set-printer-kinds.ps set-printer-kinds.r set-printer-reads.Pre set-printer-reads.Learnt
+pub set-printer-allows : Allows set-printer-kinds.ps set-printer-kinds.r set-printer-reads.Pre set-printer-reads.Learnt
 set-printer-allows κs a p = (_, (_, refl))

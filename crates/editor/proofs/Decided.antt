@@ -23,44 +23,44 @@ use Rattle.editor.proofs.line.end.Reads as end-reads
 use Rattle.editor.proofs.line.dropped.Kinds as dropped-kinds
 use Rattle.editor.proofs.line.dropped.Reads as dropped-reads
 
-pub place-decides : Decides 0 place-kinds.ps place-kinds.r place-reads.Pre place-reads.Learnt
+pub place-decides : Decides place-kinds.ps place-kinds.r place-reads.Pre place-reads.Learnt
 place-decides κs a z z′ ws ws′ p e e′ = (e ∙ sym e′, refl)
 
-pub place-allows : Allows 0 place-kinds.ps place-kinds.r place-reads.Pre place-reads.Learnt
+pub place-allows : Allows place-kinds.ps place-kinds.r place-reads.Pre place-reads.Learnt
 place-allows κs a p = (_, (_, refl))
 
-pub new-row-decides : Decides 1 new-row-kinds.ps new-row-kinds.r new-row-reads.Pre new-row-reads.Learnt
+pub new-row-decides : Decides new-row-kinds.ps new-row-kinds.r new-row-reads.Pre new-row-reads.Learnt
 new-row-decides κs a z z′ ws ws′ p e e′ = let q = e ∙ sym e′ in (ap (λ (w : Text). w .editor) q, ap (λ (w : Text). (tt, (w .cells, tt))) q)
 
-pub new-row-allows : Allows 1 new-row-kinds.ps new-row-kinds.r new-row-reads.Pre new-row-reads.Learnt
+pub new-row-allows : Allows new-row-kinds.ps new-row-kinds.r new-row-reads.Pre new-row-reads.Learnt
 new-row-allows κs a p = (_, (_, refl))
 
-pub open-decides : Decides 1 open-kinds.ps open-kinds.r open-reads.Pre open-reads.Learnt
+pub open-decides : Decides open-kinds.ps open-kinds.r open-reads.Pre open-reads.Learnt
 open-decides κs a z z′ ws ws′ p e e′ = let q = e ∙ sym e′ in (ap (λ (w : Text). w .editor) q, ap (λ (w : Text). (tt, (w .cells, tt))) q)
 
-pub open-allows : Allows 1 open-kinds.ps open-kinds.r open-reads.Pre open-reads.Learnt
+pub open-allows : Allows open-kinds.ps open-kinds.r open-reads.Pre open-reads.Learnt
 open-allows κs a p = (_, (_, refl))
 
-pub get-decides : Decides 1 get-kinds.ps get-kinds.r get-reads.Pre get-reads.Learnt
+pub get-decides : Decides get-kinds.ps get-kinds.r get-reads.Pre get-reads.Learnt
 get-decides κs a z z′ ws ws′ p e e′ = let q = e ∙ sym e′ in (ap (λ (w : Answer Got Text). record { editor = w .leaves .editor; got = w .says }) q, ap (λ (w : Answer Got Text). (tt, (w .leaves .cells, tt))) q)
 
-pub get-allows : Allows 1 get-kinds.ps get-kinds.r get-reads.Pre get-reads.Learnt
+pub get-allows : Allows get-kinds.ps get-kinds.r get-reads.Pre get-reads.Learnt
 get-allows κs a p = (_, (_, refl))
 
-pub column-of-decides : Decides 0 column-of-kinds.ps column-of-kinds.r column-of-reads.Pre column-of-reads.Learnt
+pub column-of-decides : Decides column-of-kinds.ps column-of-kinds.r column-of-reads.Pre column-of-reads.Learnt
 column-of-decides κs a z z′ ws ws′ p e e′ = (e ∙ sym e′, refl)
 
-pub column-of-allows : Allows 0 column-of-kinds.ps column-of-kinds.r column-of-reads.Pre column-of-reads.Learnt
+pub column-of-allows : Allows column-of-kinds.ps column-of-kinds.r column-of-reads.Pre column-of-reads.Learnt
 column-of-allows κs a p = (_, (_, refl))
 
-pub end-decides : Decides 1 end-kinds.ps end-kinds.r end-reads.Pre end-reads.Learnt
+pub end-decides : Decides end-kinds.ps end-kinds.r end-reads.Pre end-reads.Learnt
 end-decides κs a z z′ ws ws′ p e e′ = (e ∙ sym e′, refl)
 
-pub end-allows : Allows 1 end-kinds.ps end-kinds.r end-reads.Pre end-reads.Learnt
+pub end-allows : Allows end-kinds.ps end-kinds.r end-reads.Pre end-reads.Learnt
 end-allows κs a p = (_, (_, refl))
 
-pub dropped-decides : Decides 0 dropped-kinds.ps dropped-kinds.r dropped-reads.Pre dropped-reads.Learnt
+pub dropped-decides : Decides dropped-kinds.ps dropped-kinds.r dropped-reads.Pre dropped-reads.Learnt
 dropped-decides κs a z z′ ws ws′ p e e′ = (e ∙ sym e′, refl)
 
-pub dropped-allows : Allows 0 dropped-kinds.ps dropped-kinds.r dropped-reads.Pre dropped-reads.Learnt
+pub dropped-allows : Allows dropped-kinds.ps dropped-kinds.r dropped-reads.Pre dropped-reads.Learnt
 dropped-allows κs a p = (_, (_, refl))

@@ -20,26 +20,26 @@ use Rattle.graphics.proofs.get.Reads as get-reads
 use Rattle.graphics.proofs.put.Kinds as put-kinds
 use Rattle.graphics.proofs.put.Reads as put-reads
 
-pub place-decides : Decides 0 place-kinds.ps place-kinds.r place-reads.Pre place-reads.Learnt
+pub place-decides : Decides place-kinds.ps place-kinds.r place-reads.Pre place-reads.Learnt
 place-decides κs a z z′ ws ws′ p e e′ = (e ∙ sym e′, refl)
 
-pub place-allows : Allows 0 place-kinds.ps place-kinds.r place-reads.Pre place-reads.Learnt
+pub place-allows : Allows place-kinds.ps place-kinds.r place-reads.Pre place-reads.Learnt
 place-allows κs a p = (_, (_, refl))
 
-pub open-decides : Decides 1 open-kinds.ps open-kinds.r open-reads.Pre open-reads.Learnt
+pub open-decides : Decides open-kinds.ps open-kinds.r open-reads.Pre open-reads.Learnt
 open-decides κs a z z′ ws ws′ p e e′ = let q = e ∙ sym e′ in (ap (λ (w : Answer Done Picture). record { graphics = w .leaves .graphics; done = w .says }) q, ap (λ (w : Answer Done Picture). (tt, (w .leaves .cells, (tt, (tt, tt))))) q)
 
-pub open-allows : Allows 1 open-kinds.ps open-kinds.r open-reads.Pre open-reads.Learnt
+pub open-allows : Allows open-kinds.ps open-kinds.r open-reads.Pre open-reads.Learnt
 open-allows κs a p = (_, (_, refl))
 
-pub get-decides : Decides 1 get-kinds.ps get-kinds.r get-reads.Pre get-reads.Learnt
+pub get-decides : Decides get-kinds.ps get-kinds.r get-reads.Pre get-reads.Learnt
 get-decides κs a z z′ ws ws′ p e e′ = let q = e ∙ sym e′ in (ap (λ (w : Answer Got Graphics). record { graphics = w .leaves; got = w .says }) q, refl)
 
-pub get-allows : Allows 1 get-kinds.ps get-kinds.r get-reads.Pre get-reads.Learnt
+pub get-allows : Allows get-kinds.ps get-kinds.r get-reads.Pre get-reads.Learnt
 get-allows κs a p = (_, (_, refl))
 
-pub put-decides : Decides 1 put-kinds.ps put-kinds.r put-reads.Pre put-reads.Learnt
+pub put-decides : Decides put-kinds.ps put-kinds.r put-reads.Pre put-reads.Learnt
 put-decides κs a z z′ ws ws′ p e e′ = let q = e ∙ sym e′ in (ap (λ (w : Answer Done Picture). record { graphics = w .leaves .graphics; done = w .says }) q, ap (λ (w : Answer Done Picture). (tt, (w .leaves .cells, (tt, tt)))) q)
 
-pub put-allows : Allows 1 put-kinds.ps put-kinds.r put-reads.Pre put-reads.Learnt
+pub put-allows : Allows put-kinds.ps put-kinds.r put-reads.Pre put-reads.Learnt
 put-allows κs a p = (_, (_, refl))

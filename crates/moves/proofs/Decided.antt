@@ -12,8 +12,8 @@ use Rattle.moves.proofs.Outs.{advance-allowed}
 use Rattle.moves.proofs.advance.Kinds as advance-kinds
 use Rattle.moves.proofs.advance.Reads as advance-reads
 
-pub advance-decides : Decides 5 advance-kinds.ps advance-kinds.r advance-reads.Pre advance-reads.Learnt
+pub advance-decides : Decides advance-kinds.ps advance-kinds.r advance-reads.Pre advance-reads.Learnt
 advance-decides κs a z z′ ws ws′ p e e′ = let q = e ∙ sym e′ in (carried-decides (a .1 .0) z z′ (out-decides (nextOf (a .1 .0) z) (nextOf (a .1 .0) z′) (ap (λ (w : Went DevicesLent). w .out) q)), ap (λ (w : Went DevicesLent). (tt, (tt, (w .area, (w .device .numbers, (w .device .screen, (w .device .paper, (w .device .tape, tt)))))))) q)
 
-pub advance-allows : Allows 5 advance-kinds.ps advance-kinds.r advance-reads.Pre advance-reads.Learnt
+pub advance-allows : Allows advance-kinds.ps advance-kinds.r advance-reads.Pre advance-reads.Learnt
 advance-allows κs a p = (carriedIn (nextIn _), (_, advance-allowed _ _ (a .1 .0) _ _))

@@ -25,68 +25,68 @@ use Rattle.reading.proofs.printer.Reads as printer-reads
 use Rattle.reading.proofs.cassette.Kinds as cassette-kinds
 use Rattle.reading.proofs.cassette.Reads as cassette-reads
 
-pub word-decides : Decides 0 word-kinds.ps word-kinds.r word-reads.Pre word-reads.Learnt
+pub word-decides : Decides word-kinds.ps word-kinds.r word-reads.Pre word-reads.Learnt
 word-decides κs a z z′ ws ws′ p e e′ = (e ∙ sym e′, refl)
 
-pub word-allows : Allows 0 word-kinds.ps word-kinds.r word-reads.Pre word-reads.Learnt
+pub word-allows : Allows word-kinds.ps word-kinds.r word-reads.Pre word-reads.Learnt
 word-allows κs a p = (_, (_, refl))
 
-pub three-decides : Decides 0 three-kinds.ps three-kinds.r three-reads.Pre three-reads.Learnt
+pub three-decides : Decides three-kinds.ps three-kinds.r three-reads.Pre three-reads.Learnt
 three-decides κs a z z′ ws ws′ p e e′ = (e ∙ sym e′, refl)
 
-pub three-allows : Allows 0 three-kinds.ps three-kinds.r three-reads.Pre three-reads.Learnt
+pub three-allows : Allows three-kinds.ps three-kinds.r three-reads.Pre three-reads.Learnt
 three-allows κs a p = (_, (_, refl))
 
-pub block-decides : Decides 1 block-kinds.ps block-kinds.r block-reads.Pre block-reads.Learnt
+pub block-decides : Decides block-kinds.ps block-kinds.r block-reads.Pre block-reads.Learnt
 block-decides κs a z z′ ws ws′ p e e′ = (e ∙ sym e′, refl)
 
-pub block-allows : Allows 1 block-kinds.ps block-kinds.r block-reads.Pre block-reads.Learnt
+pub block-allows : Allows block-kinds.ps block-kinds.r block-reads.Pre block-reads.Learnt
 block-allows κs a p = (_, (_, refl))
 
-pub phase-decides : Decides 1 phase-kinds.ps phase-kinds.r phase-reads.Pre phase-reads.Learnt
+pub phase-decides : Decides phase-kinds.ps phase-kinds.r phase-reads.Pre phase-reads.Learnt
 phase-decides κs a z z′ ws ws′ p e e′ = (e ∙ sym e′, refl)
 
-pub phase-allows : Allows 1 phase-kinds.ps phase-kinds.r phase-reads.Pre phase-reads.Learnt
+pub phase-allows : Allows phase-kinds.ps phase-kinds.r phase-reads.Pre phase-reads.Learnt
 phase-allows κs a p = (_, (_, refl))
 
-pub console-decides : Decides 1 console-kinds.ps console-kinds.r console-reads.Pre console-reads.Learnt
+pub console-decides : Decides console-kinds.ps console-kinds.r console-reads.Pre console-reads.Learnt
 console-decides κs a z z′ ws ws′ p e e′ = (e ∙ sym e′, refl)
 
-pub console-allows : Allows 1 console-kinds.ps console-kinds.r console-reads.Pre console-reads.Learnt
+pub console-allows : Allows console-kinds.ps console-kinds.r console-reads.Pre console-reads.Learnt
 console-allows κs a p = (_, (_, refl))
 
-pub printer-decides : Decides 1 printer-kinds.ps printer-kinds.r printer-reads.Pre printer-reads.Learnt
+pub printer-decides : Decides printer-kinds.ps printer-kinds.r printer-reads.Pre printer-reads.Learnt
 printer-decides κs a z z′ ws ws′ p e e′ = (e ∙ sym e′, refl)
 
-pub printer-allows : Allows 1 printer-kinds.ps printer-kinds.r printer-reads.Pre printer-reads.Learnt
+pub printer-allows : Allows printer-kinds.ps printer-kinds.r printer-reads.Pre printer-reads.Learnt
 printer-allows κs a p = (_, (_, refl))
 
-pub cassette-decides : Decides 1 cassette-kinds.ps cassette-kinds.r cassette-reads.Pre cassette-reads.Learnt
+pub cassette-decides : Decides cassette-kinds.ps cassette-kinds.r cassette-reads.Pre cassette-reads.Learnt
 cassette-decides κs a z z′ ws ws′ p e e′ = (e ∙ sym e′, refl)
 
-pub cassette-allows : Allows 1 cassette-kinds.ps cassette-kinds.r cassette-reads.Pre cassette-reads.Learnt
+pub cassette-allows : Allows cassette-kinds.ps cassette-kinds.r cassette-reads.Pre cassette-reads.Learnt
 cassette-allows κs a p = (_, (_, refl))
 
-pub gather-decides : Decides 1 gather-kinds.ps gather-kinds.r gather-reads.Pre gather-reads.Learnt
+pub gather-decides : Decides gather-kinds.ps gather-kinds.r gather-reads.Pre gather-reads.Learnt
 gather-decides κs a z z′ ws ws′ p e e′ = (e ∙ sym e′, refl)
 
-pub gather-allows : Allows 1 gather-kinds.ps gather-kinds.r gather-reads.Pre gather-reads.Learnt
+pub gather-allows : Allows gather-kinds.ps gather-kinds.r gather-reads.Pre gather-reads.Learnt
 gather-allows κs a p = (_, (_, refl))
 
-pub header-decides : Decides 1 header-kinds.ps header-kinds.r header-reads.Pre header-reads.Learnt
+pub header-decides : Decides header-kinds.ps header-kinds.r header-reads.Pre header-reads.Learnt
 header-decides κs a z z′ ws ws′ p e e′ = (e ∙ sym e′, refl)
 
-pub header-allows : Allows 1 header-kinds.ps header-kinds.r header-reads.Pre header-reads.Learnt
+pub header-allows : Allows header-kinds.ps header-kinds.r header-reads.Pre header-reads.Learnt
 header-allows κs a p = (_, (_, refl))
 
-pub run-decides : Decides 1 run-kinds.ps run-kinds.r run-reads.Pre run-reads.Learnt
+pub run-decides : Decides run-kinds.ps run-kinds.r run-reads.Pre run-reads.Learnt
 run-decides κs a z z′ ws ws′ p e e′ = (e ∙ sym e′, refl)
 
-pub run-allows : Allows 1 run-kinds.ps run-kinds.r run-reads.Pre run-reads.Learnt
+pub run-allows : Allows run-kinds.ps run-kinds.r run-reads.Pre run-reads.Learnt
 run-allows κs a p = (_, (_, refl))
 
-pub reply-decides : Decides 1 reply-kinds.ps reply-kinds.r reply-reads.Pre reply-reads.Learnt
+pub reply-decides : Decides reply-kinds.ps reply-kinds.r reply-reads.Pre reply-reads.Learnt
 reply-decides κs a z z′ ws ws′ p e e′ = (e ∙ sym e′, refl)
 
-pub reply-allows : Allows 1 reply-kinds.ps reply-kinds.r reply-reads.Pre reply-reads.Learnt
+pub reply-allows : Allows reply-kinds.ps reply-kinds.r reply-reads.Pre reply-reads.Learnt
 reply-allows κs a p = (_, (_, refl))

@@ -17,32 +17,32 @@ use Rattle.recorder.proofs.write.Reads as write-reads
 use Rattle.recorder.proofs.fits.Kinds as fits-kinds
 use Rattle.recorder.proofs.fits.Reads as fits-reads
 
-pub open-decides : Decides 2 open-kinds.ps open-kinds.r open-reads.Pre open-reads.Learnt
+pub open-decides : Decides open-kinds.ps open-kinds.r open-reads.Pre open-reads.Learnt
 open-decides κs a z z′ ws ws′ p e e′ = let q = e ∙ sym e′ in (ap (λ (w : Answer Done TapeLent). w .says) q, ap (λ (w : Answer Done TapeLent). (w .leaves .numbers, (tt, (tt, tt)))) q)
 
-pub open-allows : Allows 2 open-kinds.ps open-kinds.r open-reads.Pre open-reads.Learnt
+pub open-allows : Allows open-kinds.ps open-kinds.r open-reads.Pre open-reads.Learnt
 open-allows κs a p = (_, (_, refl))
 
-pub close-decides : Decides 2 close-kinds.ps close-kinds.r close-reads.Pre close-reads.Learnt
+pub close-decides : Decides close-kinds.ps close-kinds.r close-reads.Pre close-reads.Learnt
 close-decides κs a z z′ ws ws′ p e e′ = (refl, ap (λ (w : TapeLent). (w .numbers, (w .tape, tt))) (e ∙ sym e′))
 
-pub close-allows : Allows 2 close-kinds.ps close-kinds.r close-reads.Pre close-reads.Learnt
+pub close-allows : Allows close-kinds.ps close-kinds.r close-reads.Pre close-reads.Learnt
 close-allows κs a p = (_, (_, refl))
 
-pub read-decides : Decides 2 read-kinds.ps read-kinds.r read-reads.Pre read-reads.Learnt
+pub read-decides : Decides read-kinds.ps read-kinds.r read-reads.Pre read-reads.Learnt
 read-decides κs a z z′ ws ws′ p e e′ = let q = e ∙ sym e′ in (ap (λ (w : Answer Got TapeLent). w .says) q, ap (λ (w : Answer Got TapeLent). (w .leaves .numbers, (tt, tt))) q)
 
-pub read-allows : Allows 2 read-kinds.ps read-kinds.r read-reads.Pre read-reads.Learnt
+pub read-allows : Allows read-kinds.ps read-kinds.r read-reads.Pre read-reads.Learnt
 read-allows κs a p = (_, (_, refl))
 
-pub write-decides : Decides 2 write-kinds.ps write-kinds.r write-reads.Pre write-reads.Learnt
+pub write-decides : Decides write-kinds.ps write-kinds.r write-reads.Pre write-reads.Learnt
 write-decides κs a z z′ ws ws′ p e e′ = let q = e ∙ sym e′ in (ap (λ (w : Answer Done TapeLent). w .says) q, ap (λ (w : Answer Done TapeLent). (w .leaves .numbers, (w .leaves .tape, (tt, tt)))) q)
 
-pub write-allows : Allows 2 write-kinds.ps write-kinds.r write-reads.Pre write-reads.Learnt
+pub write-allows : Allows write-kinds.ps write-kinds.r write-reads.Pre write-reads.Learnt
 write-allows κs a p = (_, (_, refl))
 
-pub fits-decides : Decides 0 fits-kinds.ps fits-kinds.r fits-reads.Pre fits-reads.Learnt
+pub fits-decides : Decides fits-kinds.ps fits-kinds.r fits-reads.Pre fits-reads.Learnt
 fits-decides κs a z z′ ws ws′ p e e′ = (e ∙ sym e′, refl)
 
-pub fits-allows : Allows 0 fits-kinds.ps fits-kinds.r fits-reads.Pre fits-reads.Learnt
+pub fits-allows : Allows fits-kinds.ps fits-kinds.r fits-reads.Pre fits-reads.Learnt
 fits-allows κs a p = (_, (_, refl))

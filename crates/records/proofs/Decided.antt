@@ -9,14 +9,14 @@ use Rattle.records.proofs.found.Reads as found-reads
 use Rattle.records.proofs.lay.Kinds as lay-kinds
 use Rattle.records.proofs.lay.Reads as lay-reads
 
-pub found-decides : Decides 1 found-kinds.ps found-kinds.r found-reads.Pre found-reads.Learnt
+pub found-decides : Decides found-kinds.ps found-kinds.r found-reads.Pre found-reads.Learnt
 found-decides κs a z z′ ws ws′ p e e′ = (e ∙ sym e′, refl)
 
-pub found-allows : Allows 1 found-kinds.ps found-kinds.r found-reads.Pre found-reads.Learnt
+pub found-allows : Allows found-kinds.ps found-kinds.r found-reads.Pre found-reads.Learnt
 found-allows κs a p = (_, (_, refl))
 
-pub lay-decides : Decides 2 lay-kinds.ps lay-kinds.r lay-reads.Pre lay-reads.Learnt
+pub lay-decides : Decides lay-kinds.ps lay-kinds.r lay-reads.Pre lay-reads.Learnt
 lay-decides κs a z z′ ws ws′ p e e′ = (refl, ap (λ (l : List ℕ). (l, (tt, (tt, (tt, (tt, tt)))))) (e ∙ sym e′))
 
-pub lay-allows : Allows 2 lay-kinds.ps lay-kinds.r lay-reads.Pre lay-reads.Learnt
+pub lay-allows : Allows lay-kinds.ps lay-kinds.r lay-reads.Pre lay-reads.Learnt
 lay-allows κs a p = (_, (_, refl))

@@ -11,15 +11,15 @@ use Rattle.running.proofs.land_at.Reads as land-at-reads
 use Rattle.running.proofs.advance_at.Kinds as advance-at-kinds
 use Rattle.running.proofs.advance_at.Reads as advance-at-reads
 
-pub land-at-decides : Decides 1 land-at-kinds.ps land-at-kinds.r land-at-reads.Pre land-at-reads.Learnt
+pub land-at-decides : Decides land-at-kinds.ps land-at-kinds.r land-at-reads.Pre land-at-reads.Learnt
 land-at-decides κs a z z′ ws ws′ p e e′ = (refl, ap (λ (s : List ℕ). (tt, (tt, (s, tt)))) (e ∙ sym e′))
 
-pub land-at-allows : Allows 1 land-at-kinds.ps land-at-kinds.r land-at-reads.Pre land-at-reads.Learnt
+pub land-at-allows : Allows land-at-kinds.ps land-at-kinds.r land-at-reads.Pre land-at-reads.Learnt
 land-at-allows κs a p = (_, (_, refl))
 
-pub advance-at-decides : Decides 5 advance-at-kinds.ps advance-at-kinds.r advance-at-reads.Pre advance-at-reads.Learnt
+pub advance-at-decides : Decides advance-at-kinds.ps advance-at-kinds.r advance-at-reads.Pre advance-at-reads.Learnt
 advance-at-decides κs a z z′ ws ws′ p e e′ = (refl, ap (λ (w : Buffers). (tt, (tt, (w .state, (w .area, (w .screen, (w .paper, (w .tape, tt)))))))) (e ∙ sym e′))
 
-pub advance-at-allows : Allows 5 advance-at-kinds.ps advance-at-kinds.r advance-at-reads.Pre advance-at-reads.Learnt
+pub advance-at-allows : Allows advance-at-kinds.ps advance-at-kinds.r advance-at-reads.Pre advance-at-reads.Learnt
 unfolding advanceOn
 advance-at-allows κs a p = (_, (_, refl))

@@ -15,26 +15,26 @@ use Rattle.transfer.proofs.after_put.Reads as after-put-reads
 use Rattle.transfer.proofs.land.Kinds as land-kinds
 use Rattle.transfer.proofs.land.Reads as land-reads
 
-pub after-get-decides : Decides 1 after-get-kinds.ps after-get-kinds.r after-get-reads.Pre after-get-reads.Learnt
+pub after-get-decides : Decides after-get-kinds.ps after-get-kinds.r after-get-reads.Pre after-get-reads.Learnt
 after-get-decides κs a z z′ ws ws′ p e e′ = let q = e ∙ sym e′ in (carried-decides (a .1 .0) z z′ (ap (λ (w : Progress). w .next) q), ap (λ (w : Progress). (tt, (tt, (tt, (w .area, tt))))) q)
 
-pub after-get-allows : Allows 1 after-get-kinds.ps after-get-kinds.r after-get-reads.Pre after-get-reads.Learnt
+pub after-get-allows : Allows after-get-kinds.ps after-get-kinds.r after-get-reads.Pre after-get-reads.Learnt
 after-get-allows κs a p = (carriedIn _, (_, got-allowed (a .1 .0) _ _ _))
 
-pub byte-to-send-decides : Decides 1 byte-to-send-kinds.ps byte-to-send-kinds.r byte-to-send-reads.Pre byte-to-send-reads.Learnt
+pub byte-to-send-decides : Decides byte-to-send-kinds.ps byte-to-send-kinds.r byte-to-send-reads.Pre byte-to-send-reads.Learnt
 byte-to-send-decides κs a z z′ ws ws′ p e e′ = (e ∙ sym e′, refl)
 
-pub byte-to-send-allows : Allows 1 byte-to-send-kinds.ps byte-to-send-kinds.r byte-to-send-reads.Pre byte-to-send-reads.Learnt
+pub byte-to-send-allows : Allows byte-to-send-kinds.ps byte-to-send-kinds.r byte-to-send-reads.Pre byte-to-send-reads.Learnt
 byte-to-send-allows κs a p = (_, (_, refl))
 
-pub after-put-decides : Decides 0 after-put-kinds.ps after-put-kinds.r after-put-reads.Pre after-put-reads.Learnt
+pub after-put-decides : Decides after-put-kinds.ps after-put-kinds.r after-put-reads.Pre after-put-reads.Learnt
 after-put-decides κs a z z′ ws ws′ p e e′ = (carried-decides (a .1 .0) z z′ (e ∙ sym e′), refl)
 
-pub after-put-allows : Allows 0 after-put-kinds.ps after-put-kinds.r after-put-reads.Pre after-put-reads.Learnt
+pub after-put-allows : Allows after-put-kinds.ps after-put-kinds.r after-put-reads.Pre after-put-reads.Learnt
 after-put-allows κs a p = (carriedIn _, (_, sent-same (a .1 .0) _ _ _))
 
-pub land-decides : Decides 1 land-kinds.ps land-kinds.r land-reads.Pre land-reads.Learnt
+pub land-decides : Decides land-kinds.ps land-kinds.r land-reads.Pre land-reads.Learnt
 land-decides κs a z z′ ws ws′ p e e′ = let q = e ∙ sym e′ in (ap (λ (w : InPort). w .phase) q, ap (λ (w : InPort). (tt, (w .room, tt))) q)
 
-pub land-allows : Allows 1 land-kinds.ps land-kinds.r land-reads.Pre land-reads.Learnt
+pub land-allows : Allows land-kinds.ps land-kinds.r land-reads.Pre land-reads.Learnt
 land-allows κs a p = (_, (_, refl))

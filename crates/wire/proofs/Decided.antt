@@ -26,16 +26,16 @@ use Rattle.wire.proofs.gather_fits.Reads as gather-fits-reads
 use Rattle.wire.proofs.reply_fits.Kinds as reply-fits-kinds
 use Rattle.wire.proofs.reply_fits.Reads as reply-fits-reads
 
-pub field-is-good-decides : Decides 0 field-is-good-kinds.ps field-is-good-kinds.r field-is-good-reads.Pre field-is-good-reads.Learnt
+pub field-is-good-decides : Decides field-is-good-kinds.ps field-is-good-kinds.r field-is-good-reads.Pre field-is-good-reads.Learnt
 field-is-good-decides κs a z z′ ws ws′ p e e′ = (e ∙ sym e′, refl)
 
-pub field-is-good-allows : Allows 0 field-is-good-kinds.ps field-is-good-kinds.r field-is-good-reads.Pre field-is-good-reads.Learnt
+pub field-is-good-allows : Allows field-is-good-kinds.ps field-is-good-kinds.r field-is-good-reads.Pre field-is-good-reads.Learnt
 field-is-good-allows κs a p = (_, (_, refl))
 
-pub goes-on-decides : Decides 0 goes-on-kinds.ps goes-on-kinds.r goes-on-reads.Pre goes-on-reads.Learnt
+pub goes-on-decides : Decides goes-on-kinds.ps goes-on-kinds.r goes-on-reads.Pre goes-on-reads.Learnt
 goes-on-decides κs a z z′ ws ws′ p e e′ = (e ∙ sym e′, refl)
 
-pub goes-on-allows : Allows 0 goes-on-kinds.ps goes-on-kinds.r goes-on-reads.Pre goes-on-reads.Learnt
+pub goes-on-allows : Allows goes-on-kinds.ps goes-on-kinds.r goes-on-reads.Pre goes-on-reads.Learnt
 goes-on-allows κs a p = (_, (_, refl))
 
 -- what a gathering phase gathers
@@ -45,39 +45,39 @@ gathering (Ready header) = gatherOf 0 0 0
 gathering (Running run) = gatherOf 0 0 0
 gathering (Replying reply) = gatherOf 0 0 0
 
-pub value-decides : Decides 1 value-kinds.ps value-kinds.r value-reads.Pre value-reads.Learnt
+pub value-decides : Decides value-kinds.ps value-kinds.r value-reads.Pre value-reads.Learnt
 value-decides κs a z z′ ws ws′ p e e′ =
     (ap (λ (o : Gathered). gathering (o .phase)) (e ∙ sym e′), ap (λ (o : Gathered). (tt, (o .room, (tt, tt)))) (e ∙ sym e′))
 
-pub value-allows : Allows 1 value-kinds.ps value-kinds.r value-reads.Pre value-reads.Learnt
+pub value-allows : Allows value-kinds.ps value-kinds.r value-reads.Pre value-reads.Learnt
 value-allows κs a p = (_, (_, value-is _ p _ _ _ refl))
 
-pub take-decides : Decides 1 take-kinds.ps take-kinds.r take-reads.Pre take-reads.Learnt
+pub take-decides : Decides take-kinds.ps take-kinds.r take-reads.Pre take-reads.Learnt
 take-decides κs a z z′ ws ws′ p e e′ = (ap (λ (o : Gathered). o .phase) (e ∙ sym e′), ap (λ (o : Gathered). (tt, (o .room, (tt, tt)))) (e ∙ sym e′))
 
-pub take-allows : Allows 1 take-kinds.ps take-kinds.r take-reads.Pre take-reads.Learnt
+pub take-allows : Allows take-kinds.ps take-kinds.r take-reads.Pre take-reads.Learnt
 take-allows κs a p = (_, (_, refl))
 
-pub message-of-decides : Decides 1 message-of-kinds.ps message-of-kinds.r message-of-reads.Pre message-of-reads.Learnt
+pub message-of-decides : Decides message-of-kinds.ps message-of-kinds.r message-of-reads.Pre message-of-reads.Learnt
 message-of-decides κs a z z′ ws ws′ p e e′ = (e ∙ sym e′, refl)
 
-pub message-of-allows : Allows 1 message-of-kinds.ps message-of-kinds.r message-of-reads.Pre message-of-reads.Learnt
+pub message-of-allows : Allows message-of-kinds.ps message-of-kinds.r message-of-reads.Pre message-of-reads.Learnt
 message-of-allows κs a p = (_, (_, refl))
 
-pub give-decides : Decides 1 give-kinds.ps give-kinds.r give-reads.Pre give-reads.Learnt
+pub give-decides : Decides give-kinds.ps give-kinds.r give-reads.Pre give-reads.Learnt
 give-decides κs a z z′ ws ws′ p e e′ = (e ∙ sym e′, refl)
 
-pub give-allows : Allows 1 give-kinds.ps give-kinds.r give-reads.Pre give-reads.Learnt
+pub give-allows : Allows give-kinds.ps give-kinds.r give-reads.Pre give-reads.Learnt
 give-allows κs a p = (_, (_, refl))
 
-pub gather-fits-decides : Decides 0 gather-fits-kinds.ps gather-fits-kinds.r gather-fits-reads.Pre gather-fits-reads.Learnt
+pub gather-fits-decides : Decides gather-fits-kinds.ps gather-fits-kinds.r gather-fits-reads.Pre gather-fits-reads.Learnt
 gather-fits-decides κs a z z′ ws ws′ p e e′ = (e ∙ sym e′, refl)
 
-pub gather-fits-allows : Allows 0 gather-fits-kinds.ps gather-fits-kinds.r gather-fits-reads.Pre gather-fits-reads.Learnt
+pub gather-fits-allows : Allows gather-fits-kinds.ps gather-fits-kinds.r gather-fits-reads.Pre gather-fits-reads.Learnt
 gather-fits-allows κs a p = (_, (_, refl))
 
-pub reply-fits-decides : Decides 0 reply-fits-kinds.ps reply-fits-kinds.r reply-fits-reads.Pre reply-fits-reads.Learnt
+pub reply-fits-decides : Decides reply-fits-kinds.ps reply-fits-kinds.r reply-fits-reads.Pre reply-fits-reads.Learnt
 reply-fits-decides κs a z z′ ws ws′ p e e′ = (e ∙ sym e′, refl)
 
-pub reply-fits-allows : Allows 0 reply-fits-kinds.ps reply-fits-kinds.r reply-fits-reads.Pre reply-fits-reads.Learnt
+pub reply-fits-allows : Allows reply-fits-kinds.ps reply-fits-kinds.r reply-fits-reads.Pre reply-fits-reads.Learnt
 reply-fits-allows κs a p = (_, (_, refl))
