@@ -34,8 +34,8 @@ extern "C" {
 
 /* The version of this header, and of the library that it was installed with; as a number it is 10,000 times the first
  * part, plus 100 times the second, plus the third. */
-#define FIXLOMAND_VERSION "2.0.0"
-#define FIXLOMAND_VERSION_NUMBER 20000
+#define FIXLOMAND_VERSION "2.1.0"
+#define FIXLOMAND_VERSION_NUMBER 20100
 
 /* ---- What you lend -------------------------------------------------------------------------------------------------
  *
@@ -234,9 +234,10 @@ enum {
     FIXLOMAND_AUX1_KEEP = 0x20    /* S: the cells are kept, each modulo the colours; else they are cleared */
 };
 
-/* From $80 on a status is a refusal. */
+/* From $80 on a status is a refusal; a read with one below it has moved all that it was asked for, or a whole record. */
 enum {
     FIXLOMAND_STATUS_SUCCESS = 0x01,
+    FIXLOMAND_STATUS_LAST_CHARACTER = 0x03,       /* from C, a success too: the next read would be END_OF_FILE */
     FIXLOMAND_STATUS_ALREADY_OPEN = 0x81,         /* OPEN on an open block, or of C while any block has it open */
     FIXLOMAND_STATUS_UNKNOWN_DEVICE = 0x82,       /* or malformed specification */
     FIXLOMAND_STATUS_NOT_READABLE = 0x83,         /* reading without R */

@@ -154,7 +154,8 @@ static void check_printer(void)
     want(put(FIXLOMAND_PAPER_LEN), FIXLOMAND_STATUS_PAPER_FULL, "PUT of more than the paper");
 }
 
-/* A record that is full with its last character, one that is bad, and the end; then a tape that is full. */
+/* A record that is full with its last character, the last character of all, the end, and a record that is bad; then a
+ * tape that is full. */
 static void check_cassette(void)
 {
     want(opened("C:", R | W, 0), FIXLOMAND_STATUS_BAD_COMMAND, "OPEN of C: with R and W");
@@ -177,6 +178,14 @@ static void check_cassette(void)
     want(tape[264 + 2], 0xFE, "the control byte of the end");
     want(opened("C:", R, 0), FIXLOMAND_STATUS_SUCCESS, "OPEN of C: with R");
     want(state[FIXLOMAND_MARK], FIXLOMAND_TAPE_READING, "the mark after it");
+    want(call(0, FIXLOMAND_COMMAND_GET_CHARACTERS, BUFFER, FIXLOMAND_PENDING_LEN, 0, 0), FIXLOMAND_STATUS_SUCCESS,
+         "GET of all but one");
+    area[BUFFER] = 0;
+    want(call(0, FIXLOMAND_COMMAND_GET_CHARACTERS, BUFFER, 1, 0, 0), FIXLOMAND_STATUS_LAST_CHARACTER, "GET of the last");
+    want(reply[COUNT], 1, "its count");
+    want(area[BUFFER], 'a', "its character");
+    want(call(0, FIXLOMAND_COMMAND_GET_CHARACTERS, BUFFER, 1, 0, 0), FIXLOMAND_STATUS_END_OF_FILE, "GET behind the last");
+    want(opened("C:", R, 0), FIXLOMAND_STATUS_SUCCESS, "OPEN of C: with R");
     want(call(0, FIXLOMAND_COMMAND_GET_CHARACTERS, BUFFER, 256, 0, 0), FIXLOMAND_STATUS_END_OF_FILE, "GET of more");
     want(reply[COUNT], FIXLOMAND_PENDING_LEN + 1, "GET's count");
     want(opened("C:", R, 0), FIXLOMAND_STATUS_SUCCESS, "OPEN of C: with R");

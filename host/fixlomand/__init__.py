@@ -58,8 +58,10 @@ from .wire import (
     EOL,
     FORCED,
     KEEP,
+    LAST_CHARACTER,
     PIECE,
     READ,
+    SUCCESS,
     WRITE,
     CallReply,
     Command,
@@ -70,15 +72,17 @@ from .wire import (
     Tag,
 )
 
-__version__ = "2.0.0"
+__version__ = "2.1.0"
 
 __all__ = [
     "AREA",
     "EOL",
     "FORCED",
     "KEEP",
+    "LAST_CHARACTER",
     "PIECE",
     "READ",
+    "SUCCESS",
     "WRITE",
     "AlreadyOpen",
     "BadCommand",

@@ -18,7 +18,8 @@ from .play import GROUP_HELD, Player
 from .tape import CHARACTERS, END, FULL, PARTIAL, RECORD, RECORDS, checksum
 from .wire import AREA, EOL, FORCED, KEEP, PIECE, READ, WRITE, CallReply, Command, FetchReply, LoadReply
 
-OK = 0x01
+OK = wire.SUCCESS
+LAST_CHARACTER = wire.LAST_CHARACTER
 BLANK = 0x20
 ESCAPE, UP, DOWN, LEFT, RIGHT = 0x1B, 0x1C, 0x1D, 0x1E, 0x1F
 CLEAR, BACKSPACE, BELL = 0x7D, 0x7E, 0xFD
@@ -178,16 +179,27 @@ class Bench:
         """Writes a record."""
         self.put(data, count, command=Command.PUT_RECORD)
 
-    def get(self, length: int, expected: bytes, status: int = OK, *, command: int = Command.GET_CHARACTERS) -> None:
-        """Reads with a buffer of the length: the bytes are to be stored, and none behind them."""
+    def get(
+        self,
+        length: int,
+        expected: bytes,
+        status: int = OK,
+        *,
+        command: int = Command.GET_CHARACTERS,
+        ticks: int | None = None,
+    ) -> None:
+        """Reads with a buffer of the length: the bytes are to be stored, and none behind them; in so many ticks, the
+        start's too, if that is said."""
         behind = b"\xa5"
         self.load(behind * (length + 1))
         self.same(CallReply(status, len(expected), 0), self.call(command, length=length))
+        if ticks is not None:
+            self.same(f"{ticks} ticks", f"{1 + self.ticks} ticks")
         self.same(expected + behind, self.fetch(len(expected) + 1))
 
-    def get_record(self, length: int, expected: bytes, status: int = OK) -> None:
+    def get_record(self, length: int, expected: bytes, status: int = OK, *, ticks: int | None = None) -> None:
         """Reads a record."""
-        self.get(length, expected, status, command=Command.GET_RECORD)
+        self.get(length, expected, status, command=Command.GET_RECORD, ticks=ticks)
 
     def key(self, code: int, expected: int | None) -> None:
         """Presses a key and reads it by A: a character, or none and $88."""
@@ -474,7 +486,7 @@ def _(bench: Bench) -> None:
     bench.paper(b"AA\x9bZZ")
 
 
-@case("01-scope, Statuses", "the reply's A is the character after a successful read of length 0, and only then")
+@case("01-scope, Statuses", "the reply's A is the character after a read of length 0, status below $80, and only then")
 def _(bench: Bench) -> None:
     bench.keyboard()
     for command in (Command.GET_CHARACTERS, Command.GET_RECORD):
@@ -1615,3 +1627,155 @@ def _(bench: Bench) -> None:
         bench.same(CallReply(OK, 0, 0), bench.call(Command.GET_STATUS, aux1=WRITE))
         bench.same(CallReply(0x84, 0, 0), bench.call(0x0E, aux1=WRITE))
         bench.same(before, bench.tape)
+
+
+# 02-change-requests, Ask 7: the last character before the end
+
+WARNING = "02-change-requests, Ask 7"
+BAD_RECORDS = (
+    bytes(RECORD),
+    END_RECORD[:-1] + b"\0",
+    AB_RECORD[:-1] + b"\0",
+    _record(0xFF),
+    _record(PARTIAL, b"A", 0),
+    _record(PARTIAL, b"A", 128),
+)
+"""What reads as $8F: blank; a bad checksum, of an end record too; a bad control byte; a bad count."""
+
+
+def _reading(bench: Bench, *records: bytes) -> None:
+    """A new OPEN of a tape with these records."""
+    bench.fresh()
+    bench.lend_tape(b"".join(records))
+    bench.open(b"C:", READ)
+
+
+@case(WARNING, "AB and an EOL, then the end: GET RECORD n 10 and n 3 are $03, count 3, 4 ticks; then $88")
+def _(bench: Bench) -> None:
+    for length in (10, 3):
+        _reading(bench, AB_RECORD, END_RECORD)
+        bench.get_record(length, b"AB\x9b", LAST_CHARACTER, ticks=4)
+        bench.get_record(length, b"", 0x88, ticks=2)
+
+
+@case(WARNING, "a cut record still ends with $89: GET RECORD n 2 is $89, 2; n 1 is $89, 1; 4 ticks; then $88")
+def _(bench: Bench) -> None:
+    for length, expected in ((2, b"AB"), (1, b"A")):
+        _reading(bench, AB_RECORD, END_RECORD)
+        bench.get_record(length, expected, 0x89, ticks=4)
+        bench.get_record(length, b"", 0x88, ticks=2)
+
+
+@case(WARNING, "GET CHARACTERS n 3 is $03, 3, 4 ticks; n 4 goes on to the end: $88, 3, 5 ticks")
+def _(bench: Bench) -> None:
+    for length, status, ticks in ((3, LAST_CHARACTER, 4), (4, 0x88, 5)):
+        _reading(bench, AB_RECORD, END_RECORD)
+        bench.get(length, b"AB\x9b", status, ticks=ticks)
+        bench.get(length, b"", 0x88, ticks=2)
+
+
+@case(WARNING, "GET CHARACTERS n 2 is $01, 2, and again n 2 is $88, 1, the last character stored: 3 ticks each")
+def _(bench: Bench) -> None:
+    _reading(bench, AB_RECORD, END_RECORD)
+    bench.get(2, b"AB", ticks=3)
+    bench.get(2, b"\x9b", 0x88, ticks=3)
+
+
+@case(WARNING, "length 0: $03 with the character in A, count 0; the next is $88, and A is the request's")
+def _(bench: Bench) -> None:
+    bench.lend_tape(AB_RECORD + END_RECORD)
+    _open_tape(bench, 0, 0, READ)
+    _ask(bench, 0, "10 09 00 00 07 00 00 02 00 00 00 00", "90 04 00 01 02 00 00", 3)
+    _ask(bench, 0, "10 09 00 00 07 00 00 00 00 00 00 5A", "90 04 00 03 00 00 9B", 2)
+    _ask(bench, 0, "10 09 00 00 07 00 00 00 00 00 00 5A", "90 04 00 88 00 00 5A", 2)
+
+
+@case(WARNING, "length 0 has no record rule: $03 without an EOL; n 3 leaves A the request's, with $03 too")
+def _(bench: Bench) -> None:
+    _reading(bench, _record(PARTIAL, b"A"), END_RECORD)
+    bench.same(CallReply(LAST_CHARACTER, 0, 0x41), bench.call(Command.GET_RECORD, AREA, a=0x5A))
+    for command in (Command.GET_RECORD, Command.GET_CHARACTERS):
+        _reading(bench, AB_RECORD, END_RECORD)
+        bench.same(CallReply(LAST_CHARACTER, 3, 0x5A), bench.call(command, length=3, a=0x5A))
+
+
+@case(WARNING, "the next would give $8F: the character before a bad record, a bad end record too, comes with $01")
+def _(bench: Bench) -> None:
+    for bad in BAD_RECORDS:
+        _reading(bench, AB_RECORD, bad, END_RECORD)
+        bench.get(3, b"AB\x9b", ticks=4)
+        bench.get(1, b"", 0x8F, ticks=2)
+        _reading(bench, AB_RECORD, bad, END_RECORD)
+        bench.get_record(3, b"AB\x9b", ticks=4)
+        _reading(bench, _record(PARTIAL, b"A"), bad, END_RECORD)
+        bench.same(CallReply(OK, 0, 0x41), bench.call(Command.GET_CHARACTERS, a=0x5A))
+        bench.same(CallReply(0x8F, 0, 0x5A), bench.call(Command.GET_CHARACTERS, a=0x5A))
+
+
+@case(WARNING, "no EOL before the end: GET RECORD goes on to $88, whether all is stored (n 2, n 10) or not (n 1)")
+def _(bench: Bench) -> None:
+    for length, expected in ((2, b"AB"), (10, b"AB"), (1, b"A")):
+        _reading(bench, _record(PARTIAL, b"AB"), END_RECORD)
+        bench.get_record(length, expected, 0x88, ticks=4)
+    _reading(bench, _record(PARTIAL, b"AB"), END_RECORD)
+    bench.get(2, b"AB", LAST_CHARACTER, ticks=3)
+
+
+@case(WARNING, "a tape that runs out: of 250 full records the 32,000th character has $03, the 31,999th has not")
+def _(bench: Bench) -> None:
+    _reading(bench, *RECORDS * [_record(FULL, b"A" * CHARACTERS)])
+    for length in (16_000, 15_998):
+        bench.same(CallReply(OK, length, 0), bench.call(Command.GET_CHARACTERS, length=length))
+    for status in (OK, LAST_CHARACTER):
+        bench.same(CallReply(status, 0, 0x41), bench.call(Command.GET_CHARACTERS))
+    bench.same(CallReply(0x88, 0, 0x5A), bench.call(Command.GET_CHARACTERS, a=0x5A))
+    bench.same(bytes([1, 250, 0, 0]), bench.tape[HEAD : HEAD + 4])
+
+
+@case(WARNING, "a record's last character has $03 before the end alone: not before a full record or a partial one")
+def _(bench: Bench) -> None:
+    full, least, most = _record(FULL, b"F" * 128), _record(PARTIAL, b"L"), _record(PARTIAL, b"M" * 127)
+    last = _record(END, b"not zero")
+    for records, reads in (
+        ((full, least, full, END_RECORD), ((128, b"F", OK), (1, b"L", OK), (128, b"F", LAST_CHARACTER))),
+        ((most, full, least, last, full), ((127, b"M", OK), (128, b"F", OK), (1, b"L", LAST_CHARACTER))),
+        ((least, least, most, END_RECORD), ((1, b"L", OK), (1, b"L", OK), (127, b"M", LAST_CHARACTER))),
+    ):
+        _reading(bench, *records)
+        for length, character, status in reads:
+            bench.get(length, length * character, status, ticks=1 + length)
+        bench.get(1, b"", 0x88)
+
+
+@case(WARNING, "judged on the tape as it lies: an end that has gone is not remembered, one that comes is seen")
+def _(bench: Bench) -> None:
+    _reading(bench, AB_RECORD, END_RECORD)
+    bench.get(3, b"AB\x9b", LAST_CHARACTER)
+    bench.same(bytes([1, 1, 0, 0]) + bytes(128), bench.tape[HEAD:])
+    bench.lend_tape(AB_RECORD + AB_RECORD)
+    bench.get(2, b"AB")
+    bench.same(bytes([1, 1, 0, 2]) + bytes(128), bench.tape[HEAD:])
+    bench.lend_tape(AB_RECORD + AB_RECORD + END_RECORD)
+    bench.get(1, b"\x9b", LAST_CHARACTER)
+
+
+@case(WARNING, "only a read gives it: GET STATUS is $01 before and behind the end; an empty file's first read is $88")
+def _(bench: Bench) -> None:
+    _reading(bench, END_RECORD)
+    bench.same(CallReply(OK, 0, 0), bench.call(Command.GET_STATUS))
+    bench.get(1, b"", 0x88)
+    _reading(bench, AB_RECORD, END_RECORD)
+    bench.get(3, b"AB\x9b", LAST_CHARACTER)
+    bench.same(CallReply(OK, 0, 0), bench.call(Command.GET_STATUS))
+    bench.same(CallReply(OK, 0, 0), bench.call(Command.CLOSE))
+
+
+@case(WARNING, "other devices never give it: K's only key is $01 and the next read $88, S's last cell $01 and then $8D")
+def _(bench: Bench) -> None:
+    bench.keyboard()
+    bench.press(0x3F)
+    bench.get(1, b"A")
+    bench.get(1, b"", 0x88)
+    bench.open(b"S:", READ, 3, iocb=1)
+    for status, count in ((OK, 960), (0x8D, 0)):
+        bench.same(CallReply(status, count, 0), bench.call(Command.GET_CHARACTERS, length=960, iocb=1))

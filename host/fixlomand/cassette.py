@@ -7,7 +7,7 @@ from collections.abc import Callable, Sequence
 
 from . import cas, deck, files, script, tape, toolchain
 from .cio import EOL, READ, WRITE, Stick
-from .errors import Checksum, EndOfFile, PaperFull, StickError
+from .errors import Checksum, PaperFull, StickError
 from .play import Player, PlayPort
 from .tape import RECORDS, Record, counted
 from .words import Usage, flag, operands, option
@@ -135,10 +135,7 @@ def _characters(player: Player) -> tuple[bytes, script.Tape | None]:
     is then."""
     with Stick(PlayPort(player, 0)).open("C:", READ) as file:
         try:
-            # One more than there can be: a status always ends it.
-            return file.get_characters(RECORDS * tape.CHARACTERS + 1), None
-        except EndOfFile as end:
-            return end.data, None
+            return file.get_rest(), None
         except Checksum as bad:
             return bad.data, player.tape()
 

@@ -13,12 +13,27 @@ the stream's own) raise ``StreamEnded``.
 from __future__ import annotations
 
 import os
+from collections.abc import Iterator
 from types import TracebackType
 
 from . import wire
-from .errors import BadReply, StatusError, StickError, StreamEnded, check
+from .errors import BadReply, EndOfFile, StatusError, StickError, StreamEnded, check
 from .line import ByteStream, Limit, Line
-from .wire import AREA, EOL, FORCED, KEEP, PIECE, READ, WRITE, CallReply, Command, FetchReply, LoadReply, Refusal
+from .wire import (
+    AREA,
+    EOL,
+    FORCED,
+    KEEP,
+    LAST_CHARACTER,
+    PIECE,
+    READ,
+    WRITE,
+    CallReply,
+    Command,
+    FetchReply,
+    LoadReply,
+    Refusal,
+)
 
 __all__ = ["EOL", "FORCED", "KEEP", "READ", "WRITE", "ByteStream", "File", "Stick"]
 
@@ -156,7 +171,8 @@ class Stick:
     def call(
         self, iocb: int, command: int, address: int = 0, length: int = 0, aux1: int = 0, aux2: int = 0, a: int = 0
     ) -> CallReply:
-        """A CALL; a status from $80 raises its exception."""
+        """A CALL; a status from $80 raises its exception, one below it is the
+        reply's."""
         reply = self.request(wire.call(iocb, command, address, length, aux1, aux2, a))
         assert isinstance(reply, CallReply)
         check(reply.status, reply.count, reply.a)
@@ -220,11 +236,18 @@ class Stick:
 
 
 class File:
-    """An open control block. It closes itself at the end of a ``with``."""
+    """An open control block. It closes itself at the end of a ``with``.
+
+    A ``for`` over it reads its characters to the end of file, one by one.
+    """
 
     def __init__(self, stick: Stick, iocb: int) -> None:
         self._stick = stick
         self.iocb = iocb
+        self.at_end = False
+        """Whether the last read came with $03: it gave the last character,
+        and one more would raise ``EndOfFile``. A device that does not warn
+        never sets it."""
 
     def put_characters(self, data: bytes) -> int:
         """Writes all bytes; how many."""
@@ -254,7 +277,8 @@ class File:
         self._stick.call(self.iocb, Command.PUT_CHARACTERS, a=byte)
 
     def get_characters(self, count: int) -> bytes:
-        """Reads so many bytes. What a refusal left is its ``data``."""
+        """Reads so many bytes; fewer are a refusal, ``EndOfFile`` too, and
+        then its ``data``."""
         data = b""
         while len(data) < count:
             data += self._get(Command.GET_CHARACTERS, min(BUFFER_LENGTH, count - len(data)), data)
@@ -269,7 +293,42 @@ class File:
 
     def get_character(self) -> int:
         """Reads one byte by A, past the area."""
-        return self._stick.call(self.iocb, Command.GET_CHARACTERS).a
+        return self._read(Command.GET_CHARACTERS).a
+
+    def get_rest(self) -> bytes:
+        """Reads to the end of file; E has none. What another refusal left is
+        its ``data``."""
+        data = b""
+        while not self.at_end:
+            try:
+                data += self._get(Command.GET_CHARACTERS, BUFFER_LENGTH, data)
+            except EndOfFile as end:
+                return end.data
+        return data
+
+    def records(self, limit: int = 256) -> Iterator[bytes]:
+        """The records to the end of file, each read when it is asked for; the
+        last one may lack its EOL. One of more than ``limit`` bytes raises
+        ``RecordCut``, and ``EndOfFile`` if it is the last and lacks its EOL:
+        of one that fills the limit nobody knows whether it was longer."""
+        while not self.at_end:
+            try:
+                record = self.get_record(limit)
+            except EndOfFile as end:
+                if end.count == limit:
+                    raise
+                if end.data:
+                    yield end.data
+                return
+            yield record
+
+    def __iter__(self) -> Iterator[int]:
+        while not self.at_end:
+            try:
+                character = self.get_character()
+            except EndOfFile:
+                return
+            yield character
 
     def status(self) -> int:
         """GET STATUS: $01, or raised."""
@@ -304,9 +363,16 @@ class File:
             error.count += before
             raise
 
+    def _read(self, command: Command, address: int = 0, length: int = 0) -> CallReply:
+        # Whatever comes of it, what the read before it said is over.
+        self.at_end = False
+        reply = self._stick.call(self.iocb, command, address, length)
+        self.at_end = reply.status == LAST_CHARACTER
+        return reply
+
     def _get(self, command: Command, count: int, before: bytes) -> bytes:
         try:
-            stored = self._stick.call(self.iocb, command, BUFFER, count).count
+            stored = self._read(command, BUFFER, count).count
         except StatusError as error:
             error.data = before + self._stick.fetch(BUFFER, error.count)
             error.count = len(error.data)

@@ -22,6 +22,8 @@ RIGHTS = ((wire.READ, "R"), (wire.WRITE, "W"), (wire.FORCED, "forced"), (wire.KE
 OPENING = (wire.Command.OPEN, wire.Command.GET_STATUS)
 GETTING = (wire.Command.GET_RECORD, wire.Command.GET_CHARACTERS)
 TRANSFERS = (*GETTING, wire.Command.PUT_RECORD, wire.Command.PUT_CHARACTERS)
+BELOW_80 = {wire.SUCCESS: "success", wire.LAST_CHARACTER: "last character"}
+"""The statuses that are no refusal."""
 
 
 class Log:
@@ -180,15 +182,15 @@ def reply_words(message: bytes, reply: bytes) -> str:
     if reply[0] == wire.REPLY + wire.Tag.CALL and message[4] in TRANSFERS:
         if _word(message, 7):
             return f"{words}, count {_word(value, 1)}"
-        if message[4] in GETTING and value[0] == 1:
+        if message[4] in GETTING and value[0] < 0x80:
             return f"{words}, A {data_words(value[3:])}"
     return words
 
 
 def status_words(status: int) -> str:
     """A status by its number and its name."""
-    if status == 1:
-        return "$01 success"
+    if status in BELOW_80:
+        return f"${status:02X} {BELOW_80[status]}"
     error = errors.BY_STATUS.get(status, errors.StatusError)
     return f"${status:02X} {error.__name__}, {error.meaning}"
 

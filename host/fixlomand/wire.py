@@ -53,6 +53,12 @@ FORCED = 0x01
 KEEP = 0x20
 """AUX1 of S: the cells are kept, each modulo the colours."""
 
+SUCCESS = 0x01
+"""The status of success."""
+LAST_CHARACTER = 0x03
+"""The status of a read from C whose last character is the last of all: the
+next read would give $88. It is below $80, and refuses nothing."""
+
 
 def word(number: int) -> bytes:
     """A two-byte number, low byte first."""
@@ -170,7 +176,7 @@ def reply_of(tag: int, value: bytes) -> Reply:
         return CallReply(value[0], int.from_bytes(value[1:3], "little"), value[3])
     if tag == REPLY + Tag.LOAD and len(value) == 1:
         return LoadReply(value[0])
-    if tag == REPLY + Tag.FETCH and (len(value) == 1 or 2 <= len(value) <= 1 + PIECE and value[0] == 1):
+    if tag == REPLY + Tag.FETCH and (len(value) == 1 or 2 <= len(value) <= 1 + PIECE and value[0] == SUCCESS):
         return FetchReply(value[0], value[1:])
     if tag == REFUSED and len(value) == 1:
         return Refusal(value[0])
@@ -186,7 +192,7 @@ def answers(message: bytes, reply: Reply) -> bool:
         return isinstance(reply, LoadReply)
     if tag == Tag.FETCH and length == 4:
         count = int.from_bytes(message[5:7], "little")
-        return isinstance(reply, FetchReply) and len(reply.data) == (count if reply.status == 1 else 0)
+        return isinstance(reply, FetchReply) and len(reply.data) == (count if reply.status == SUCCESS else 0)
     return reply == Refusal(0x84 if tag in list(Tag) else 0x92)
 
 

@@ -1,7 +1,8 @@
 """A stand-in for one port of a stick: as much as the tests need.
 
-Its printer takes 276 bytes, its editor gives back what is put, and its
-keyboard has one key pressed, an A.
+Its printer takes 276 bytes, its editor gives back what is put, its keyboard
+has one key pressed, an A, and its tape gives what a test has put on it, the
+last of it with $03.
 """
 
 from __future__ import annotations
@@ -21,6 +22,7 @@ class StandIn:
         self.paper = bytearray()
         self.text = bytearray()
         self.keys = bytearray(b"A")
+        self.tape = bytearray()
         self.requests: list[bytes] = []
         self._taken = bytearray()
         self._replies = bytearray()
@@ -70,7 +72,7 @@ class StandIn:
             if iocb in self.blocks:
                 return 0x81, 0, a
             device = chr(self.area[address])
-            if device not in "EKP" or b":" not in self.area[address + 1 : address + 3]:
+            if device not in "EKPC" or b":" not in self.area[address + 1 : address + 3]:
                 return 0x82, 0, a
             if command == 0x03:
                 self.blocks[iocb] = (device, aux1)
@@ -101,9 +103,12 @@ class StandIn:
         device, aux1 = self.blocks[iocb]
         if not aux1 & 4:
             return 0x83, 0, a
-        source = self.keys if device == "K" else self.text
+        source = {"K": self.keys, "C": self.tape}.get(device, self.text)
         if n == 0:
-            return (1, 0, source.pop(0)) if source else (0x88, 0, a)
+            if not source:
+                return 0x88, 0, a
+            a = source.pop(0)
+            return self._good(device), 0, a
         count = 0
         while count < n:
             if not source:
@@ -111,9 +116,14 @@ class StandIn:
             self.area[address + count] = source.pop(0)
             count += 1
             if command == 0x05 and self.area[address + count - 1] == EOL:
-                return 1, count, a
+                return self._good(device), count, a
         if command == 0x07:
-            return 1, count, a
-        while source and source.pop(0) != EOL:
-            pass
-        return 0x89, count, a
+            return self._good(device), count, a
+        while source:
+            if source.pop(0) == EOL:
+                return 0x89, count, a
+        return 0x88, count, a
+
+    def _good(self, device: str) -> int:
+        """The status of a read that did what it was asked."""
+        return 3 if device == "C" and not self.tape else 1

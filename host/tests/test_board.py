@@ -201,7 +201,8 @@ class Board(unittest.TestCase):
         self.tell("damage")
         self.wait_for(lambda: RESTARTED in self.says(), "the fresh start")
         tape = self.phone.open("C:", READ)
-        self.assertEqual([tape.get_record(40) for _ in range(20)], [b"item %d\x9b" % number for number in range(20)])
+        self.assertEqual(list(tape.records(40)), [b"item %d\x9b" % number for number in range(20)])
+        self.assertTrue(tape.at_end)
         self.assertRaises(errors.EndOfFile, tape.get_record, 40)
 
     def test_what_is_no_key(self) -> None:

@@ -119,6 +119,129 @@ class Files(unittest.TestCase):
         self.assertRaises(ValueError, editor.get_record, cio.BUFFER_LENGTH + 1)
 
 
+class Ends(unittest.TestCase):
+    """Reading to the end, and how often the stick is asked for it."""
+
+    def setUp(self) -> None:
+        self.stand_in = StandIn()
+        self.stick = Stick(self.stand_in)
+
+    def open(self, data: bytes) -> cio.File:
+        """The tape with this on it."""
+        self.stand_in.tape[:] = data
+        self.stick.close_all()
+        file = self.stick.open("C:", READ)
+        self.stand_in.requests.clear()
+        return file
+
+    @property
+    def gets(self) -> int:
+        """How many GETs were sent since then."""
+        gets = (wire.Command.GET_RECORD, wire.Command.GET_CHARACTERS)
+        return sum(request[0] == wire.Tag.CALL and request[4] in gets for request in self.stand_in.requests)
+
+    def test_the_last_character_is_told(self) -> None:
+        """$03 raises nothing, and is told until another read."""
+        for read, got in (
+            (cio.File.get_character, 0x43),
+            (lambda file: file.get_characters(1), b"C"),
+            (lambda file: file.get_characters(0) + file.get_characters(1), b"C"),
+        ):
+            file = self.open(b"ABC")
+            self.assertEqual((file.at_end, file.get_characters(2), file.at_end), (False, b"AB", False))
+            self.assertEqual((read(file), file.at_end), (got, True))
+            self.assertEqual((file.get_characters(0), file.status(), file.at_end), (b"", 1, True))
+            self.assertRaises(errors.EndOfFile, file.get_character)
+            self.assertFalse(file.at_end)
+        file = self.open(b"A\x9bB\x9b")
+        self.assertEqual((file.get_record(), file.at_end), (b"A\x9b", False))
+        self.assertEqual((file.get_record(2), file.at_end), (b"B\x9b", True))
+
+    def test_a_status_by_its_name(self) -> None:
+        file = self.open(b"AB")
+        for status, byte in ((wire.SUCCESS, 0x41), (wire.LAST_CHARACTER, 0x42)):
+            self.assertEqual(self.stick.call(file.iocb, wire.Command.GET_CHARACTERS), wire.CallReply(status, 0, byte))
+
+    def test_refusals_do_not_tell_it(self) -> None:
+        file = self.open(b"ABC\x9b")
+        with self.assertRaises(errors.RecordCut) as cut:
+            file.get_record(2)
+        self.assertEqual((cut.exception.data, file.at_end, file.get_rest()), (b"AB", False, b""))
+        file = self.open(b"AB")
+        with self.assertRaises(errors.EndOfFile) as end:
+            file.get_characters(3)
+        self.assertEqual((end.exception.data, file.at_end), (b"AB", False))
+
+    def test_a_fault_does_not_leave_it(self) -> None:
+        """A reply that is lost says nothing."""
+        stand_in = Faulty(KeyboardInterrupt())
+        stand_in.tape += b"A"
+        file = Stick(stand_in).open("C:", READ)
+        self.assertEqual((file.get_character(), file.at_end), (0x41, True))
+        stand_in.faulty = True
+        self.assertRaises(KeyboardInterrupt, file.get_character)
+        self.assertFalse(file.at_end)
+
+    def test_characters(self) -> None:
+        """As many GETs as there are, and none for the end."""
+        file = self.open(b"AB\x9b")
+        self.assertEqual((list(file), self.gets, file.at_end), ([0x41, 0x42, 0x9B], 3, True))
+        self.assertEqual((list(file), self.gets), ([], 3))
+        self.assertEqual((list(self.open(b"")), self.gets), ([], 1))
+
+    def test_characters_that_are_not_asked_for(self) -> None:
+        """A loop that is left has read no further."""
+        file = self.open(b"ABC")
+        for byte in file:
+            if byte == 0x42:
+                break
+        self.assertEqual((self.gets, bytes(file)), (2, b"C"))
+
+    def test_where_nothing_warns(self) -> None:
+        """$88 ends it all the same, and a key pressed then is read."""
+        keyboard = self.stick.open("K:", READ)
+        self.assertEqual((bytes(keyboard), keyboard.at_end, self.gets), (b"A", False, 2))
+        self.stand_in.keys += b"BC"
+        self.assertEqual((keyboard.get_rest(), keyboard.at_end), (b"BC", False))
+
+    def test_the_rest(self) -> None:
+        """In pieces; none is asked for behind one that ends with the last character."""
+        piece = cio.BUFFER_LENGTH
+        for length, gets in ((0, 1), (1, 1), (piece - 1, 1), (piece, 1), (piece + 1, 2), (2 * piece, 2)):
+            data = (bytes(range(251)) * 140)[:length]
+            file = self.open(data)
+            self.assertEqual(file.get_rest(), data)
+            self.assertEqual((length, self.gets), (length, gets))
+            self.assertEqual(file.at_end, length in (piece, 2 * piece))
+        self.assertEqual(self.open(b"ABC").get_characters(3), b"ABC")
+
+    def test_records(self) -> None:
+        for data, records, gets in (
+            (b"A\x9bBC\x9b", [b"A\x9b", b"BC\x9b"], 2),
+            (b"A\x9bBC", [b"A\x9b", b"BC"], 2),
+            (b"\x9b", [b"\x9b"], 1),
+            (b"", [], 1),
+        ):
+            self.assertEqual((list(self.open(data).records()), self.gets), (records, gets))
+        file = self.open(b"A\x9bB\x9b")
+        self.assertEqual((next(file.records(2)), bytes(self.stand_in.tape)), (b"A\x9b", b"B\x9b"))
+        self.assertEqual(list(file.records(2)), [b"B\x9b"])
+
+    def test_records_that_are_cut(self) -> None:
+        """Also a last one that fills the limit and lacks its EOL: more of it may have been dropped."""
+        for data, error in (
+            (b"A\x9bBCD\x9b", errors.RecordCut),
+            (b"A\x9bBCD", errors.EndOfFile),
+            (b"A\x9bBC", errors.EndOfFile),
+        ):
+            records = self.open(data).records(2)
+            self.assertEqual(next(records), b"A\x9b")
+            with self.assertRaises(error) as caught:
+                next(records)
+            self.assertEqual(caught.exception.data, b"BC")
+        self.assertRaises(ValueError, next, self.open(b"A").records(0))
+
+
 class Faulty(StandIn):
     """Once, when it is ``faulty`` and so many replies later, it raises an error in the place of a reply, or gives other bytes."""
 

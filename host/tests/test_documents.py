@@ -7,6 +7,7 @@ import shlex
 import unittest
 from pathlib import Path
 
+import fixlomand
 from fixlomand import cases, errors, script, wire
 from fixlomand.cio import WRITE, File, Stick
 from fixlomand.play import Player, PlayPort
@@ -37,7 +38,7 @@ class Hosts(unittest.TestCase):
 
     @unittest.skipUnless(PLAY, NO_PLAY)
     def test_the_examples(self) -> None:
-        for document, length in ((HOSTS, 19), (README, 4)):
+        for document, length in ((HOSTS, 20), (README, 4)):
             text = document.read_text(encoding="utf-8")
             rows = re.findall(r"^\| `([0-9A-F ]+)` \| `([0-9A-F ]+)` \|", text, re.MULTILINE)
             self.assertEqual(len(rows), length)
@@ -157,6 +158,14 @@ class Hosts(unittest.TestCase):
             {int(number, 16): name for number, name in rows},
             {number: error.__name__ for number, error in errors.BY_STATUS.items()},
         )
+        table = self.text.split("## Statuses")[1].split("##")[0]
+        below = re.findall(r"^\| \$([0-7]\w) \| (\w+)", table, re.MULTILINE)
+        self.assertEqual(below, [(f"{status:02X}", "success") for status in (wire.SUCCESS, wire.LAST_CHARACTER)])
+        for name in ("SUCCESS", "LAST_CHARACTER"):
+            self.assertIn(f"`{name}`", self.text)
+            self.assertIn(name, fixlomand.__all__)
+        self.assertIn("| `File.at_end` | ", self.text)
+        self.assertIn("at_end", vars(File(None, 0)))  # type: ignore[arg-type]
 
 
 class Crates(unittest.TestCase):

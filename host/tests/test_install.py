@@ -99,7 +99,8 @@ class Header(unittest.TestCase):
 
     def test_statuses(self) -> None:
         raised = {re.sub(r"\B([A-Z])", r"_\1", error.__name__).upper(): n for n, error in errors.BY_STATUS.items()}
-        self.assertEqual(self.named("STATUS"), {"SUCCESS": 0x01, **raised})
+        below = {"SUCCESS": wire.SUCCESS, "LAST_CHARACTER": wire.LAST_CHARACTER}
+        self.assertEqual(self.named("STATUS"), {**below, **raised})
 
     def test_messages(self) -> None:
         replies = {f"{tag.name}_REPLY": tag + wire.REPLY for tag in wire.Tag}

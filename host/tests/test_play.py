@@ -12,6 +12,7 @@ from fixlomand.play import Player, PlayPort
 from fixlomand.ports import Port
 
 from .running import last_line, run
+from .tapes import AB, LAST
 
 PLAY = os.environ.get("FIXLOMAND_PLAY", "")
 
@@ -122,6 +123,21 @@ class Logged(unittest.TestCase):
                 "port 1: command $0E replied $82 UnknownDevice, unknown device, or malformed specification",
                 "port 1: 2 bytes of a message that did not come whole",
                 "unplugged",
+            ],
+        )
+
+    def test_the_last_character(self) -> None:
+        """A tape's: its status by name, and the character where it is in A."""
+        self.player.do(script.Write(script.BUFFERS.index("tape"), 0, AB + LAST))
+        self.ask(1, wire.load(0, b"C:"), wire.call(0, 0x03, aux1=0x04), wire.call(0, 0x07, 16, 2), wire.call(0, 0x07))
+        self.ask(1, wire.call(0, 0x07), wire.call(0, 0x0C), wire.call(0, 0x03, aux1=0x04), wire.call(0, 0x05, 16, 9))
+        self.assertEqual(
+            [line for line in self.words() if "GET" in line and "replied" in line],
+            [
+                "port 1: GET CHARACTERS replied $01 success, count 2",
+                "port 1: GET CHARACTERS replied $03 last character, A EOL",
+                "port 1: GET CHARACTERS replied $88 EndOfFile, end of file from K or C",
+                "port 1: GET RECORD replied $03 last character, count 3",
             ],
         )
 

@@ -11,10 +11,11 @@ import subprocess
 import sys
 import threading
 import unittest
+from itertools import islice
 from pathlib import Path
 
-from fixlomand import errors, tape
-from fixlomand.cio import READ, WRITE, Stick
+from fixlomand import errors, script, tape, wire
+from fixlomand.cio import BUFFER_LENGTH, READ, WRITE, Stick
 from fixlomand.helps import HELPS
 from fixlomand.play import Player, PlayPort
 from fixlomand.script import Tape
@@ -421,6 +422,21 @@ class Whole(Tapes):
             process.stdin.close()
             self.assertEqual((self.held("tape"), self.names()), (b"older", ["tape"]))
 
+    def test_killed_while_it_waits_for_the_stick(self) -> None:
+        for number in (signal.SIGKILL, signal.SIGTERM, signal.SIGINT):
+            source, target = self.path("tape", tape_file(AB, LAST)), self.path("out", b"older")
+            # A play that takes all calls and answers none, and ends with its input.
+            process = subprocess.Popen(
+                [STICK, "tape", "read", source, target],
+                stderr=subprocess.DEVNULL,
+                env={**os.environ, "FIXLOMAND_PLAY": "sed d"},
+            )
+            with self.assertRaises(subprocess.TimeoutExpired):
+                process.wait(0.3)
+            process.send_signal(number)
+            self.assertNotEqual(process.wait(PATIENCE), 0)
+            self.assertEqual((self.held("out"), self.names()), (b"older", ["out", "tape"]))
+
     def test_a_link_and_its_mode_stay(self) -> None:
         self.path("kept", b"older")
         os.chmod(self.folder / "kept", 0o640)
@@ -534,6 +550,20 @@ class Through(Tapes):
         self.said(self.tape("read", source, self.path("out")), f"{self.path('out')}: 32000 characters")
         self.assertEqual(self.held("out"), HELLO[3:131] * 250)
 
+    def test_no_more_than_it_needs(self) -> None:
+        """How many GETs it sends: none behind the last character, which comes with $03."""
+        out, calls = self.path("out"), self.path("calls")
+        play = f"sh -c {shlex.quote(f'tee {shlex.quote(calls)} | {PLAY}')}"
+        for length, gets in ((BUFFER_LENGTH, 1), (BUFFER_LENGTH + 1, 2)):
+            data = bytes(place * 7 % 256 for place in range(length))
+            full = length // 128
+            records = [record(FULL, data[128 * place : 128 * (place + 1)]) for place in range(full)]
+            records.append(record(PARTIAL, data[128 * full :]))
+            done = self.tape("read", self.path("tape", tape_file(*records, LAST)), out, FIXLOMAND_PLAY=play)
+            self.assertEqual((done.returncode, self.held("out")), (0, data))
+            taken = b"".join(op.encode()[2:] for op in script.from_bytes(self.held("calls")) if isinstance(op, script.Take))
+            self.assertEqual((length, taken.count(bytes.fromhex("10 09 00 00 07"))), (length, gets))
+
     def test_text(self) -> None:
         data = b"PLAIN\x9b\xc9NVERSE\x9b\x00\x7f\x9b"
         target, out = self.path("tape"), self.path("out")
@@ -574,6 +604,20 @@ class Through(Tapes):
         )
 
 
+class Noting(Stick):
+    """A port that keeps the statuses of its reads."""
+
+    def __init__(self, stream: PlayPort, **words: bool) -> None:
+        self.statuses: list[int] = []
+        super().__init__(stream, **words)
+
+    def request(self, message: bytes) -> wire.Reply:
+        reply = super().request(message)
+        if wire.name(message).startswith("GET ") and isinstance(reply, wire.CallReply):
+            self.statuses.append(reply.status)
+        return reply
+
+
 @unittest.skipUnless(PLAY, NO_PLAY)
 class Hosts(unittest.TestCase):
     """C in the Python library."""
@@ -581,7 +625,79 @@ class Hosts(unittest.TestCase):
     def setUp(self) -> None:
         self.player = Player(shlex.split(PLAY))
         self.addCleanup(self.player.close)
-        self.laptop, self.phone = (Stick(PlayPort(self.player, port)) for port in (0, 1))
+        self.laptop, self.phone = (Noting(PlayPort(self.player, port)) for port in (0, 1))
+
+    def lend(self, *records: bytes) -> None:
+        self.player.do(script.Write(script.BUFFERS.index("tape"), 0, tape_file(*records)))
+
+    def test_character_by_character(self) -> None:
+        """To the end without the request that would give $88."""
+        for records, data, last in (
+            ([AB, LAST], b"AB\x9b", 0x03),
+            ([HELLO, AB, LAST, HELLO], HELLO[3:131] + b"AB\x9b", 0x03),
+            ([LAST], b"", 0x88),
+        ):
+            self.lend(*records)
+            self.laptop.statuses.clear()
+            with self.laptop.open("C:", READ) as file:
+                self.assertEqual((bytes(file), file.at_end), (data, last == 0x03))
+            self.assertEqual(self.laptop.statuses, [0x01] * (len(data) - 1) + [last])
+
+    def test_a_bad_end(self) -> None:
+        """It is not warned of, and is no end."""
+        for end in (bad(LAST), bytes(132)):
+            self.lend(AB, end)
+            self.laptop.statuses.clear()
+            got = bytearray()
+            with self.laptop.open("C:", READ) as file, self.assertRaises(errors.Checksum):
+                for byte in file:
+                    got.append(byte)
+            self.assertEqual((got, self.laptop.statuses), (b"AB\x9b", [0x01, 0x01, 0x01, 0x8F]))
+            with self.laptop.open("C:", READ) as file, self.assertRaises(errors.Checksum) as caught:
+                file.get_rest()
+            self.assertEqual(caught.exception.data, b"AB\x9b")
+
+    def test_records_to_the_end(self) -> None:
+        for text, statuses in (
+            (b"ONE\x9bTWO\x9b" + b"3" * 200 + b"\x9b", [0x01, 0x01, 0x03]),
+            (b"ONE\x9bTWO", [0x01, 0x88]),
+        ):
+            self.phone.statuses.clear()
+            with self.laptop.open("C:", WRITE) as file:
+                file.put_characters(text)
+            with self.phone.open("C:", READ) as file:
+                self.assertEqual(b"".join(file.records()), text)
+            self.assertEqual(self.phone.statuses, statuses)
+        self.lend(AB, LAST)
+        with self.laptop.open("C:", READ) as file:
+            self.assertRaises(errors.RecordCut, file.get_record, 2)
+            self.assertEqual((file.at_end, list(file.records())), (False, []))
+
+    def test_the_rest(self) -> None:
+        for length, statuses in ((BUFFER_LENGTH, [0x03]), (20_000, [0x01, 0x88])):
+            self.phone.statuses.clear()
+            data = bytes(place * 7 % 256 for place in range(length))
+            with self.laptop.open("C:", WRITE) as file:
+                file.put_characters(data)
+            with self.phone.open("C:", READ) as file:
+                self.assertEqual(file.get_rest(), data)
+            self.assertEqual(self.phone.statuses, statuses)
+
+    def test_a_tape_that_runs_out(self) -> None:
+        """Its last character is the last of all, without an end record."""
+        self.lend(*[HELLO] * 250)
+        with self.laptop.open("C:", READ) as file:
+            self.assertEqual((len(file.get_characters(31_999)), file.at_end), (31_999, False))
+            self.assertEqual((bytes(file), file.at_end, self.laptop.statuses), (b"x", True, [0x01, 0x01, 0x03]))
+
+    def test_a_host_that_dropped_out(self) -> None:
+        """The next one begins anew, whatever was read."""
+        self.lend(AB, LAST)
+        for count in (1, 3):
+            self.laptop.open("C:", READ).get_characters(count)
+            self.laptop = Noting(PlayPort(self.player, 0), close_all=True)
+            with self.laptop.open("C:", READ) as file:
+                self.assertEqual((file.at_end, bytes(file)), (False, b"AB\x9b"))
 
     def test_written_and_read(self) -> None:
         data = bytes(range(256)) * 40
@@ -700,6 +816,22 @@ class Live(Living, Folder):
         self.assertEqual(self.kept.read_bytes(), written)
         self.end(terminal)
         self.assertEqual(self.kept.read_bytes(), written)
+
+    def test_read_to_the_end(self) -> None:
+        """By a host at a plug, and then by ``./stick tape read`` of the file."""
+        terminal, laptop, phone = self.begin("tape")
+        lines = [b"item %d\x9b" % number for number in range(40)]
+        with laptop.open("C:", WRITE) as file:
+            for line in lines:
+                file.put_record(line)
+        with phone.open("C:", READ) as file:
+            self.assertEqual(bytes(islice(file, 5)), b"item ")
+            self.assertEqual((file.get_record(), list(file.records())), (b"0\x9b", lines[1:]))
+            self.assertTrue(file.at_end)
+            terminal.wait_for_text("reading, the head at record 3, place 0")
+        self.end(terminal)
+        done = run("tape", "read", str(self.kept), "-")
+        self.assertEqual((done.stdout, done.returncode), (b"".join(lines), 0))
 
     def test_unchanged_it_is_left_alone(self) -> None:
         whole = cas(HELLO, AB, LAST)
@@ -825,6 +957,7 @@ class Live(Living, Folder):
         self.end(terminal)
         text = log.read_text()
         self.assertRegex(text, r"\n# \d+\.\d\d\d tape, 2 records in 1 file, closed\n")
+        self.assertIn(" port 0: GET RECORD replied $03 last character, count 3\n", text)
         again = run("play", str(log)).stdout.decode()
         self.assertIn("bytes 92 04 00 01 41 42 9B", again)
         self.assertIn("\n  tape, 2 records in 1 file, closed\n", again)

@@ -148,7 +148,8 @@ class Errors(unittest.TestCase):
             self.assertIn(f"${status:02X}: ", str(error))
 
     def test_success_and_strangers(self) -> None:
-        errors.check(1)
+        for status in (wire.SUCCESS, wire.LAST_CHARACTER, 0x7F):
+            errors.check(status)
         with self.assertRaises(errors.StatusError) as caught:
             errors.check(0xEE)
         self.assertEqual((type(caught.exception), caught.exception.status), (errors.StatusError, 0xEE))

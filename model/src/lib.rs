@@ -1,5 +1,5 @@
-//! An independent model of document 01 and Ask 1 of document 02, written from the paper and not from
-//! the core, so that the two can be compared call by call.
+//! An independent model of document 01 and Asks 1 and 7 of document 02, written from the paper and not
+//! from the core, so that the two can be compared call by call.
 //!
 //! - `stick`: the stick itself: fresh, take, tick, give, press.
 //! - `script`: the call script of `play`, as bytes and as readable text.

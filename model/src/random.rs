@@ -124,7 +124,7 @@ impl Maker {
         // E and S clear each other's screen, so mostly only one of them is liked.
         let screen = random.pick(&[[1, 0], [1, 0], [0, 1], [1, 1]]);
         // There is one tape: mostly both like it, or neither.
-        let tape = random.pick(&[0, 0, 0, 1, 40]);
+        let tape = random.pick(&[0, 0, 0, 1, 40, 40]);
         let mut host = || {
             let taste = random.pick(&[[6, 6, 2, 2], [20, 1, 1, 1], [1, 20, 1, 0], [2, 2, 20, 1], [1, 1, 1, 20]]);
             let [e, s, k, p] = taste;
@@ -168,9 +168,14 @@ impl Maker {
     }
 
     fn tick(&mut self, port: u8) {
-        let reads = self.player.stick.cassette.place > 0 && self.player.stick.holds(usize::from(port), Group::Tape);
-        if reads && self.random.chance(150) {
-            self.meddle_with_record();
+        let Cassette { mark, record, place, .. } = self.player.stick.cassette;
+        let begun = mark == Mark::Reading && (record, place) != (0, 0);
+        if begun && self.player.stick.holds(usize::from(port), Group::Tape) {
+            // More often where the end comes next, in a request that goes on: the tape may go on after all.
+            let end = self.player.stick.tape.chunks(RECORD).nth(record).map(characters) == Some(Err(END_OF_FILE));
+            if self.random.chance(if end { 500 } else { 150 }) {
+                self.meddle_with_record();
+            }
         }
         if self.random.chance(400) {
             for _ in 0..=self.random.below(2) {
@@ -340,9 +345,14 @@ impl Maker {
     }
 
     /// Another record where the tape is, or a byte of it spoilt; in the middle
-    /// of a record that is read mostly one whose count is about the place.
+    /// of a record that is read mostly one whose count is about the place. At
+    /// times the record behind it, mostly an end: by it a character is the last.
     fn meddle_with_record(&mut self) {
-        let Cassette { mark, record, place, .. } = self.player.stick.cassette;
+        let Cassette { mark, mut record, place, .. } = self.player.stick.cassette;
+        let behind = record + 1 < RECORDS && self.random.chance(300);
+        if behind {
+            record += 1;
+        }
         if record == RECORDS {
             return;
         }
@@ -350,6 +360,7 @@ impl Maker {
             return self.spoil(record);
         }
         let bytes = match self.random.weigh(&[60, 15, 25]) {
+            0 if behind => end_record(),
             0 if mark == Mark::Reading && place > 0 => {
                 let count = (place + self.random.below(3)).saturating_sub(1).clamp(1, 127);
                 let characters: Vec<u8> = (0..count).map(|_| self.random.byte()).collect();
@@ -684,11 +695,14 @@ impl Maker {
     // ---- the tape ----
 
     /// C from OPEN to CLOSE: a tape laid and read, one written and read again,
-    /// or one written full. Or C asked for, whoever has it open.
+    /// one written full, or one read up to its end. Or C asked for, whoever has
+    /// it open.
     fn tape_errand(&mut self, iocb: u8) -> Vec<Vec<u8>> {
         let mut messages = Vec::new();
         let open = self.player.stick.cassette.mark != Mark::Closed;
-        match self.random.weigh(&[50, 40, 9, 10, if open { 150 } else { 15 }]) {
+        // A tape that the other host reads is mostly left as it lies.
+        let [end, ask] = if open { [10, 200] } else { [180, 15] };
+        match self.random.weigh(&[50, 40, 12, 10, end, ask]) {
             0 => self.lay_tape(),
             1 => {
                 messages.extend(self.open_tape(iocb, W));
@@ -699,6 +713,7 @@ impl Maker {
             }
             2 => messages.extend(self.full_tape(iocb)),
             3 => messages.extend(self.last_record(iocb)),
+            4 => return self.up_to_the_end(iocb),
             _ => {
                 let (special, aux1) = (self.random.pick(&SPECIALS), self.random.pick(&[0, R, W, R | W]));
                 let command = self.random.pick(&[OPEN, GET_STATUS, special]);
@@ -756,16 +771,21 @@ impl Maker {
         }
     }
 
-    /// A transfer from an open tape: to the end of its record or about it, a
-    /// few characters, or many.
+    /// A transfer from an open tape: to the end of its record or of all or
+    /// about it, a few characters, or many.
     fn read_tape(&mut self, iocb: u8) -> Vec<Vec<u8>> {
         let Cassette { record, place, .. } = self.player.stick.cassette;
-        let left = match self.player.stick.tape.chunks(RECORD).nth(record).map(characters) {
-            Some(Ok(characters)) => characters.len().saturating_sub(place).max(1),
-            _ => 1,
-        };
+        let records = self.player.stick.tape.chunks(RECORD).skip(record).map_while(|record| characters(record).ok());
+        let lengths: Vec<usize> = records.map(<[u8]>::len).collect();
+        let left = lengths.first().map_or(1, |length| length.saturating_sub(place).max(1));
+        let all = lengths.iter().sum::<usize>().saturating_sub(place).clamp(1, 2_000);
         let piece = self.random.pick(&PIECES);
-        let n = self.random.pick(&[0, 1, 2, 3, 10, left, left, left + 1, 126, 127, 128, 129, piece, 600, 2_000]);
+        let few = [0, 1, 2, 3, 10, left, left, left + 1, all, all, all - 1, all + 1];
+        let n = if self.random.chance(650) {
+            self.random.pick(&few)
+        } else {
+            self.random.pick(&[126, 127, 128, 129, piece, 600, 2_000])
+        };
         let address = self.inside(n);
         let command = self.random.pick(&[GET_CHARACTERS, GET_CHARACTERS, GET_RECORD]);
         let mut messages = vec![self.call(iocb, command, address, n)];
@@ -883,6 +903,75 @@ impl Maker {
         }
         messages.push(self.call(iocb, CLOSE, 0, 0));
         messages
+    }
+
+    /// A text on the tape, mostly with its only EOL at its end, and behind it
+    /// the end, a bad record, or nothing where the tape runs out; read once or
+    /// several times, to its last character or about it.
+    fn up_to_the_end(&mut self, iocb: u8) -> Vec<Vec<u8>> {
+        let n = self.random.pick(&[1, 2, 2, 3, 3, 10, 127, 128, 129, 256]);
+        let mut text: Vec<u8> = (0..n).map(|_| self.random.pick(b"ABCabc 0123 xyz")).collect();
+        if self.random.chance(700) {
+            text[n - 1] = EOL;
+        }
+        let mut records = self.records_of(&text);
+        let runs_out = self.random.chance(250);
+        let before = if runs_out { RECORDS - records.len() } else { 0 };
+        if !runs_out {
+            let data = [self.random.byte(); DATA];
+            let bad = self.random.pick(&[0x00, 0xFF]);
+            records.push(match self.random.weigh(&[60, 20, 10, 10]) {
+                0 => end_record(),
+                1 => record(END, data),
+                2 => record(bad, data),
+                _ => self.record(),
+            });
+        }
+        let singles = vec![partial_record(b"A"); before];
+        self.play(Op::Write { buffer: 4, at: 0, bytes: [singles, records.clone()].concat().concat() });
+        if !runs_out && self.random.chance(100) {
+            self.spoil(records.len() - 1);
+        }
+        let mut messages = Vec::new();
+        for _ in 0..1 + self.random.below(4) {
+            messages.extend(self.ask_for_tape(iocb, OPEN, R));
+            if runs_out {
+                messages.push(self.call(iocb, GET_CHARACTERS, 0, before));
+            }
+            for (command, n) in self.reads_about(n) {
+                let address = self.inside(n);
+                messages.push(self.call(iocb, command, address, n));
+            }
+            messages.push(self.call(iocb, CLOSE, 0, 0));
+        }
+        messages
+    }
+
+    /// Commands and lengths by which n characters are read, or about as many;
+    /// mostly something more.
+    fn reads_about(&mut self, n: usize) -> Vec<(u8, usize)> {
+        let either = self.random.pick(&[GET_CHARACTERS, GET_RECORD]);
+        let part = 1 + self.random.below(n);
+        let mut reads = match self.random.below(6) {
+            0 => vec![(GET_CHARACTERS, n)],
+            1 => vec![(GET_CHARACTERS, n + 1 + self.random.below(3))],
+            2 => vec![(GET_CHARACTERS, n - 1), (either, 0)],
+            3 => vec![(GET_RECORD, n + self.random.pick(&[0, 0, 1, 10]))],
+            4 => vec![(GET_RECORD, part)],
+            _ => vec![(GET_CHARACTERS, part), (either, n - part)],
+        };
+        if self.random.chance(600) {
+            reads.push((either, self.random.below(3)));
+        }
+        reads
+    }
+
+    /// A text as records, a short one at times with one or two characters in
+    /// each.
+    fn records_of(&mut self, text: &[u8]) -> Vec<[u8; RECORD]> {
+        let few = self.random.pick(&[1, 2, DATA, DATA, DATA]);
+        let pieces = text.chunks(if text.len() > 10 { DATA } else { few });
+        pieces.map(|piece| piece.try_into().map_or_else(|_| partial_record(piece), |data| record(FULL, data))).collect()
     }
 
     /// A record, mostly good, its checksum right.

@@ -194,8 +194,9 @@ pub struct Figures {
 }
 
 /// The statuses that a CALL about C can have.
-pub const TAPE_STATUSES: [u8; 10] = [
+pub const TAPE_STATUSES: [u8; 11] = [
     SUCCESS,
+    LAST_CHARACTER,
     ALREADY_OPEN,
     NOT_READABLE,
     BAD_COMMAND,

@@ -1,5 +1,5 @@
 //! The stick as document 01 tells it: two ports, a console, a printer; and the
-//! tape of document 02's Ask 1.
+//! tape of document 02's Ask 1, with Ask 7's warning before its end.
 //!
 //! Clear before fast: messages are kept whole, and each rule stands where the
 //! paper has it. States handed in damaged are not modelled (answer 3 never
@@ -48,6 +48,8 @@ pub const GROUP_HELD: u8 = 8;
 
 /// Statuses of the replies.
 pub const SUCCESS: u8 = 0x01;
+/// "A tape read after which the next would give $88 should come with $03."
+pub const LAST_CHARACTER: u8 = 0x03;
 pub const ALREADY_OPEN: u8 = 0x81;
 pub const NO_DEVICE: u8 = 0x82;
 pub const NOT_READABLE: u8 = 0x83;
@@ -291,6 +293,28 @@ pub struct Console {
     pub key: u8,
     pub lock: u8,
     pub inverse: u8,
+}
+
+/// A handler's answer to a read. "Every handler's character answer gains this
+/// outcome; other devices never give it": only the tape has a last character.
+#[derive(Clone, Copy, Debug, PartialEq, Eq)]
+pub enum Got {
+    Character(u8),
+    /// The next would be $88.
+    Last(u8),
+    /// No character: a status from $80.
+    Refusal(u8),
+}
+
+impl Got {
+    /// The character with its status, or the status that ends the request.
+    fn with_status(self) -> Result<(u8, u8), u8> {
+        match self {
+            Got::Character(character) => Ok((character, SUCCESS)),
+            Got::Last(character) => Ok((character, LAST_CHARACTER)),
+            Got::Refusal(status) => Err(status),
+        }
+    }
 }
 
 /// How the tape is open; its number in a dump.
@@ -721,16 +745,17 @@ impl Stick {
         let Call { length: n, address, a, .. } = run.call;
         let place = port * AREA + address + run.count;
         let end = if run.call.reads() {
-            match self.get(run.file.device) {
+            match self.get(run.file.device).with_status() {
                 Err(status) => Some((status, a)),
-                Ok(character) if n == 0 => Some((SUCCESS, character)),
-                Ok(character) if run.count < n => {
+                Ok((character, status)) if n == 0 => Some((status, character)),
+                // $03 "is below $80, so the character is stored and counted"
+                Ok((character, status)) if run.count < n => {
                     self.area[place] = character;
                     run.count += 1;
-                    run.is_over(character).then_some((SUCCESS, a))
+                    run.is_over(character).then_some((status, a))
                 }
-                // n are stored: the rest of the record is dropped
-                Ok(character) => (character == EOL).then_some((RECORD_CUT, a)),
+                // n are stored: the rest of the record is dropped; "a cut record still ends with $89"
+                Ok((character, _)) => (character == EOL).then_some((RECORD_CUT, a)),
             }
         } else {
             let added = n > 0 && run.count == n;
@@ -810,9 +835,9 @@ impl Stick {
         }
     }
 
-    fn get(&mut self, device: Device) -> Result<u8, u8> {
+    fn get(&mut self, device: Device) -> Got {
         match device {
-            Device::E => Ok(self.editor_get()),
+            Device::E => self.editor_get(),
             Device::S => self.screen_get(),
             Device::K => self.key_get(),
             Device::P => unreachable!("P offers no R"),
@@ -861,16 +886,16 @@ impl Stick {
         Ok(())
     }
 
-    fn screen_get(&mut self) -> Result<u8, u8> {
+    fn screen_get(&mut self) -> Got {
         let (columns, rows, colours) = shape(self.console.mode);
         if self.console.row == rows {
-            return Err(CURSOR_RANGE);
+            return Got::Refusal(CURSOR_RANGE);
         }
         let cell = self.screen[self.console.row * columns + self.console.column];
         let character = (u16::from(cell) % colours) as u8;
         self.console.last = character;
         self.screen_move_on();
-        Ok(character)
+        Got::Character(character)
     }
 
     fn screen_move_on(&mut self) {
@@ -940,7 +965,7 @@ impl Stick {
         }
     }
 
-    fn editor_get(&mut self) -> u8 {
+    fn editor_get(&mut self) -> Got {
         let at = self.console.read_column.unwrap_or(LEFT);
         let row = &self.screen[40 * self.console.row..40 * self.console.row + 40];
         let last = (LEFT..=RIGHT).rev().find(|&column| row[column] != 0x20);
@@ -948,35 +973,50 @@ impl Stick {
             let character = row[at];
             self.console.last = character;
             self.console.read_column = Some(at + 1);
-            character
+            Got::Character(character)
         } else {
             self.new_row();
             self.console.read_column = None;
-            EOL
+            Got::Character(EOL)
         }
     }
 
     // K
 
-    fn key_get(&mut self) -> Result<u8, u8> {
+    fn key_get(&mut self) -> Got {
         let code = std::mem::replace(&mut self.console.key, NO_KEY);
         let lock = u32::from(self.console.lock);
         match translate(u32::from(code), lock, u32::from(self.console.inverse)) {
-            character @ 0..=255 => return Ok(character as u8),
+            character @ 0..=255 => return Got::Character(character as u8),
             257 => self.console.inverse = 1 - self.console.inverse,
             258 => self.console.lock = 0,
             259 => self.console.lock = 1,
             260 => self.console.lock = 2,
             _ => {}
         }
-        Err(END_OF_FILE)
+        Got::Refusal(END_OF_FILE)
     }
 
     // C
 
-    /// The next character. Its record is judged as it lies; a refusal moves
-    /// nothing.
-    fn tape_get(&mut self) -> Result<u8, u8> {
+    /// The next character; a refusal moves nothing. Whether it is the last, the
+    /// tape says as it lies after the read.
+    fn tape_get(&mut self) -> Got {
+        match self.next_on_tape() {
+            Ok((character, behind)) => {
+                (self.cassette.record, self.cassette.place) = behind;
+                match self.next_on_tape() {
+                    Err(END_OF_FILE) => Got::Last(character),
+                    _ => Got::Character(character),
+                }
+            }
+            Err(status) => Got::Refusal(status),
+        }
+    }
+
+    /// What a read would give: a character, with the record and the place
+    /// behind it, or a refusal. The record is judged as it lies.
+    fn next_on_tape(&self) -> Result<(u8, (usize, usize)), u8> {
         let Cassette { mut record, mut place, .. } = self.cassette;
         let mut characters = self.characters_of(record)?;
         if place >= characters.len() {
@@ -984,11 +1024,9 @@ impl Stick {
             (record, place) = (record + 1, 0);
             characters = self.characters_of(record)?;
         }
-        let character = characters[place];
         // Behind a record's last character comes the next record.
-        let next = if place + 1 < characters.len() { (record, place + 1) } else { (record + 1, 0) };
-        (self.cassette.record, self.cassette.place) = next;
-        Ok(character)
+        let behind = if place + 1 < characters.len() { (record, place + 1) } else { (record + 1, 0) };
+        Ok((characters[place], behind))
     }
 
     /// The characters of a record on the tape; "a tape that runs out reads as $88".
@@ -1033,7 +1071,7 @@ impl Stick {
 }
 
 impl Run {
-    /// Whether the request ends with success after this counted character.
+    /// Whether the request ends by its own rule after this counted character.
     /// A record goes on without an EOL, to add one or to drop up to one.
     fn is_over(&self, character: u8) -> bool {
         if self.call.by_record() {

@@ -125,6 +125,7 @@ fn boundaries() -> Vec<String> {
         add(format!("{device}, a refused character of length 0"));
     }
     all.extend(tape_boundaries());
+    all.extend(warning_boundaries());
     all
 }
 
@@ -220,6 +221,64 @@ fn tape_boundaries() -> Vec<String> {
     all
 }
 
+/// What a read of C that gives a character comes to.
+const WAYS: [&str; 9] = [
+    "GET CHARACTERS of 0",
+    "GET RECORD of 0",
+    "GET CHARACTERS up to n",
+    "GET CHARACTERS before n",
+    "GET RECORD, an EOL with room to spare",
+    "GET RECORD, an EOL that just fits",
+    "GET RECORD, before an EOL",
+    "GET RECORD, a dropped EOL",
+    "GET RECORD, dropped before an EOL",
+];
+/// What the next record is behind a record's last character.
+const BEHIND: [&str; 5] = ["an end record", "an end record with data", "nothing", "a bad record", "a record"];
+
+/// The names of the boundaries about the last character: $03, and where it is $01.
+fn warning_boundaries() -> Vec<String> {
+    let mut all = Vec::new();
+    for way in WAYS {
+        all.extend(BEHIND.map(|behind| format!("C, {way}, then {behind}")));
+    }
+    for kind in ["full", "partial"] {
+        all.push(format!("C, the last character, of a {kind} record"));
+        all.push(format!("C, the last character, of record 249, {kind}"));
+    }
+    for what in ["a character", "88", "8F"] {
+        all.push(format!("C, {what} behind the last character, in one request"));
+        all.push(format!("C, {what} behind the last character, in the next request"));
+    }
+    for what in [
+        "C, the last character, the count fallen",
+        "C, the last character, all of the request",
+        "C, the last character at the area's end",
+        "W of an end behind the record that is read",
+        "W over the end behind the record that is read",
+        "K, a character, and then none",
+    ] {
+        all.push(what.to_string());
+    }
+    all
+}
+
+/// What a record of the tape is, in the words of the boundaries.
+fn what_is(tape: &[u8], record: usize) -> &'static str {
+    let Some(bytes) = tape.chunks(RECORD).nth(record) else { return "nothing" };
+    match characters(bytes) {
+        Ok(_) => "a record",
+        Err(END_OF_FILE) if bytes[DATA_AT..CHECKSUM_AT] == [0; DATA] => "an end record",
+        Err(END_OF_FILE) => "an end record with data",
+        Err(_) => "a bad record",
+    }
+}
+
+/// Whether a read there would give $88.
+fn is_end(what: &str) -> bool {
+    what.starts_with("an end") || what == "nothing"
+}
+
 /// A script played on the model, tick by tick, and the boundaries that it came to.
 struct Watch<'a> {
     player: Player,
@@ -228,6 +287,8 @@ struct Watch<'a> {
     plain: [Option<usize>; 2],
     /// The port that got $8F from the tape last, if nothing was read since, and the record.
     bad: Option<(usize, usize)>,
+    /// The record behind the character that C gave last, if it was the last character, and whether its request goes on.
+    warned: Option<(usize, bool)>,
 }
 
 /// The name of a command that opens a closed block.
@@ -246,7 +307,19 @@ impl Watch<'_> {
 
     fn play(&mut self, op: &Op) -> bool {
         self.beside(op);
+        let Cassette { mark, record, .. } = self.player.stick.cassette;
+        let held = self.player.stick.holds(0, Group::Tape) || self.player.stick.holds(1, Group::Tape);
         match *op {
+            Op::Write { .. } if held && mark == Mark::Reading => {
+                let ended = is_end(what_is(&self.player.stick.tape, record + 1));
+                self.player.play(op, &mut Vec::new());
+                match (ended, is_end(what_is(&self.player.stick.tape, record + 1))) {
+                    (false, true) => self.note("W of an end behind the record that is read".to_string()),
+                    (true, false) => self.note("W over the end behind the record that is read".to_string()),
+                    _ => {}
+                }
+                true
+            }
             Op::Dump | Op::DumpTape => true,
             Op::Tick { port } => {
                 self.tick(port);
@@ -346,6 +419,9 @@ impl Watch<'_> {
                 Some(Phase::Running(run)) if run.file.device == Device::C => {
                     self.moved(place, &run, &console, used);
                     self.moved_on_tape(place, &run, &cassette);
+                    if cassette.mark == Mark::Reading {
+                        self.read_on_tape(place, &run, &cassette);
+                    }
                 }
                 Some(Phase::Running(run)) => self.moved(place, &run, &console, used),
                 _ => unreachable!("a tick that does something"),
@@ -478,6 +554,66 @@ impl Watch<'_> {
         self.bad = (self.status(port) == Some(BAD_RECORD)).then_some((port, record));
     }
 
+    /// The same for a read: what comes behind its character, and that the status tells it.
+    fn read_on_tape(&mut self, port: usize, run: &Run, before: &Cassette) {
+        let (status, n) = (self.status(port), run.call.length);
+        let Cassette { record, place, .. } = self.player.stick.cassette;
+        let refused = (record, place) == (before.record, before.place);
+        if let Some((behind, goes_on)) = self.warned.take() {
+            if (behind, 0) == (before.record, before.place) {
+                let what = match status {
+                    Some(status) if refused => format!("{status:02X}"),
+                    _ => "a character".to_string(),
+                };
+                let request = if goes_on { "one request" } else { "the next request" };
+                self.note(format!("C, {what} behind the last character, in {request}"));
+            }
+        }
+        if refused {
+            return;
+        }
+        let dropped = n > 0 && run.count == n;
+        let way = match (run.call.command, n, status) {
+            (GET_CHARACTERS, 0, _) => "GET CHARACTERS of 0",
+            (_, 0, _) => "GET RECORD of 0",
+            (GET_CHARACTERS, _, Some(_)) => "GET CHARACTERS up to n",
+            (GET_CHARACTERS, _, None) => "GET CHARACTERS before n",
+            (_, _, Some(_)) if dropped => "GET RECORD, a dropped EOL",
+            (_, _, None) if dropped => "GET RECORD, dropped before an EOL",
+            (_, _, Some(_)) if run.count + 1 < n => "GET RECORD, an EOL with room to spare",
+            (_, _, Some(_)) => "GET RECORD, an EOL that just fits",
+            (_, _, None) => "GET RECORD, before an EOL",
+        };
+        let stick = &self.player.stick;
+        let behind = if place > 0 { "the same record" } else { what_is(&stick.tape, record) };
+        let last = is_end(behind);
+        let expected = match last {
+            _ if dropped => RECORD_CUT,
+            true => LAST_CHARACTER,
+            false => SUCCESS,
+        };
+        assert!(status.is_none_or(|status| status == expected), "{way}, then {behind}: {status:02X?}");
+        if place > 0 {
+            return;
+        }
+        let full = stick.tape[RECORD * (record - 1) + CONTROL_AT] == FULL;
+        let kind = if full { "full" } else { "partial" };
+        self.note(format!("C, {way}, then {behind}"));
+        let names = [
+            (true, format!("of a {kind} record")),
+            (record == RECORDS, format!("of record 249, {kind}")),
+            (record > before.record + 1, "the count fallen".to_string()),
+            (n == 1 && status == Some(LAST_CHARACTER), "all of the request".to_string()),
+        ];
+        for (_, what) in names.into_iter().filter(|(met, _)| *met && last) {
+            self.note(format!("C, the last character, {what}"));
+        }
+        if last && !dropped && n > 0 && run.call.address + run.count + 1 == AREA {
+            self.note("C, the last character at the area's end".to_string());
+        }
+        self.warned = last.then_some((record, status.is_none()));
+    }
+
     /// The status in the reply, once it is made.
     fn status(&self, port: usize) -> Option<u8> {
         match &self.player.stick.ports[port].phase {
@@ -553,7 +689,7 @@ impl Watch<'_> {
             _ if reads => 0,
             _ => self.player.stick.area[port * AREA + run.call.address + run.count],
         };
-        if n == 0 && status == Some(SUCCESS) && reads {
+        if n == 0 && status.is_some_and(|status| status < 0x80) && reads {
             self.note(format!("{device:?}, a read of length 0"));
         } else if n == 0 && status.is_some_and(|status| status >= 0x80) {
             self.note(format!("{device:?}, a refused character of length 0"));
@@ -567,6 +703,9 @@ impl Watch<'_> {
                     _ => "characters",
                 };
                 self.note(format!("P, {way} at {used}"));
+            }
+            Device::K if status == Some(END_OF_FILE) && run.count > 0 => {
+                self.note("K, a character, and then none".to_string());
             }
             Device::S => self.on_screen(before, reads, added, byte),
             Device::E if reads => self.read_editor(run, before, status),
@@ -653,7 +792,7 @@ impl Watch<'_> {
 
 /// The boundaries that a script comes to, and how often; what was played.
 fn watch(script: &[Op], reached: &mut BTreeMap<String, u64>) -> Figures {
-    let mut watch = Watch { player: Player::new(), reached, plain: [None; 2], bad: None };
+    let mut watch = Watch { player: Player::new(), reached, plain: [None; 2], bad: None, warned: None };
     for op in script {
         if !watch.play(op) {
             break;
@@ -684,6 +823,8 @@ fn each_boundary_is_reached() {
     // Each status of C was seen, and no other.
     assert_eq!(figures.tape.keys().copied().collect::<Vec<u8>>(), TAPE_STATUSES);
     assert!(figures.tape_waits > 0);
+    // Other devices never give $03.
+    assert_eq!(figures.replies[&(0x90, LAST_CHARACTER)], figures.tape[&LAST_CHARACTER]);
 }
 
 /// What some messages on port 0 come to, of the boundaries alone.
@@ -745,6 +886,26 @@ fn what_is_reached() {
         ] {
             assert_eq!(reached.contains(&format!("C, {name}")), met, "{length}: {name}");
         }
+    }
+    // A tape of three characters, read to the one before the last, to the last, and past it.
+    for (n, name) in [
+        (2, None),
+        (3, Some("GET CHARACTERS up to n, then an end record")),
+        (4, Some("GET CHARACTERS before n, then an end record")),
+    ] {
+        let close = vec![call(0, CLOSE, 0, 0, [0; 3])];
+        let written = [open(b"C:", [W, 0, 0]), put(PUT_CHARACTERS, b"AB\x9B"), close].concat();
+        let read = [open(b"C:", [R, 0, 0]), vec![call(0, GET_CHARACTERS, 100, n, [0; 3])]].concat();
+        let reached = of_messages(&[written, read].concat());
+        let all: Vec<String> = warning_boundaries().into_iter().filter(|name| reached.contains(name)).collect();
+        let mut expected: Vec<String> = name.iter().map(|name| format!("C, {name}")).collect();
+        if n > 2 {
+            expected.push("C, the last character, of a partial record".to_string());
+        }
+        if n > 3 {
+            expected.push("C, 88 behind the last character, in one request".to_string());
+        }
+        assert_eq!(all, expected);
     }
     for (length, last) in [(39, false), (40, true)] {
         let there = put(PUT_CHARACTERS, &[EOL; 23]);

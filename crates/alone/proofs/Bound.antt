@@ -12,7 +12,7 @@ use Rattle.base.specs.Choice.{choose}
 use Rattle.handler.specs.declared.Done.{Done}
 use Rattle.handler.specs.declared.Done.the-variants as done
 use Rattle.handler.specs.declared.Got.{Got}
-use Rattle.handler.specs.declared.Got.the-variants as got
+use Rattle.handler.specs.Answer.{Gives}
 use Rattle.handler.specs.Acts.{Acts}
 use Rattle.blocks.specs.declared.Kind.{Kind}
 use Rattle.blocks.specs.declared.Kind.the-variants.{Get, Put}
@@ -24,6 +24,7 @@ use Rattle.transfer.specs.Spans.{wayIn}
 use Rattle.alone.specs.Transfer.{TransferEnd, onGot, onDone, getOne, putOne, getCharacters, dropLine, getRecord, putCharacters, putRecord, getting, putting, transferred}
 use Rattle.alone.specs.Moves.{wholeOf, Lines, mostMoves}
 use Rattle.alone.proofs.Span.{Span, Spanned}
+use Rattle.alone.proofs.Ending.{on-got}
 
 -- at most so many characters
 abbrev pub Short : {D : Type 0} → ℕ → TransferEnd D → Type 0
@@ -31,9 +32,9 @@ Short m r = length (r .course) ≤ m
 
 module _ {D : Type 0} (m : ℕ) where
   -- by what the handler says
-  got-short : (says : Got) (f g : ℕ → TransferEnd D) → ((byte : ℕ) → says ≡ got.Character byte → Short m (f byte)) → ((status : ℕ) → Short m (g status)) → Short m (onGot says f g)
-  got-short (got.Character byte) f g p q = p byte refl
-  got-short (got.Refused status) f g p q = q status
+  got-short : (says : Got) (f : (status byte : ℕ) → TransferEnd D) (g : (status : ℕ) → TransferEnd D)
+      → ((status byte : ℕ) → Gives says status byte → Short m (f status byte)) → ((status : ℕ) → Short m (g status)) → Short m (onGot says f g)
+  got-short says f g p q = on-got (Short m) says f g p (λ status e. q status)
 
   done-short : (says : Done) (f : Unit {0} → TransferEnd D) (g : ℕ → TransferEnd D) → Short m (f tt) → ((status : ℕ) → Short m (g status)) → Short m (onDone says f g)
   done-short done.Success f g p q = p
@@ -44,12 +45,12 @@ module _ {D : Type 0} (m : ℕ) where
   choose-short false f g p q = q refl
 
 module _ {D : Type 0} (H : Acts D) (left : D → ℕ) (a : ℕ) where
-  get-characters : (n place count : ℕ) (area : List ℕ) (x : D) → Short n (getCharacters H left a n place count area x)
+  get-characters : (said n place count : ℕ) (area : List ℕ) (x : D) → Short n (getCharacters H left a said n place count area x)
   unfolding getCharacters
-  get-characters zero place count area x = omega arith
-  get-characters (suc n) place count area x =
+  get-characters said zero place count area x = omega arith
+  get-characters said (suc n) place count area x =
       got-short (suc n) (H .reads x .says) _ _
-      (λ byte e. let h = get-characters n (place + 1) (count + 1) (set area place byte) (H .reads x .leaves) in omega arith)
+      (λ status byte e. let h = get-characters status n (place + 1) (count + 1) (set area place byte) (H .reads x .leaves) in omega arith)
       (λ status. omega arith)
 
   put-characters : (n place count : ℕ) (area : List ℕ) (x : D) → Short n (putCharacters H left a n place count area x)
@@ -72,11 +73,11 @@ module _ {D : Type 0} (H : Acts D) (left : D → ℕ) (a : ℕ) where
 
   drop-line : (m count : ℕ) (area : List ℕ) (x : D) → Short (suc m) (dropLine H left a m count area x)
   unfolding dropLine
-  drop-line zero count area x = got-short 1 (H .reads x .says) _ _ (λ byte e. omega arith) (λ status. omega arith)
+  drop-line zero count area x = got-short 1 (H .reads x .says) _ _ (λ status byte e. omega arith) (λ status. omega arith)
   drop-line (suc m) count area x =
       let h = drop-line m count area (H .reads x .leaves) in
       got-short (suc (suc m)) (H .reads x .says) _ _
-      (λ byte e. choose-short (suc (suc m)) (eqb byte eol) _ _ (λ t. omega arith) (λ t. omega arith))
+      (λ status byte e. choose-short (suc (suc m)) (eqb byte eol) _ _ (λ t. omega arith) (λ t. omega arith))
       (λ status. omega arith)
 
   module _ (Fit : D → Type 0) (Z : Lines H left Fit) where
@@ -86,17 +87,17 @@ module _ {D : Type 0} (H : Acts D) (left : D → ℕ) (a : ℕ) where
     get-record zero place count area x f = drop-line (left x) count area x
     get-record (suc n) place count area x f =
         got-short (suc (left x)) (H .reads x .says) _ _
-        (λ byte e. choose-short (suc (left x)) (eqb byte eol) _ _ (λ t. omega arith)
+        (λ status byte e. choose-short (suc (left x)) (eqb byte eol) _ _ (λ t. omega arith)
         (λ t.
         let h = get-record n (place + 1) (count + 1) (set area place byte) (H .reads x .leaves) (Z .read-fit x f) in
-        let l = Z .falls x byte f e (eqb-false byte eol t) in
+        let l = Z .falls x status byte f e (eqb-false byte eol t) in
         omega arith))
         (λ status. omega arith)
 
     getting-short : (way : Way) (n place count : ℕ) (area : List ℕ) (x : D) → Fit x → Span way n place count → Short mostMoves (getting H left a way n place count area x)
     unfolding getting getOne
-    getting-short One n place count area x f h = got-short mostMoves (H .reads x .says) _ _ (λ byte e. omega arith) (λ status. omega arith)
-    getting-short Characters n place count area x f h = omega (arith, get-characters n place count area x, h .1 .0)
+    getting-short One n place count area x f h = got-short mostMoves (H .reads x .says) _ _ (λ status byte e. omega arith) (λ status. omega arith)
+    getting-short Characters n place count area x f h = omega (arith, get-characters 0x01 n place count area x, h .1 .0)
     getting-short Record n place count area x f h = omega (arith, get-record n place count area x f, Z .few x f)
 
     putting-short : (way : Way) (n place count : ℕ) (area : List ℕ) (x : D) → Span way n place count → Short mostMoves (putting H left a way n place count area x)

@@ -14,7 +14,7 @@ use Rattle.base.proofs.Choices.{pick-lt, choose-le}
 use Rattle.handler.specs.declared.Asked.{Asked}
 use Rattle.handler.specs.declared.Got.{Got}
 use Rattle.handler.specs.declared.Got.the-variants as got
-use Rattle.handler.specs.Answer.{Answer}
+use Rattle.handler.specs.Answer.{Answer, Gives, plain, warns}
 use Rattle.handler.specs.Acts.{Acts, asksOn}
 use Rattle.cells.specs.Modes.{modes, rowOf, shapeOf}
 use Rattle.cells.specs.Cells.{placeOf, cellOf}
@@ -38,12 +38,13 @@ use Rattle.plan.specs.declared.Job.{Job}
 use Rattle.plan.specs.declared.Work.the-variants as work
 use Rattle.plan.specs.Plan.{jobOf}
 use Rattle.moves.specs.Move.{went}
-use Rattle.alone.specs.Transfer.{Point, point, TransferEnd, next, onGot, dropLine, getRecord, getting, transferred}
+use Rattle.alone.specs.Transfer.{Point, point, TransferEnd, next, dropLine, getRecord, getting, transferred}
 use Rattle.alone.specs.Left.{leftS, consoleLeft}
 use Rattle.alone.specs.Alone.{Local, AloneOn, aloneTransfer, aloneWork, aloneJob}
 use Rattle.alone.specs.Moves.{moves, RunsAt, begunBy}
 use Rattle.alone.specs.Fit.{FitOwn}
 use Rattle.alone.proofs.AloneIs.{device-ends}
+use Rattle.alone.proofs.Ending.{on-got}
 use Rattle.alone.proofs.Lines.{owner-lines}
 
 two : (mode : ℕ) → mode ≡ 8 → shapeOf mode .colours ≡ 2
@@ -53,6 +54,7 @@ two mode e = rw e
 -- a character of mode 8 is no EOL, and the mode stays; a refusal is $8D, with no cell left
 abbrev Heard : (m : ℕ) → Got → (mode : ℕ) → Type 0
 Heard m (got.Character byte) mode = (eqb byte eol ≡ false) × (mode ≡ 8)
+Heard m (got.Last byte) mode = ⊥
 Heard m (got.Refused status) mode = (status ≡ 0x8D) × (m ≡ 0)
 
 abbrev leftPicture : Graphics → ℕ
@@ -104,15 +106,22 @@ false-true : {A : Type 0} → true ≡ false → A
 false-true e = let z : _≡_ {A = ℕ} 0 1 = cc in absurd (omega arith)
 
 -- a read character is no EOL, and one fewer is left
-module _ (g : ConsoleGroup) (f : Fit8 g) (byte : ℕ) (says : H .reads g .says ≡ got.Character byte) where
+heard-given : (m : ℕ) (says : Got) (status byte mode : ℕ) → Gives says status byte → Heard m says mode → (eqb byte eol ≡ false) × (mode ≡ 8)
+heard-given m says status byte mode (plain e z) h = subst (λ (s : Got). Heard m s mode) e h
+heard-given m says status byte mode (warns e z) h = absurd (subst (λ (s : Got). Heard m s mode) e h)
+
+module _ (g : ConsoleGroup) (f : Fit8 g) (status byte : ℕ) (says : Gives (H .reads g .says) status byte) where
+  heard : (eqb byte eol ≡ false) × (H .reads g .leaves .console .mode ≡ 8)
+  heard = heard-given (left g) (H .reads g .says) status byte (H .reads g .leaves .console .mode) says (console-heard g (f .1))
+
   no-eol : eqb byte eol ≡ false
-  no-eol = subst (λ (s : Got). Heard (left g) s (H .reads g .leaves .console .mode)) says (console-heard g (f .1)) .0
+  no-eol = heard .0
 
   after-fit : Fit8 (H .reads g .leaves)
-  after-fit = (owner-lines (owner.Console console.S) (asksOn 0 0) .read-fit g (f .0), subst (λ (s : Got). Heard (left g) s (H .reads g .leaves .console .mode)) says (console-heard g (f .1)) .1)
+  after-fit = (owner-lines (owner.Console console.S) (asksOn 0 0) .read-fit g (f .0), heard .1)
 
   after-left : left g ≡ left (H .reads g .leaves) + 1
-  after-left = owner-lines (owner.Console console.S) (asksOn 0 0) .falls g byte (f .0) says (eqb-false byte eol no-eol)
+  after-left = owner-lines (owner.Console console.S) (asksOn 0 0) .falls g status byte (f .0) says (eqb-false byte eol no-eol)
 
 module _ (g : ConsoleGroup) (f : Fit8 g) (status : ℕ) (says : H .reads g .says ≡ got.Refused status) where
   the-status : status ≡ 0x8D
@@ -120,12 +129,6 @@ module _ (g : ConsoleGroup) (f : Fit8 g) (status : ℕ) (says : H .reads g .says
 
   none-more : left g ≡ 0
   none-more = subst (λ (s : Got). Heard (left g) s (H .reads g .leaves .console .mode)) says (console-heard g (f .1)) .1
-
--- by what the handler says
-on-line : {m count a : ℕ} (says : Got) (f g : ℕ → TransferEnd ConsoleGroup) → ((byte : ℕ) → says ≡ got.Character byte → Line m count a (f byte)) → ((status : ℕ) → says ≡ got.Refused status → Line m count a (g status))
-    → Line m count a (onGot says f g)
-on-line (got.Character byte) f g p q = p byte refl
-on-line (got.Refused status) f g p q = q status refl
 
 not-eol : {m count a : ℕ} (t : Bool) (f g : Unit {0} → TransferEnd ConsoleGroup) → t ≡ false → Line m count a (g tt) → Line m count a (choose t f g)
 not-eol true f g e h = false-true e
@@ -137,25 +140,25 @@ one-more p h = record { course = ap suc (h .course); status = h .status; counted
 drop-8 : (m count a : ℕ) (area : List ℕ) (g : ConsoleGroup) → Fit8 g → left g ≡ m → Line m count a (dropLine H left a m count area g)
 unfolding dropLine
 drop-8 zero count a area g f z =
-    on-line (H .reads g .says) _ _
-    (λ byte e. absurd (omega (arith, after-left g f byte e)))
+    on-got (Line zero count a) (H .reads g .says) _ _
+    (λ status byte e. absurd (omega (arith, after-left g f status byte e)))
     (λ status e. record { course = refl; status = the-status g f status e; counted = refl; same = refl })
 drop-8 (suc m) count a area g f z =
-    on-line (H .reads g .says) _ _
-    (λ byte e. not-eol (eqb byte eol) _ _ (no-eol g f byte e)
-    (one-more (point area (H .reads g .leaves) count) (drop-8 m count a area (H .reads g .leaves) (after-fit g f byte e) (omega (arith, after-left g f byte e)))))
+    on-got (Line (suc m) count a) (H .reads g .says) _ _
+    (λ status byte e. not-eol (eqb byte eol) _ _ (no-eol g f status byte e)
+    (one-more (point area (H .reads g .leaves) count) (drop-8 m count a area (H .reads g .leaves) (after-fit g f status byte e) (omega (arith, after-left g f status byte e)))))
     (λ status e. absurd (omega (arith, none-more g f status e)))
 
 -- GET RECORD of one character: it, and then the line
 record-8 : (m place a : ℕ) (area : List ℕ) (g : ConsoleGroup) → Fit8 g → left g ≡ suc m → Line (suc m) 1 a (getRecord H left a 1 place 0 area g)
 unfolding getRecord
 record-8 m place a area g f z =
-    on-line (H .reads g .says) _ _
-    (λ byte e.
-    let w : left (H .reads g .leaves) ≡ m = omega (arith, after-left g f byte e) in
-    not-eol (eqb byte eol) _ _ (no-eol g f byte e)
+    on-got (Line (suc m) 1 a) (H .reads g .says) _ _
+    (λ status byte e.
+    let w : left (H .reads g .leaves) ≡ m = omega (arith, after-left g f status byte e) in
+    not-eol (eqb byte eol) _ _ (no-eol g f status byte e)
     (one-more (point (set area place byte) (H .reads g .leaves) 1)
-    (rw w (drop-8 m 1 a (set area place byte) (H .reads g .leaves) (after-fit g f byte e) w))))
+    (rw w (drop-8 m 1 a (set area place byte) (H .reads g .leaves) (after-fit g f status byte e) w))))
     (λ status e. absurd (omega (arith, none-more g f status e)))
 
 -- the fresh console, opened in mode 8 with R

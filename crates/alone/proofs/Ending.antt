@@ -14,7 +14,9 @@ use Rattle.handler.specs.declared.Done.{Done}
 use Rattle.handler.specs.declared.Done.the-variants as done
 use Rattle.handler.specs.declared.Got.{Got}
 use Rattle.handler.specs.declared.Got.the-variants as got
+use Rattle.handler.specs.Answer.{Gives, plain, warns, gotHigh}
 use Rattle.handler.specs.Acts.{Acts}
+use Rattle.handler.proofs.Giving.{gives-refused, gives-byte, high-refused}
 use Rattle.blocks.specs.declared.Way.{Way}
 use Rattle.blocks.specs.declared.Way.the-variants.{One, Characters, Record}
 use Rattle.replies.specs.Replies.{bytesAt}
@@ -24,8 +26,10 @@ use Rattle.alone.specs.Moves.{Lines}
 use Rattle.alone.specs.Ending.{IsLast, placesOf, readTo, readSays, GoesOn, ReadsTo, GetEnds, get-refused, get-whole, get-cut, mostSent, writtenTo, writeSays, SentOn, WritesTo, PutEnds, put-refused, put-whole}
 
 -- by what the handler says
-pub on-got : {R : Type 0} (P : R → Type 0) (says : Got) (f g : ℕ → R) → ((byte : ℕ) → says ≡ got.Character byte → P (f byte)) → ((status : ℕ) → says ≡ got.Refused status → P (g status)) → P (onGot says f g)
-on-got P (got.Character byte) f g p q = p byte refl
+pub on-got : {R : Type 0} (P : R → Type 0) (says : Got) (f : (status byte : ℕ) → R) (g : (status : ℕ) → R)
+    → ((status byte : ℕ) → Gives says status byte → P (f status byte)) → ((status : ℕ) → says ≡ got.Refused status → P (g status)) → P (onGot says f g)
+on-got P (got.Character byte) f g p q = p 0x01 byte (plain refl refl)
+on-got P (got.Last byte) f g p q = p 0x03 byte (warns refl refl)
 on-got P (got.Refused status) f g p q = q status refl
 
 pub on-done : {R : Type 0} (P : R → Type 0) (says : Done) (f : Unit {0} → R) (g : ℕ → R) → (says ≡ done.Success → P (f tt)) → ((status : ℕ) → says ≡ done.Refused status → P (g status)) → P (onDone says f g)
@@ -86,15 +90,7 @@ IsCharacters Record = ⊥
 characters-record : Characters ≡ Record → ⊥
 characters-record e = subst IsCharacters e tt
 
--- what a handler says, as numbers
-abbrev pub characterIn : Got → ℕ
-characterIn (got.Character byte) = byte
-characterIn (got.Refused status) = 0
-
-abbrev refusalIn : Got → ℕ
-refusalIn (got.Character byte) = 0
-refusalIn (got.Refused status) = suc status
-
+-- what a handler says to a PUT, as a number
 abbrev refusalTo : Done → ℕ
 refusalTo done.Success = 0
 refusalTo (done.Refused status) = suc status
@@ -105,116 +101,117 @@ module _ {D : Type 0} (H : Acts D) where
     reads-behind : GoesOn H way (suc n) x 0 → (k : ℕ) → ReadsTo H way n (H .reads x .leaves) k → ReadsTo H way (suc n) x (suc k)
     reads-behind g k q =
         before-suc (GoesOn H way (suc n) x) k g
-        (λ j h. record { byte = q j h .byte; given = q j h .given; more = λ l. q j h .more (last-down way n j (q j h .byte) l) })
+        (λ j h. record { status = q j h .status; byte = q j h .byte; given = q j h .given; more = λ l. q j h .more (last-down way n j (q j h .byte) l) })
 
     get-behind : {status count : ℕ} {y : D} → GoesOn H way (suc n) x 0 → GetEnds H way n (H .reads x .leaves) status count y → GetEnds H way (suc n) x status (suc count) y
-    get-behind g (get-refused k status q e) = get-refused (suc k) status (reads-behind g k q) e
-    get-behind g (get-whole k byte q e l h) = get-whole (suc k) byte (reads-behind g k q) e (last-up way n k byte l) (λ r. let b = h r in omega arith)
-    get-behind g (get-cut k q e r h) = get-cut (suc k) (reads-behind g k q) e r (omega arith)
+    get-behind g (get-refused k status q e h) = get-refused (suc k) status (reads-behind g k q) e h
+    get-behind g (get-whole k status byte q e l h) = get-whole (suc k) status byte (reads-behind g k q) e (last-up way n k byte l) (λ r. let b = h r in omega arith)
+    get-behind g (get-cut k status q e r h) = get-cut (suc k) status (reads-behind g k q) e r (omega arith)
 
   -- of one that is dropped
   drops-behind : (x : D) → GoesOn H Record 0 x 0 → (k : ℕ) → ReadsTo H Record 0 (H .reads x .leaves) k → ReadsTo H Record 0 x (suc k)
-  drops-behind x g k q = before-suc (GoesOn H Record 0 x) k g (λ j h. record { byte = q j h .byte; given = q j h .given; more = q j h .more })
+  drops-behind x g k q = before-suc (GoesOn H Record 0 x) k g (λ j h. record { status = q j h .status; byte = q j h .byte; given = q j h .given; more = q j h .more })
 
   drop-behind : {status count : ℕ} {y : D} (x : D) → GoesOn H Record 0 x 0 → GetEnds H Record 0 (H .reads x .leaves) status count y → GetEnds H Record 0 x status count y
-  drop-behind x g (get-refused k status q e) = get-refused (suc k) status (drops-behind x g k q) e
-  drop-behind x g (get-whole k byte q e l h) = absurd (let b = h refl in omega arith)
-  drop-behind x g (get-cut k q e r h) = get-cut (suc k) (drops-behind x g k q) e r (omega arith)
+  drop-behind x g (get-refused k status q e h) = get-refused (suc k) status (drops-behind x g k q) e h
+  drop-behind x g (get-whole k status byte q e l h) = absurd (let b = h refl in omega arith)
+  drop-behind x g (get-cut k status q e r h) = get-cut (suc k) status (drops-behind x g k q) e r (omega arith)
 
   module _ (left : D → ℕ) (a : ℕ) where
     abbrev GotAs : Way → (n : ℕ) → D → (before : ℕ) → TransferEnd D → Type 0
     GotAs way n x before r = EndsAs (GetEnds H way n x) before r
 
-    -- it is refused at once
-    got-refused : (way : Way) (n : ℕ) (x : D) (area : List ℕ) (before status : ℕ) → H .reads x .says ≡ got.Refused status → GotAs way n x before (last area (H .reads x .leaves) status before a)
-    got-refused way n x area before status e = record {
-      more = placesOf n 0;
-      count = omega (arith, places-none n);
-      ends = get-refused 0 status (none-before (GoesOn H way n x)) e;
-    }
+    module _ (high : (x : D) → gotHigh (H .reads x .says)) where
+      -- it is refused at once
+      got-refused : (way : Way) (n : ℕ) (x : D) (area : List ℕ) (before status : ℕ) → H .reads x .says ≡ got.Refused status → GotAs way n x before (last area (H .reads x .leaves) status before a)
+      got-refused way n x area before status e = record {
+        more = placesOf n 0;
+        count = omega (arith, places-none n);
+        ends = get-refused 0 status (none-before (GoesOn H way n x)) e (high-refused (H .reads x .says) status (high x) e);
+      }
 
-    get-one : (n count : ℕ) (area : List ℕ) (x : D) → n ≡ 0 → GotAs One n x count (getOne H left a count area x)
-    unfolding getOne
-    get-one n count area x z =
-        on-got (GotAs One n x count) (H .reads x .says) _ _
-        (λ byte e. record {
-          more = placesOf n 1;
-          count = rw z (omega arith);
-          ends = get-whole 0 byte (none-before (GoesOn H One n x)) e tt (λ r. absurd (one-record r));
-        })
-        (λ status e. got-refused One n x area count status e)
-
-    get-characters : (n place count : ℕ) (area : List ℕ) (x : D) → 0 < n → GotAs Characters n x count (getCharacters H left a n place count area x)
-    unfolding getCharacters
-    get-characters zero place count area x h = absurd (omega arith)
-    get-characters (suc zero) place count area x h =
-        on-got (GotAs Characters 1 x count) (H .reads x .says) _ _
-        (λ byte e. record {
-          more = 1;
-          count = refl;
-          ends = get-whole 0 byte (none-before (GoesOn H Characters 1 x)) e refl (λ r. absurd (characters-record r));
-        })
-        (λ status e. got-refused Characters 1 x area count status e)
-    get-characters (suc (suc n)) place count area x h =
-        on-got (GotAs Characters (suc (suc n)) x count) (H .reads x .says) _ _
-        (λ byte e.
-        let t = get-characters (suc n) (place + 1) (count + 1) (set area place byte) (H .reads x .leaves) (omega arith) in
-        record {
-          more = suc (t .more);
-          count = omega (arith, t .count);
-          ends = get-behind Characters (suc n) x (record { byte = byte; given = e; more = λ l. omega arith }) (t .ends);
-        })
-        (λ status e. got-refused Characters (suc (suc n)) x area count status e)
-
-    -- the EOL of a record that is cut
-    cut-here : (count : ℕ) (area : List ℕ) (x : D) (byte : ℕ) → H .reads x .says ≡ got.Character byte → byte ≡ eol → GotAs Record 0 x count (last area (H .reads x .leaves) 0x89 count a)
-    cut-here count area x byte e l = record {
-      more = 0;
-      count = omega arith;
-      ends = get-cut 0 (none-before (GoesOn H Record 0 x)) (e ∙ ap got.Character l) refl (omega arith);
-    }
-
-    module _ (Fit : D → Type 0) (Z : Lines H left Fit) where
-      drop-line : (m count : ℕ) (area : List ℕ) (x : D) → Fit x → left x ≡ m → GotAs Record 0 x count (dropLine H left a m count area x)
-      unfolding dropLine
-      drop-line zero count area x f z =
-          on-got (GotAs Record 0 x count) (H .reads x .says) _ _
-          (λ byte e. by-eq byte eol
-          (λ l. cut-here count area x byte e l)
-          (λ n. absurd (omega (arith, Z .falls x byte f e n))))
-          (λ status e. got-refused Record 0 x area count status e)
-      drop-line (suc m) count area x f z =
-          on-got (GotAs Record 0 x count) (H .reads x .says) _ _
-          (λ byte e. choose-eq (GotAs Record 0 x count) byte eol _ _
-          (λ l. cut-here count area x byte e l)
-          (λ n.
-          let t = drop-line m count area (H .reads x .leaves) (Z .read-fit x f) (omega (arith, Z .falls x byte f e n)) in
-          record {
-            more = t .more;
-            count = t .count;
-            ends = drop-behind x (record { byte = byte; given = e; more = n }) (t .ends);
-          }))
-          (λ status e. got-refused Record 0 x area count status e)
-
-      get-record : (n place count : ℕ) (area : List ℕ) (x : D) → Fit x → GotAs Record n x count (getRecord H left a n place count area x)
-      unfolding getRecord
-      get-record zero place count area x f = drop-line (left x) count area x f refl
-      get-record (suc n) place count area x f =
-          on-got (GotAs Record (suc n) x count) (H .reads x .says) _ _
-          (λ byte e. choose-eq (GotAs Record (suc n) x count) byte eol _ _
-          (λ l. record {
-            more = placesOf (suc n) 1;
-            count = omega (arith, places-none n);
-            ends = get-whole 0 byte (none-before (GoesOn H Record (suc n) x)) e l (λ r. omega arith);
+      get-one : (n count : ℕ) (area : List ℕ) (x : D) → n ≡ 0 → GotAs One n x count (getOne H left a count area x)
+      unfolding getOne
+      get-one n count area x z =
+          on-got (GotAs One n x count) (H .reads x .says) _ _
+          (λ status byte e. record {
+            more = placesOf n 1;
+            count = rw z (omega arith);
+            ends = get-whole 0 status byte (none-before (GoesOn H One n x)) e tt (λ r. absurd (one-record r));
           })
-          (λ m.
-          let t = get-record n (place + 1) (count + 1) (set area place byte) (H .reads x .leaves) (Z .read-fit x f) in
+          (λ status e. got-refused One n x area count status e)
+
+      get-characters : (said n place count : ℕ) (area : List ℕ) (x : D) → 0 < n → GotAs Characters n x count (getCharacters H left a said n place count area x)
+      unfolding getCharacters
+      get-characters said zero place count area x h = absurd (omega arith)
+      get-characters said (suc zero) place count area x h =
+          on-got (GotAs Characters 1 x count) (H .reads x .says) _ _
+          (λ status byte e. record {
+            more = 1;
+            count = refl;
+            ends = get-whole 0 status byte (none-before (GoesOn H Characters 1 x)) e refl (λ r. absurd (characters-record r));
+          })
+          (λ status e. got-refused Characters 1 x area count status e)
+      get-characters said (suc (suc n)) place count area x h =
+          on-got (GotAs Characters (suc (suc n)) x count) (H .reads x .says) _ _
+          (λ status byte e.
+          let t = get-characters status (suc n) (place + 1) (count + 1) (set area place byte) (H .reads x .leaves) (omega arith) in
           record {
             more = suc (t .more);
             count = omega (arith, t .count);
-            ends = get-behind Record n x (record { byte = byte; given = e; more = m }) (t .ends);
-          }))
-          (λ status e. got-refused Record (suc n) x area count status e)
+            ends = get-behind Characters (suc n) x (record { status = status; byte = byte; given = e; more = λ l. omega arith }) (t .ends);
+          })
+          (λ status e. got-refused Characters (suc (suc n)) x area count status e)
+
+      -- the EOL of a record that is cut
+      cut-here : (count : ℕ) (area : List ℕ) (x : D) (status byte : ℕ) → Gives (H .reads x .says) status byte → byte ≡ eol → GotAs Record 0 x count (last area (H .reads x .leaves) 0x89 count a)
+      cut-here count area x status byte e l = record {
+        more = 0;
+        count = omega arith;
+        ends = get-cut 0 status (none-before (GoesOn H Record 0 x)) (subst (Gives (H .reads x .says) status) l e) refl (omega arith);
+      }
+
+      module _ (Fit : D → Type 0) (Z : Lines H left Fit) where
+        drop-line : (m count : ℕ) (area : List ℕ) (x : D) → Fit x → left x ≡ m → GotAs Record 0 x count (dropLine H left a m count area x)
+        unfolding dropLine
+        drop-line zero count area x f z =
+            on-got (GotAs Record 0 x count) (H .reads x .says) _ _
+            (λ status byte e. by-eq byte eol
+            (λ l. cut-here count area x status byte e l)
+            (λ n. absurd (omega (arith, Z .falls x status byte f e n))))
+            (λ status e. got-refused Record 0 x area count status e)
+        drop-line (suc m) count area x f z =
+            on-got (GotAs Record 0 x count) (H .reads x .says) _ _
+            (λ status byte e. choose-eq (GotAs Record 0 x count) byte eol _ _
+            (λ l. cut-here count area x status byte e l)
+            (λ n.
+            let t = drop-line m count area (H .reads x .leaves) (Z .read-fit x f) (omega (arith, Z .falls x status byte f e n)) in
+            record {
+              more = t .more;
+              count = t .count;
+              ends = drop-behind x (record { status = status; byte = byte; given = e; more = n }) (t .ends);
+            }))
+            (λ status e. got-refused Record 0 x area count status e)
+
+        get-record : (n place count : ℕ) (area : List ℕ) (x : D) → Fit x → GotAs Record n x count (getRecord H left a n place count area x)
+        unfolding getRecord
+        get-record zero place count area x f = drop-line (left x) count area x f refl
+        get-record (suc n) place count area x f =
+            on-got (GotAs Record (suc n) x count) (H .reads x .says) _ _
+            (λ status byte e. choose-eq (GotAs Record (suc n) x count) byte eol _ _
+            (λ l. record {
+              more = placesOf (suc n) 1;
+              count = omega (arith, places-none n);
+              ends = get-whole 0 status byte (none-before (GoesOn H Record (suc n) x)) e l (λ r. omega arith);
+            })
+            (λ m.
+            let t = get-record n (place + 1) (count + 1) (set area place byte) (H .reads x .leaves) (Z .read-fit x f) in
+            record {
+              more = suc (t .more);
+              count = omega (arith, t .count);
+              ends = get-behind Record n x (record { status = status; byte = byte; given = e; more = m }) (t .ends);
+            }))
+            (λ status e. got-refused Record (suc n) x area count status e)
 
   -- A PUT's
   module _ (way : Way) (n byte : ℕ) (sent : List ℕ) (x : D) where
@@ -305,9 +302,9 @@ module _ {D : Type 0} (H : Acts D) where
   module _ (left : D → ℕ) (a : ℕ) where
     getting-ends : (Fit : D → Type 0) (Z : Lines H left Fit) (way : Way) (n place : ℕ) (area : List ℕ) (x : D) → Fit x → LengthFits way n → GotAs left a way n x 0 (getting H left a way n place 0 area x)
     unfolding getting
-    getting-ends Fit Z One n place area x f h = get-one left a n 0 area x h
-    getting-ends Fit Z Characters n place area x f h = get-characters left a n place 0 area x h
-    getting-ends Fit Z Record n place area x f h = get-record left a Fit Z n place 0 area x f
+    getting-ends Fit Z One n place area x f h = get-one left a (Z .high) n 0 area x h
+    getting-ends Fit Z Characters n place area x f h = get-characters left a (Z .high) 0x01 n place 0 area x h
+    getting-ends Fit Z Record n place area x f h = get-record left a (Z .high) Fit Z n place 0 area x f
 
     putting-ends : (way : Way) (n place : ℕ) (area : List ℕ) (x : D) → LengthFits way n → PutAs left a way n (mostSent way a n area place) x 0 (putting H left a way n place 0 area x)
     unfolding putting
@@ -336,17 +333,22 @@ module _ {D : Type 0} (H : Acts D) where
     same-end : (k j : ℕ) → ReadsTo H way n x k → (GoesOn H way n x k → ⊥) → ReadsTo H way n x j → (GoesOn H way n x j → ⊥) → k ≡ j
     same-end k j q s r t = by-lt k j (λ h. absurd (s (r k h))) (λ h. by-lt j k (λ g. absurd (t (q j g))) (λ g. omega arith))
 
-    -- by what is said to it
-    abbrev cutAt : Way → ℕ → ℕ
-    cutAt One k = 0x01
-    cutAt Characters k = 0x01
-    cutAt Record k = pick (leb n k) 0x89 0x01
+    -- by what is said to it, and with which status
+    abbrev cutAt : Way → (k status : ℕ) → ℕ
+    cutAt One k status = status
+    cutAt Characters k status = status
+    cutAt Record k status = pick (leb n k) 0x89 status
 
     abbrev statusAt : ℕ → ℕ
-    statusAt k = onGot (readSays H k x) (λ byte. cutAt way k) (λ status. status)
+    statusAt k = onGot (readSays H k x) (λ status byte. cutAt way k status) (λ status. status)
 
     abbrev countAt : ℕ → ℕ
-    countAt k = onGot (readSays H k x) (λ byte. placesOf n (suc k)) (λ status. placesOf n k)
+    countAt k = onGot (readSays H k x) (λ status byte. placesOf n (suc k)) (λ status. placesOf n k)
+
+    -- what is made of a character that is given
+    on-given : {R : Type 0} (says : Got) (status byte : ℕ) (f : (status byte : ℕ) → R) (g : (status : ℕ) → R) → Gives says status byte → onGot says f g ≡ f status byte
+    on-given says status byte f g (plain e z) = rw (e, z)
+    on-given says status byte f g (warns e z) = rw (e, z)
 
     pub record EndsAt (status count : ℕ) (left : D) : Type 0 where
       pub k : ℕ
@@ -356,34 +358,34 @@ module _ {D : Type 0} (H : Acts D) where
       pub says-count : count ≡ countAt k
       pub says-left : left ≡ readTo H (suc k) x
 
-    not-cut : (w : Way) (k : ℕ) → (w ≡ Record → k < n) → cutAt w k ≡ 0x01
-    not-cut One k h = refl
-    not-cut Characters k h = refl
-    not-cut Record k h = rw (lt-leb n k (h refl))
+    not-cut : (w : Way) (k status : ℕ) → (w ≡ Record → k < n) → cutAt w k status ≡ status
+    not-cut One k status h = refl
+    not-cut Characters k status h = refl
+    not-cut Record k status h = rw (lt-leb n k (h refl))
 
     ends-at : {status count : ℕ} {y : D} → GetEnds H way n x status count y → EndsAt status count y
-    ends-at (get-refused k status q e) = record {
+    ends-at (get-refused k status q e h) = record {
       k = k;
       reads = q;
-      stops = λ g. omega (arith, ap refusalIn (sym e ∙ g .given));
+      stops = λ g. gives-refused status (g .given) e;
       says-status = rw e;
       says-count = rw e;
       says-left = refl;
     }
-    ends-at (get-whole k byte q e l h) = record {
+    ends-at (get-whole k status byte q e l h) = record {
       k = k;
       reads = q;
-      stops = λ g. g .more (subst (IsLast way n k) (ap characterIn (sym e ∙ g .given)) l);
-      says-status = rw (e, not-cut way k h);
-      says-count = rw e;
+      stops = λ g. g .more (subst (IsLast way n k) (gives-byte (g .status) (g .byte) e (g .given)) l);
+      says-status = sym (on-given (readSays H k x) status byte _ _ e ∙ not-cut way k status h);
+      says-count = sym (on-given (readSays H k x) status byte _ _ e);
       says-left = refl;
     }
-    ends-at (get-cut k q e r h) = record {
+    ends-at (get-cut k status q e r h) = record {
       k = k;
       reads = q;
-      stops = λ g. g .more (subst (λ (w : Way). IsLast w n k (g .byte)) (sym r) (sym (ap characterIn (sym e ∙ g .given))));
-      says-status = rw (e, r, le-leb n k h);
-      says-count = rw e;
+      stops = λ g. g .more (subst (λ (w : Way). IsLast w n k (g .byte)) (sym r) (sym (gives-byte (g .status) (g .byte) e (g .given))));
+      says-status = sym (on-given (readSays H k x) status eol _ _ e ∙ rw (r, le-leb n k h));
+      says-count = sym (on-given (readSays H k x) status eol _ _ e);
       says-left = refl;
     }
 
@@ -439,20 +441,20 @@ module _ {D : Type 0} (H : Acts D) where
     abbrev KeepsA : TransferEnd D → Type 0
     KeepsA r = r .a ≡ a
 
-    characters-a : (n place count : ℕ) (area : List ℕ) (x : D) → KeepsA (getCharacters H left a n place count area x)
+    characters-a : (said n place count : ℕ) (area : List ℕ) (x : D) → KeepsA (getCharacters H left a said n place count area x)
     unfolding getCharacters
-    characters-a zero place count area x = refl
-    characters-a (suc n) place count area x =
+    characters-a said zero place count area x = refl
+    characters-a said (suc n) place count area x =
         on-got KeepsA (H .reads x .says) _ _
-        (λ byte e. characters-a n (place + 1) (count + 1) (set area place byte) (H .reads x .leaves))
+        (λ status byte e. characters-a status n (place + 1) (count + 1) (set area place byte) (H .reads x .leaves))
         (λ status e. refl)
 
     drop-a : (m count : ℕ) (area : List ℕ) (x : D) → KeepsA (dropLine H left a m count area x)
     unfolding dropLine
-    drop-a zero count area x = on-got KeepsA (H .reads x .says) _ _ (λ byte e. refl) (λ status e. refl)
+    drop-a zero count area x = on-got KeepsA (H .reads x .says) _ _ (λ status byte e. refl) (λ status e. refl)
     drop-a (suc m) count area x =
         on-got KeepsA (H .reads x .says) _ _
-        (λ byte e. choose-eq KeepsA byte eol _ _ (λ l. refl) (λ n. drop-a m count area (H .reads x .leaves)))
+        (λ status byte e. choose-eq KeepsA byte eol _ _ (λ l. refl) (λ n. drop-a m count area (H .reads x .leaves)))
         (λ status e. refl)
 
     record-a : (n place count : ℕ) (area : List ℕ) (x : D) → KeepsA (getRecord H left a n place count area x)
@@ -460,20 +462,20 @@ module _ {D : Type 0} (H : Acts D) where
     record-a zero place count area x = drop-a (left x) count area x
     record-a (suc n) place count area x =
         on-got KeepsA (H .reads x .says) _ _
-        (λ byte e. choose-eq KeepsA byte eol _ _ (λ l. refl) (λ m. record-a n (place + 1) (count + 1) (set area place byte) (H .reads x .leaves)))
+        (λ status byte e. choose-eq KeepsA byte eol _ _ (λ l. refl) (λ m. record-a n (place + 1) (count + 1) (set area place byte) (H .reads x .leaves)))
         (λ status e. refl)
 
-    pub get-kept : (way : Way) (n place : ℕ) (area : List ℕ) (x : D) → LengthFits way n → (n ≡ 0 → (byte : ℕ) → H .reads x .says ≡ got.Character byte → ⊥) → KeepsA (getting H left a way n place 0 area x)
+    pub get-kept : (way : Way) (n place : ℕ) (area : List ℕ) (x : D) → LengthFits way n → (n ≡ 0 → (status byte : ℕ) → Gives (H .reads x .says) status byte → ⊥) → KeepsA (getting H left a way n place 0 area x)
     unfolding getting getOne
-    get-kept One n place area x h none = on-got KeepsA (H .reads x .says) _ _ (λ byte e. absurd (none h byte e)) (λ status e. refl)
-    get-kept Characters n place area x h none = characters-a n place 0 area x
+    get-kept One n place area x h none = on-got KeepsA (H .reads x .says) _ _ (λ status byte e. absurd (none h status byte e)) (λ status e. refl)
+    get-kept Characters n place area x h none = characters-a 0x01 n place 0 area x
     get-kept Record n place area x h none = record-a n place 0 area x
 
-    pub get-read : (way : Way) (n place : ℕ) (area : List ℕ) (x : D) (byte : ℕ) → LengthFits way n → n ≡ 0 → H .reads x .says ≡ got.Character byte → getting H left a way n place 0 area x .a ≡ byte
+    pub get-read : (way : Way) (n place : ℕ) (area : List ℕ) (x : D) (status byte : ℕ) → LengthFits way n → n ≡ 0 → Gives (H .reads x .says) status byte → getting H left a way n place 0 area x .a ≡ byte
     unfolding getting getOne
-    get-read One n place area x byte h z e = rw e
-    get-read Characters n place area x byte h z e = absurd (omega arith)
-    get-read Record n place area x byte h z e = absurd (omega arith)
+    get-read One n place area x status byte h z e = on-got (λ (r : TransferEnd D). r .a ≡ byte) (H .reads x .says) _ _ (λ t b f. gives-byte status byte f e) (λ s f. absurd (gives-refused s e f))
+    get-read Characters n place area x status byte h z e = absurd (omega arith)
+    get-read Record n place area x status byte h z e = absurd (omega arith)
 
     put-characters-a : (n place count : ℕ) (area : List ℕ) (x : D) → KeepsA (putCharacters H left a n place count area x)
     unfolding putCharacters

@@ -4,23 +4,19 @@ use mathlib.Core.Path.{_≡_, _∙_, refl, sym, subst}
 use mathlib.Core.Bool.{true, false}
 use mathlib.Core.List.{List, []}
 use Prim.Native.Nat.{ℕ, zero, suc}
-use lib.ListN.{length, length-set}
+use lib.ListN.{length}
 use lib.Seq.{length-sets}
 use Rattle.base.specs.Choice.{within}
-use Rattle.base.proofs.Choices.{choose-go, choose-eq}
+use Rattle.base.proofs.Choices.{choose-go}
 use Rattle.handler.specs.declared.Asked.{Asked}
 use Rattle.handler.specs.declared.Done.{Done}
 use Rattle.handler.specs.declared.Done.the-variants as done
-use Rattle.handler.specs.declared.Got.{Got}
-use Rattle.handler.specs.declared.Got.the-variants as got
 use Rattle.handler.specs.Acts.{Acts, asksOpen, asksOn}
 use Rattle.blocks.specs.declared.ControlBlock.{ControlBlock}
 use Rattle.blocks.specs.declared.Device.{Device}
 use Rattle.blocks.specs.declared.Kind.{Kind}
 use Rattle.blocks.specs.declared.Kind.the-variants.{Get, Put}
 use Rattle.blocks.specs.declared.Run.{Run}
-use Rattle.blocks.specs.declared.Way.{Way}
-use Rattle.blocks.specs.declared.Way.the-variants.{One, Characters, Record}
 use Rattle.blocks.specs.Blocks.{closedBlock, openBlock, blockAt}
 use Rattle.blocks.specs.Opening.{offersOf}
 use Rattle.blocks.specs.Made.{splits, madeOf}
@@ -31,7 +27,8 @@ use Rattle.wire.specs.Fits.{replyFits}
 use Rattle.wire.proofs.Keeps.{call-reply-fits, status-reply-fits, fetch-reply-fits}
 use Rattle.transfer.specs.declared.Next.{Next}
 use Rattle.transfer.specs.declared.Next.the-variants.{On, Off}
-use Rattle.transfer.specs.Transfer.{Progress, gotCharacter, gotOf, Out, goes, ends, outOf}
+use Rattle.transfer.specs.Transfer.{Out, goes, ends, outOf}
+use Rattle.transfer.proofs.Transfers.{got-long}
 use Rattle.transfer.specs.Spans.{wayIn}
 use Rattle.devices.specs.Groups.{Groups, deviceActs, getGroup, groupOf, ownerOf}
 use Rattle.devices.specs.Fit.{FitGroups, FitPart}
@@ -69,18 +66,6 @@ OutOn run (goes later) = (later .kind ≡ run .kind) × ((later .device ≡ run 
 OutOn run (ends reply) = ReplyFits reply
 
 -- the area keeps its length
-character-long : (way : Way) (run : Run) (byte : ℕ) (area : List ℕ) → length (gotCharacter way run byte area .area) ≡ length area
-unfolding gotCharacter
-character-long One run byte area = refl
-character-long Characters run byte area = length-set area (run .place) byte
-character-long Record run byte area =
-    choose-eq (λ (p : Progress). length (p .area) ≡ length area) (run .left) 0 _ _ (λ e. refl) (λ e. length-set area (run .place) byte)
-
-got-long : (way : Way) (run : Run) (says : Got) (area : List ℕ) → length (gotOf way run says area .area) ≡ length area
-unfolding gotOf
-got-long way run (got.Character byte) area = character-long way run byte area
-got-long way run (got.Refused status) area = refl
-
 step-long : {D : Type 0} (H : Acts D) (kind : Kind) (run : Run) (area : List ℕ) (x : D) → length (stepOf H kind run area x .area) ≡ length area
 step-long H (Get way) run area x = got-long way run (H .reads x .says) area
 step-long H (Put way) run area x = refl

@@ -11,15 +11,17 @@ use lib.Dec.{leb, ltb}
 use lib.ListN.{getD}
 use borrow.Author.Tests.{eq-eqb, ne-eqb, ltb-true, leb-true}
 use Rattle.base.specs.Choice.{and, or, within, bit}
-use Rattle.base.proofs.Choices.{pick-eq, pick-lt, choose-go, choose-eq, choose-lt, choose-le, by-eq, and-left, and-right}
+use Rattle.base.proofs.Choices.{pick-eq, pick-lt, choose-go, choose-eq, choose-lt, choose-le, by-test, by-eq, and-left, and-right}
 use Rattle.handler.specs.declared.Asked.{Asked}
 use Rattle.handler.specs.declared.Done.{Done}
 use Rattle.handler.specs.declared.Done.the-variants.{Success, Refused}
 use Rattle.handler.specs.declared.Got.{Got}
 use Rattle.handler.specs.declared.Got.the-variants as got
-use Rattle.handler.specs.Answer.{Answer}
+use Rattle.handler.specs.Answer.{Answer, Gives, plain, warns, gotHigh}
+use Rattle.handler.proofs.Giving.{gives-refused, gives-byte}
 use Rattle.handler.specs.Acts.{Acts}
 use Rattle.keys.specs.declared.keyboard.Keyboard.{Keyboard}
+use Rattle.keys.specs.Translation.{translateOf}
 use Rattle.keys.specs.Keyboard as keys
 use Rattle.keys.proofs.Keeps as keys-keeps
 use Rattle.cells.specs.Modes.{shapeOf}
@@ -33,6 +35,9 @@ use Rattle.graphics.specs.Picture as graphics
 use Rattle.printer.proofs.Keeps as printer-keeps
 use Rattle.cassette.specs.Cassette.{CassetteGroup, readOf, cassetteLeft}
 use Rattle.cassette.specs.Fit.{FitCassette}
+use Rattle.cassette.specs.Reads.{success, warned, TapeReads, bad, ended, given}
+use Rattle.cassette.proofs.Laws.{read-closed}
+use Rattle.cassette.proofs.Reading.{read-always}
 use Rattle.cassette.proofs.Keeps as cassette-keeps
 use Rattle.console.specs.declared.Handler.{Handler}
 use Rattle.console.specs.declared.Handler.the-variants.{E, S, K}
@@ -57,13 +62,7 @@ use Rattle.alone.specs.Moves.{mostMoves, Lines, Starts}
 
 -- what an answer tells of the characters left: m before it, and so many after
 abbrev Falls : {D : Type 0} → (D → ℕ) → ℕ → Answer Got D → Type 0
-Falls left m y = (byte : ℕ) → y .says ≡ got.Character byte → (byte ≡ eol → ⊥) → m ≡ left (y .leaves) + 1
-
-character-is : (b byte : ℕ) → got.Character b ≡ got.Character byte → b ≡ byte
-character-is b byte e = cc
-
-no-character : (status byte : ℕ) → got.Refused status ≡ got.Character byte → ⊥
-no-character status byte e = let z : _≡_ {A = ℕ} 0 1 = cc in omega arith
+Falls left m y = (status byte : ℕ) → Gives (y .says) status byte → (byte ≡ eol → ⊥) → m ≡ left (y .leaves) + 1
 
 -- ---- E
 held-le : (cells : List ℕ) (place n : ℕ) → cellsHeld cells place n ≤ n
@@ -81,8 +80,8 @@ unfolding editor.getOf getAt
 text-falls t =
     let column = columnOf (t .editor .reading) in
     choose-lt (Falls leftText (leftText t)) column (endOf (t .editor .row) (t .cells)) _ _
-    (λ h byte e n. omega arith)
-    (λ h byte e n. absurd (n (sym (character-is 0x9B byte e))))
+    (λ h status byte e n. omega arith)
+    (λ h status byte e n. absurd (n (gives-byte 0x01 0x9B e (plain refl refl))))
 
 few-E : (g : ConsoleGroup) → leftE g < mostMoves
 unfolding leftE endOf
@@ -113,8 +112,8 @@ picture-falls : (cells : List ℕ) (g : Graphics) → g .column < shapeOf (g .mo
 unfolding graphics.getOf
 picture-falls cells g k =
     choose-le (Falls leftPicture (leftPicture g)) (shapeOf (g .mode) .rows) (g .row) _ _
-    (λ h byte e n. absurd (no-character 0x8D byte e))
-    (λ h byte e n. onward-falls (withLast _ g) h k)
+    (λ h status byte e n. absurd (gives-refused 0x8D e refl))
+    (λ h status byte e n. onward-falls (withLast _ g) h k)
 
 few-S : (c : Console) → leftS c < mostMoves
 unfolding leftS
@@ -139,26 +138,26 @@ unfolding leftK
 few-K c = pick-eq (λ (n : ℕ). n < mostMoves) (c .keyboard .code) 0xFF 0 1 (λ e. omega arith) (λ e. omega arith)
 
 -- a character comes only from a stored key
-stored : (k : Keyboard) (byte : ℕ) → keys.getOf k .says ≡ got.Character byte → k .code ≡ 0xFF → ⊥
-stored k byte e z =
+stored : (k : Keyboard) (status byte : ℕ) → Gives (keys.getOf k .says) status byte → k .code ≡ 0xFF → ⊥
+stored k status byte e z =
     let same : k ≡ keys.emptied k = ap (λ (code : ℕ). keys.pressOf code k) z in
-    no-character 0x88 byte (sym (ap (λ (y : Answer Got Keyboard). y .says) (ap keys.getOf same ∙ keys-keeps.get-empty k)) ∙ e)
+    gives-refused 0x88 e (ap (λ (y : Answer Got Keyboard). y .says) (ap keys.getOf same ∙ keys-keeps.get-empty k))
 
-keys-falls : (c : Console) (byte : ℕ) → readK c .says ≡ got.Character byte → leftK c ≡ leftK (readK c .leaves) + 1
+keys-falls : (c : Console) (status byte : ℕ) → Gives (readK c .says) status byte → leftK c ≡ leftK (readK c .leaves) + 1
 unfolding readK leftK
-keys-falls c byte e =
+keys-falls c status byte e =
     let k = c .keyboard in
-    rw (ne-eqb (k .code) 0xFF (stored k byte e), eq-eqb (keys.getOf k .leaves .code) 0xFF (keys-keeps.get-empties k))
+    rw (ne-eqb (k .code) 0xFF (stored k status byte e), eq-eqb (keys.getOf k .leaves .code) 0xFF (keys-keeps.get-empties k))
 
-console-falls : (h : Handler) (g : ConsoleGroup) (byte : ℕ) → FitGroup g → InUse h (g .console) → console-acts.readOf h g .says ≡ got.Character byte → (byte ≡ eol → ⊥)
+console-falls : (h : Handler) (g : ConsoleGroup) (status byte : ℕ) → FitGroup g → InUse h (g .console) → Gives (console-acts.readOf h g .says) status byte → (byte ≡ eol → ⊥)
     → consoleLeft h g ≡ consoleLeft h (console-acts.readOf h g .leaves) + 1
 unfolding consoleLeft console-acts.readOf readE readS leftE leftS
-console-falls E g byte f u e n = text-falls (textOf g) byte e n
-console-falls S g byte f u e n =
+console-falls E g status byte f u e n = text-falls (textOf g) status byte e n
+console-falls S g status byte f u e n =
     let c = g .console in
     let fits = fits-of c (f .fit) in
-    picture-falls (g .screen) (graphicsOf c) (column-in (c .mode) (c .row) (c .column) u (fits .cursor)) byte e n
-console-falls K g byte f u e n = keys-falls (g .console) byte e
+    picture-falls (g .screen) (graphicsOf c) (column-in (c .mode) (c .row) (c .column) u (fits .cursor)) status byte e n
+console-falls K g status byte f u e n = keys-falls (g .console) status byte e
 
 console-few : (h : Handler) (g : ConsoleGroup) → consoleLeft h g < mostMoves
 unfolding consoleLeft
@@ -167,8 +166,13 @@ console-few S g = few-S (g .console)
 console-few K g = few-K (g .console)
 
 -- ---- C
-on-more : (says : Got) (n m : ℕ) → ((byte : ℕ) → says ≡ got.Character byte → n ≡ m) → oneMore says n ≡ oneMore says m
-on-more (got.Character byte) n m h = ap suc (h byte refl)
+more-given : (says : Got) (status byte n : ℕ) → Gives says status byte → oneMore says n ≡ suc n
+more-given says status byte n (plain e z) = rw e
+more-given says status byte n (warns e z) = rw e
+
+on-more : (says : Got) (n m : ℕ) → ((status byte : ℕ) → Gives says status byte → n ≡ m) → oneMore says n ≡ oneMore says m
+on-more (got.Character byte) n m h = ap suc (h 0x01 byte (plain refl refl))
+on-more (got.Last byte) n m h = ap suc (h 0x03 byte (warns refl refl))
 on-more (got.Refused status) n m h = refl
 
 few-C : (most : ℕ) (g : CassetteGroup) → readsOf most g ≤ most
@@ -178,6 +182,7 @@ few-C (suc n) g = go (readOf g .says) (few-C n (readOf g .leaves))
   where
     go : (says : Got) → readsOf n (readOf g .leaves) ≤ n → oneMore says (readsOf n (readOf g .leaves)) ≤ suc n
     go (got.Character byte) h = omega arith
+    go (got.Last byte) h = omega arith
     go (got.Refused status) h = omega arith
 
 -- where the tape has no more characters than are asked for, one more changes nothing
@@ -186,21 +191,53 @@ unfolding readsOf
 enough zero g f h = none (readOf g .says) refl
   where
     none : (says : Got) → readOf g .says ≡ says → oneMore says (readsOf 0 (readOf g .leaves)) ≡ 0
-    none (got.Character byte) e = absurd (omega (arith, cassette-keeps.read-falls g f byte e))
+    none (got.Character byte) e = absurd (omega (arith, cassette-keeps.read-falls g f 0x01 byte (plain e refl)))
+    none (got.Last byte) e = absurd (omega (arith, cassette-keeps.read-falls g f 0x03 byte (warns e refl)))
     none (got.Refused status) e = refl
 enough (suc n) g f h =
     on-more (readOf g .says) (readsOf (suc n) (readOf g .leaves)) (readsOf n (readOf g .leaves))
-    (λ byte e. enough n (readOf g .leaves) (cassette-keeps.read-fit g f) (omega (arith, cassette-keeps.read-falls g f byte e)))
+    (λ status byte e. enough n (readOf g .leaves) (cassette-keeps.read-fit g f) (omega (arith, cassette-keeps.read-falls g f status byte e)))
 
-one-fewer : (n : ℕ) (g : CassetteGroup) (byte : ℕ) → FitCassette g → cassetteLeft g ≤ suc n → readOf g .says ≡ got.Character byte → readsOf (suc n) g ≡ suc (readsOf (suc n) (readOf g .leaves))
+one-fewer : (n : ℕ) (g : CassetteGroup) (status byte : ℕ) → FitCassette g → cassetteLeft g ≤ suc n → Gives (readOf g .says) status byte → readsOf (suc n) g ≡ suc (readsOf (suc n) (readOf g .leaves))
 unfolding readsOf
-one-fewer n g byte f h e =
-    ap (λ (says : Got). oneMore says (readsOf n (readOf g .leaves))) e
-    ∙ sym (ap suc (enough n (readOf g .leaves) (cassette-keeps.read-fit g f) (omega (arith, cassette-keeps.read-falls g f byte e))))
+one-fewer n g status byte f h e =
+    more-given (readOf g .says) status byte (readsOf n (readOf g .leaves)) e
+    ∙ sym (ap suc (enough n (readOf g .leaves) (cassette-keeps.read-fit g f) (omega (arith, cassette-keeps.read-falls g f status byte e))))
 
-tape-falls : (g : CassetteGroup) (byte : ℕ) → FitCassette g → readOf g .says ≡ got.Character byte → leftC g ≡ leftC (readOf g .leaves) + 1
+tape-falls : (g : CassetteGroup) (status byte : ℕ) → FitCassette g → Gives (readOf g .says) status byte → leftC g ≡ leftC (readOf g .leaves) + 1
 unfolding leftC
-tape-falls g byte f e = one-fewer 31999 g byte f (cassette-keeps.left-bound g) e ∙ sym (add-one (readsOf 32000 (readOf g .leaves)))
+tape-falls g status byte f e = one-fewer 31999 g status byte f (cassette-keeps.left-bound g) e ∙ sym (add-one (readsOf 32000 (readOf g .leaves)))
+
+-- "A handler status from $80": each refusal of a character has one
+reads-high : (g : CassetteGroup) (a : Answer Got CassetteGroup) → TapeReads g a → gotHigh (a .says)
+reads-high g a (bad r p s l w e) = rw e (omega arith)
+reads-high g a (ended r p s t e) = rw e (omega arith)
+reads-high g a (given r p n says s l w h (success x f) e) = rw (e, f) tt
+reads-high g a (given r p n says s l w h (warned x f) e) = rw (e, f) tt
+
+pub tape-read-high : (g : CassetteGroup) → gotHigh (readOf g .says)
+tape-read-high g =
+    by-eq (g .cassette .mark) 1
+    (λ m. reads-high g (readOf g) (read-always g m))
+    (λ m. rw (← read-closed (g .cassette) (g .tape) m) (omega arith))
+
+pub read-high : (o : Owner) (asked : Asked) (x : Part (groupIn o)) → gotHigh (ownActs o asked .reads x .says)
+unfolding console-acts.readOf readE readS readK editor.getOf getAt graphics.getOf keys.getOf keys.struckBy
+read-high (owner.Console E) asked x =
+    by-test (ltb (columnOf (x .console .reading)) (endOf (x .console .row) (x .screen)))
+    (λ t. rw t tt)
+    (λ t. rw t tt)
+read-high (owner.Console S) asked x =
+    by-test (leb (shapeOf (x .console .mode) .rows) (x .console .row))
+    (λ t. rw t (omega arith))
+    (λ t. rw t tt)
+read-high (owner.Console K) asked x =
+    let k = x .console .keyboard in
+    by-test (ltb (translateOf (k .code) (k .lock) (k .inverse)) 256)
+    (λ t. rw t tt)
+    (λ t. rw t (omega arith))
+read-high owner.Printer asked x = omega arith
+read-high owner.Cassette asked x = tape-read-high x
 
 -- a device of a group, by its owner
 pub owner-lines : (o : Owner) (asked : Asked) → Lines (ownActs o asked) (ownerLeft o) (FitOwn o)
@@ -208,19 +245,22 @@ unfolding printerLeft leftC
 owner-lines (owner.Console h) asked = record {
   read-fit = λ g f. (read-fit g (f .0) h (f .1), read-use g (f .0) h (f .1));
   write-fit = λ byte g f. (write-fit g (f .0) h byte (f .1), write-use g (f .0) h byte (f .1));
-  falls = λ g byte f. console-falls h g byte (f .0) (f .1);
+  falls = λ g status byte f. console-falls h g status byte (f .0) (f .1);
+  high = λ g. read-high (owner.Console h) asked g;
   few = λ g f. console-few h g;
 }
 owner-lines owner.Printer asked = record {
   read-fit = λ g f. f;
   write-fit = λ byte g f. (printer-keeps.put-fit byte g (f .0), tt);
-  falls = λ g byte f e n. absurd (no-character 0x83 byte e);
+  falls = λ g status byte f e n. absurd (gives-refused 0x83 e refl);
+  high = λ g. read-high owner.Printer asked g;
   few = λ g f. omega arith;
 }
 owner-lines owner.Cassette asked = record {
   read-fit = λ g f. (cassette-keeps.read-fit g (f .0), tt);
   write-fit = λ byte g f. (cassette-keeps.write-fit byte g (f .0), tt);
-  falls = λ g byte f e n. tape-falls g byte (f .0) e;
+  falls = λ g status byte f e n. tape-falls g status byte (f .0) e;
+  high = λ g. read-high owner.Cassette asked g;
   few = λ g f. omega (arith, few-C 32000 g);
 }
 
@@ -277,6 +317,6 @@ device-starts d = record {
 }
 
 -- with no character left, the next one read is the EOL, or is refused
-pub none-left : {D : Type 0} (H : Acts D) (left : D → ℕ) (Fit : D → Type 0) → Lines H left Fit → (x : D) (byte : ℕ) → Fit x → left x ≡ 0
-    → H .reads x .says ≡ got.Character byte → byte ≡ eol
-none-left H left Fit Z x byte f z e = by-eq byte eol (λ q. q) (λ n. absurd (omega (arith, z, Z .falls x byte f e n)))
+pub none-left : {D : Type 0} (H : Acts D) (left : D → ℕ) (Fit : D → Type 0) → Lines H left Fit → (x : D) (status byte : ℕ) → Fit x → left x ≡ 0
+    → Gives (H .reads x .says) status byte → byte ≡ eol
+none-left H left Fit Z x status byte f z e = by-eq byte eol (λ q. q) (λ n. absurd (omega (arith, z, Z .falls x status byte f e n)))

@@ -13,6 +13,7 @@ use Rattle.handler.specs.declared.Done.{Done}
 use Rattle.handler.specs.declared.Done.the-variants as done
 use Rattle.handler.specs.declared.Got.{Got}
 use Rattle.handler.specs.declared.Got.the-variants as got
+use Rattle.handler.specs.Answer.{Gives, plain, warns}
 use Rattle.handler.specs.Acts.{Acts}
 use Rattle.blocks.specs.declared.Device.{Device}
 use Rattle.blocks.specs.declared.Kind.{Kind}
@@ -82,38 +83,38 @@ module _ (kind : Kind) (device : Device) (iocb place count a : ℕ) where
   further-is : (n : ℕ) → furtherOf (runBy kind device iocb (suc n) place count a) ≡ runBy kind device iocb n (place + 1) (count + 1) a
   further-is n = let e : suc n - 1 ≡ n = omega arith in rw e
 
-  abbrev onwards : ℕ → Next
-  onwards zero = Off 0x01 (count + 1) a
-  onwards (suc n) = On (runBy kind device iocb (suc n) (place + 1) (count + 1) a)
+  abbrev onwards : (status n : ℕ) → Next
+  onwards status zero = Off status (count + 1) a
+  onwards status (suc n) = On (runBy kind device iocb (suc n) (place + 1) (count + 1) a)
 
-  onward-by : (n : ℕ) → onwardOf (runBy kind device iocb n (place + 1) (count + 1) a) ≡ onwards n
+  onward-by : (status n : ℕ) → onwardOf (runBy kind device iocb n (place + 1) (count + 1) a) status ≡ onwards status n
   unfolding onwardOf
-  onward-by zero = refl
-  onward-by (suc n) = rw (ne-eqb (suc n) 0 (λ e. omega arith))
+  onward-by status zero = refl
+  onward-by status (suc n) = rw (ne-eqb (suc n) 0 (λ e. omega arith))
 
-  onward-is : (n : ℕ) → onwardOf (furtherOf (runBy kind device iocb (suc n) place count a)) ≡ onwards n
-  onward-is n = ap onwardOf (further-is n) ∙ onward-by n
+  onward-is : (status n : ℕ) → onwardOf (furtherOf (runBy kind device iocb (suc n) place count a)) status ≡ onwards status n
+  onward-is status n = ap (λ (run : Run). onwardOf run status) (further-is n) ∙ onward-by status n
 
   -- a record's next, by the test of its EOL
-  abbrev recorded : Bool → ℕ → Next
-  recorded t n = pick t (Off 0x01 (count + 1) a) (On (runBy kind device iocb n (place + 1) (count + 1) a))
+  abbrev recorded : Bool → (status n : ℕ) → Next
+  recorded t status n = pick t (Off status (count + 1) a) (On (runBy kind device iocb n (place + 1) (count + 1) a))
 
-  record-is : (n byte : ℕ) → recordOf (furtherOf (runBy kind device iocb (suc n) place count a)) byte ≡ recorded (eqb byte eol) n
+  record-is : (n status byte : ℕ) → recordOf (furtherOf (runBy kind device iocb (suc n) place count a)) status byte ≡ recorded (eqb byte eol) status n
   unfolding recordOf
-  record-is n byte = ap (λ (run : Run). pick (eqb byte eol) (endedOf 0x01 run) (On run)) (further-is n)
+  record-is n status byte = ap (λ (run : Run). pick (eqb byte eol) (endedOf status run) (On run)) (further-is n)
 
-  got-some : (n byte : ℕ) (area : List ℕ) → gotCharacter Record (runBy kind device iocb (suc n) place count a) byte area ≡ progress (recorded (eqb byte eol) n) (set area place byte)
+  got-some : (n status byte : ℕ) (area : List ℕ) → gotCharacter Record (runBy kind device iocb (suc n) place count a) status byte area ≡ progress (recorded (eqb byte eol) status n) (set area place byte)
   unfolding gotCharacter
-  got-some n byte area = rw (ne-eqb (suc n) 0 (λ e. omega arith), record-is n byte)
+  got-some n status byte area = rw (ne-eqb (suc n) 0 (λ e. omega arith), record-is n status byte)
 
-  got-none : (byte : ℕ) (area : List ℕ)
-      → gotCharacter Record (runBy kind device iocb zero place count a) byte area ≡ progress (pick (eqb byte eol) (Off 0x89 count a) (On (runBy kind device iocb zero place count a))) area
+  got-none : (status byte : ℕ) (area : List ℕ)
+      → gotCharacter Record (runBy kind device iocb zero place count a) status byte area ≡ progress (pick (eqb byte eol) (Off 0x89 count a) (On (runBy kind device iocb zero place count a))) area
   unfolding gotCharacter
-  got-none byte area = refl
+  got-none status byte area = refl
 
-  sent-some : (n byte : ℕ) → sentRecord (runBy kind device iocb (suc n) place count a) byte ≡ recorded (eqb byte eol) n
+  sent-some : (n byte : ℕ) → sentRecord (runBy kind device iocb (suc n) place count a) byte ≡ recorded (eqb byte eol) 0x01 n
   unfolding sentRecord
-  sent-some n byte = rw (ne-eqb (suc n) 0 (λ e. omega arith)) (record-is n byte)
+  sent-some n byte = rw (ne-eqb (suc n) 0 (λ e. omega arith)) (record-is n 0x01 byte)
 
   sent-none : (byte : ℕ) → sentRecord (runBy kind device iocb zero place count a) byte ≡ Off 0x01 count a
   unfolding sentRecord
@@ -130,13 +131,14 @@ module _ (kind : Kind) (device : Device) (iocb place count a : ℕ) where
 module _ {D : Type 0} (H : Acts D) (left : D → ℕ) (device : Device) (iocb a : ℕ) where
   -- what of `left` is known when the handler says this
   abbrev Falls : ℕ → Got → D → Type 0
-  Falls m says y = (byte : ℕ) → says ≡ got.Character byte → (byte ≡ eol → ⊥) → m ≡ left y + 1
+  Falls m says y = (status byte : ℕ) → Gives says status byte → (byte ≡ eol → ⊥) → m ≡ left y + 1
 
   get-one : (n place count : ℕ) (area : List ℕ) (says : Got) (y : D)
       → restOf H left (gotStep One (runBy (Get One) device iocb n place count a) says area y)
-      ≡ onGot says (λ byte. last area y 0x01 count byte) (λ status. last area y status count a)
+      ≡ onGot says (λ status byte. last area y status count byte) (λ status. last area y status count a)
   unfolding gotOf gotCharacter
   get-one n place count area (got.Character byte) y = refl
+  get-one n place count area (got.Last byte) y = refl
   get-one n place count area (got.Refused status) y = refl
 
   put-one : (n place count : ℕ) (area : List ℕ) (says : Done) (y : D)
@@ -146,26 +148,32 @@ module _ {D : Type 0} (H : Acts D) (left : D → ℕ) (device : Device) (iocb a 
   put-one n place count area done.Success y = refl
   put-one n place count area (done.Refused status) y = refl
 
-  got-onwards : (n place count : ℕ) (area : List ℕ) (y : D)
-      → restNext H left (onwards (Get Characters) device iocb place count a n) area y
-      ≡ next (point area y (count + 1)) (getCharacters H left a n (place + 1) (count + 1) area y)
+  got-onwards : (status n place count : ℕ) (area : List ℕ) (y : D)
+      → restNext H left (onwards (Get Characters) device iocb place count a status n) area y
+      ≡ next (point area y (count + 1)) (getCharacters H left a status n (place + 1) (count + 1) area y)
   unfolding getCharacters getting transferred
-  got-onwards zero place count area y = refl
-  got-onwards (suc n) place count area y = refl
+  got-onwards status zero place count area y = refl
+  got-onwards status (suc n) place count area y = refl
+
+  got-on : (status n place count byte : ℕ) (area : List ℕ) (y : D)
+      → restNext H left (onwardOf (furtherOf (runBy (Get Characters) device iocb (suc n) place count a)) status) (set area place byte) y
+      ≡ next (point (set area place byte) y (count + 1)) (getCharacters H left a status n (place + 1) (count + 1) (set area place byte) y)
+  got-on status n place count byte area y =
+      ap (λ (m : Next). restNext H left m (set area place byte) y) (onward-is (Get Characters) device iocb place count a status n)
+      ∙ got-onwards status n place count (set area place byte) y
 
   get-characters : (n place count : ℕ) (area : List ℕ) (says : Got) (y : D)
       → restOf H left (gotStep Characters (runBy (Get Characters) device iocb (suc n) place count a) says area y)
       ≡ onGot says
-      (λ byte. next (point (set area place byte) y (count + 1)) (getCharacters H left a n (place + 1) (count + 1) (set area place byte) y))
+      (λ status byte. next (point (set area place byte) y (count + 1)) (getCharacters H left a status n (place + 1) (count + 1) (set area place byte) y))
       (λ status. last area y status count a)
   unfolding gotOf gotCharacter
-  get-characters n place count area (got.Character byte) y =
-      ap (λ (m : Next). restNext H left m (set area place byte) y) (onward-is (Get Characters) device iocb place count a n)
-      ∙ got-onwards n place count (set area place byte) y
+  get-characters n place count area (got.Character byte) y = got-on 0x01 n place count byte area y
+  get-characters n place count area (got.Last byte) y = got-on 0x03 n place count byte area y
   get-characters n place count area (got.Refused status) y = refl
 
   put-onwards : (n place count : ℕ) (area : List ℕ) (y : D)
-      → restNext H left (onwards (Put Characters) device iocb place count a n) area y
+      → restNext H left (onwards (Put Characters) device iocb place count a 0x01 n) area y
       ≡ next (point area y (count + 1)) (putCharacters H left a n (place + 1) (count + 1) area y)
   unfolding putCharacters putting transferred
   put-onwards zero place count area y = refl
@@ -178,31 +186,39 @@ module _ {D : Type 0} (H : Acts D) (left : D → ℕ) (device : Device) (iocb a 
       (λ status. last area y status count a)
   unfolding sentOf sentNext
   put-characters n place count area done.Success y =
-      ap (λ (m : Next). restNext H left m area y) (onward-is (Put Characters) device iocb place count a n) ∙ put-onwards n place count area y
+      ap (λ (m : Next). restNext H left m area y) (onward-is (Put Characters) device iocb place count a 0x01 n) ∙ put-onwards n place count area y
   put-characters n place count area (done.Refused status) y = refl
 
-  get-recorded : (t : Bool) (n place count : ℕ) (area : List ℕ) (y : D)
-      → restNext H left (recorded (Get Record) device iocb place count a t n) area y
-      ≡ choose t (λ u. last area y 0x01 (count + 1) a) (λ u. next (point area y (count + 1)) (getRecord H left a n (place + 1) (count + 1) area y))
+  get-recorded : (t : Bool) (status n place count : ℕ) (area : List ℕ) (y : D)
+      → restNext H left (recorded (Get Record) device iocb place count a t status n) area y
+      ≡ choose t (λ u. last area y status (count + 1) a) (λ u. next (point area y (count + 1)) (getRecord H left a n (place + 1) (count + 1) area y))
   unfolding getting transferred
-  get-recorded true n place count area y = refl
-  get-recorded false n place count area y = refl
+  get-recorded true status n place count area y = refl
+  get-recorded false status n place count area y = refl
+
+  got-recorded : (status n place count byte : ℕ) (area : List ℕ) (y : D)
+      → let p = gotCharacter Record (runBy (Get Record) device iocb (suc n) place count a) status byte area in restNext H left (p .next) (p .area) y
+      ≡ choose (eqb byte eol)
+      (λ u. last (set area place byte) y status (count + 1) a)
+      (λ u. next (point (set area place byte) y (count + 1)) (getRecord H left a n (place + 1) (count + 1) (set area place byte) y))
+  got-recorded status n place count byte area y =
+      ap (λ (p : Progress). restNext H left (p .next) (p .area) y) (got-some (Get Record) device iocb place count a n status byte area)
+      ∙ get-recorded (eqb byte eol) status n place count (set area place byte) y
 
   get-record : (n place count : ℕ) (area : List ℕ) (says : Got) (y : D)
       → restOf H left (gotStep Record (runBy (Get Record) device iocb (suc n) place count a) says area y)
       ≡ onGot says
-      (λ byte. choose (eqb byte eol)
-      (λ u. last (set area place byte) y 0x01 (count + 1) a)
+      (λ status byte. choose (eqb byte eol)
+      (λ u. last (set area place byte) y status (count + 1) a)
       (λ u. next (point (set area place byte) y (count + 1)) (getRecord H left a n (place + 1) (count + 1) (set area place byte) y)))
       (λ status. last area y status count a)
   unfolding gotOf
-  get-record n place count area (got.Character byte) y =
-      ap (λ (p : Progress). restNext H left (p .next) (p .area) y) (got-some (Get Record) device iocb place count a n byte area)
-      ∙ get-recorded (eqb byte eol) n place count (set area place byte) y
+  get-record n place count area (got.Character byte) y = got-recorded 0x01 n place count byte area y
+  get-record n place count area (got.Last byte) y = got-recorded 0x03 n place count byte area y
   get-record n place count area (got.Refused status) y = refl
 
   put-recorded : (t : Bool) (n place count : ℕ) (area : List ℕ) (y : D)
-      → restNext H left (recorded (Put Record) device iocb place count a t n) area y
+      → restNext H left (recorded (Put Record) device iocb place count a t 0x01 n) area y
       ≡ choose t (λ u. last area y 0x01 (count + 1) a) (λ u. next (point area y (count + 1)) (putRecord H left a n (place + 1) (count + 1) area y))
   unfolding putting transferred
   put-recorded true n place count area y = refl
@@ -229,14 +245,18 @@ module _ {D : Type 0} (H : Acts D) (left : D → ℕ) (device : Device) (iocb a 
 
   -- dropping, by what the handler says and leaves
   abbrev dropped : ℕ → (count : ℕ) → List ℕ → Got → D → TransferEnd D
-  dropped zero count area says y = onGot says (λ byte. last area y 0x89 count a) (λ status. last area y status count a)
+  dropped zero count area says y = onGot says (λ status byte. last area y 0x89 count a) (λ status. last area y status count a)
   dropped (suc m) count area says y =
       onGot says
-      (λ byte. choose (eqb byte eol) (λ u. last area y 0x89 count a) (λ u. next (point area y count) (dropLine H left a m count area y)))
+      (λ status byte. choose (eqb byte eol) (λ u. last area y 0x89 count a) (λ u. next (point area y count) (dropLine H left a m count area y)))
       (λ status. last area y status count a)
 
+  -- a character that is dropped, whichever its status
+  abbrev droppedBy : ℕ → (count : ℕ) → List ℕ → (byte : ℕ) → D → TransferEnd D
+  droppedBy m count area byte y = dropped m count area (got.Character byte) y
+
   drop-next : (m place count : ℕ) (area : List ℕ) (y : D) (byte : ℕ) (t : Bool) → eqb byte eol ≡ t → ((byte ≡ eol → ⊥) → m ≡ left y + 1)
-      → restNext H left (pick t (Off 0x89 count a) (On (runBy (Get Record) device iocb zero place count a))) area y ≡ dropped m count area (got.Character byte) y
+      → restNext H left (pick t (Off 0x89 count a) (On (runBy (Get Record) device iocb zero place count a))) area y ≡ droppedBy m count area byte y
   unfolding getting transferred getRecord
   drop-next zero place count area y byte true e f = refl
   drop-next zero place count area y byte false e f = let z = f (eqb-false byte eol e) in absurd (omega arith)
@@ -246,12 +266,18 @@ module _ {D : Type 0} (H : Acts D) (left : D → ℕ) (device : Device) (iocb a 
       let w : left y ≡ m = omega arith in
       rw (e, w)
 
+  drop-given : (m place count status byte : ℕ) (area : List ℕ) (y : D) → ((byte ≡ eol → ⊥) → m ≡ left y + 1)
+      → let p = gotCharacter Record (runBy (Get Record) device iocb zero place count a) status byte area in restNext H left (p .next) (p .area) y ≡ droppedBy m count area byte y
+  drop-given m place count status byte area y f =
+      ap (λ (p : Progress). restNext H left (p .next) (p .area) y) (got-none (Get Record) device iocb place count a status byte area)
+      ∙ drop-next m place count area y byte (eqb byte eol) refl f
+
   drop-line : (m place count : ℕ) (area : List ℕ) (says : Got) (y : D) → Falls m says y
       → restOf H left (gotStep Record (runBy (Get Record) device iocb zero place count a) says area y) ≡ dropped m count area says y
   unfolding gotOf
-  drop-line m place count area (got.Character byte) y f =
-      ap (λ (p : Progress). restNext H left (p .next) (p .area) y) (got-none (Get Record) device iocb place count a byte area)
-      ∙ drop-next m place count area y byte (eqb byte eol) refl (f byte refl)
+  drop-line m place count area (got.Character byte) y f = drop-given m place count 0x01 byte area y (f 0x01 byte (plain refl refl))
+  drop-line zero place count area (got.Last byte) y f = drop-given zero place count 0x03 byte area y (f 0x03 byte (warns refl refl))
+  drop-line (suc m) place count area (got.Last byte) y f = drop-given (suc m) place count 0x03 byte area y (f 0x03 byte (warns refl refl))
   drop-line zero place count area (got.Refused status) y f = refl
   drop-line (suc m) place count area (got.Refused status) y f = refl
 
@@ -268,7 +294,7 @@ module _ {D : Type 0} (H : Acts D) (left : D → ℕ) (device : Device) (iocb a 
     got-rest Characters zero s = absurd (omega arith)
     got-rest Characters (suc n) s = get-characters n place count area (H .reads x .says) (H .reads x .leaves)
     got-rest Record zero s =
-        drop-line (left x) place count area (H .reads x .says) (H .reads x .leaves) (λ byte. Z .falls x byte f) ∙ dropped-is (left x) count area x
+        drop-line (left x) place count area (H .reads x .says) (H .reads x .leaves) (λ status byte. Z .falls x status byte f) ∙ dropped-is (left x) count area x
     got-rest Record (suc n) s = get-record n place count area (H .reads x .says) (H .reads x .leaves)
 
     sent-rest : (way : Way) (n : ℕ) → Some way n

@@ -84,37 +84,38 @@ GoesOn run way (On later) = (later .kind ≡ run .kind) × ((later .device ≡ r
 GoesOn run way (Off status count a) = Unit {0}
 
 module _ (run : Run) where
-  onward-spans : Span Characters (run .left) (run .place) (run .count) → GoesOn run Characters (onwardOf (furtherOf run))
+  onward-spans : (status : ℕ) → Span Characters (run .left) (run .place) (run .count) → GoesOn run Characters (onwardOf (furtherOf run) status)
   unfolding onwardOf
-  onward-spans h =
-      pick-eq (GoesOn run Characters) (run .left - 1) 0 (endedOf 0x01 (furtherOf run)) (On (furtherOf run)) (λ e. tt)
+  onward-spans status h =
+      pick-eq (GoesOn run Characters) (run .left - 1) 0 (endedOf status (furtherOf run)) (On (furtherOf run)) (λ e. tt)
       (λ e. (refl, (refl, (refl, (omega arith, (omega (arith, h .0, h .1 .0), omega (arith, h .1 .1)))))))
 
-  record-spans : (byte : ℕ) → (run .left ≡ 0 → ⊥) → Span Record (run .left) (run .place) (run .count) → GoesOn run Record (recordOf (furtherOf run) byte)
+  record-spans : (status byte : ℕ) → (run .left ≡ 0 → ⊥) → Span Record (run .left) (run .place) (run .count) → GoesOn run Record (recordOf (furtherOf run) status byte)
   unfolding recordOf
-  record-spans byte n h =
-      pick-eq (GoesOn run Record) byte eol (endedOf 0x01 (furtherOf run)) (On (furtherOf run)) (λ e. tt)
+  record-spans status byte n h =
+      pick-eq (GoesOn run Record) byte eol (endedOf status (furtherOf run)) (On (furtherOf run)) (λ e. tt)
       (λ e. (refl, (refl, (refl, (omega arith, (omega (arith, n, h .1 .0), omega (arith, h .1 .1)))))))
 
-  character-spans : (way : Way) (byte : ℕ) (area : List ℕ) → Span way (run .left) (run .place) (run .count) → GoesOn run way (gotCharacter way run byte area .next)
+  character-spans : (way : Way) (status byte : ℕ) (area : List ℕ) → Span way (run .left) (run .place) (run .count) → GoesOn run way (gotCharacter way run status byte area .next)
   unfolding gotCharacter
-  character-spans One byte area h = tt
-  character-spans Characters byte area h = onward-spans h
-  character-spans Record byte area h =
+  character-spans One status byte area h = tt
+  character-spans Characters status byte area h = onward-spans status h
+  character-spans Record status byte area h =
       choose-eq (λ (p : Progress). GoesOn run Record (p .next)) (run .left) 0 _ _
       (λ e. pick-eq (GoesOn run Record) byte eol (endedOf 0x89 run) (On run) (λ q. tt) (λ q. (refl, (refl, (refl, h)))))
-      (λ n. record-spans byte n h)
+      (λ n. record-spans status byte n h)
 
   got-spans : (way : Way) (says : Got) (area : List ℕ) → Span way (run .left) (run .place) (run .count) → GoesOn run way (gotOf way run says area .next)
   unfolding gotOf
-  got-spans way (got.Character byte) area h = character-spans way byte area h
+  got-spans way (got.Character byte) area h = character-spans way 0x01 byte area h
+  got-spans way (got.Last byte) area h = character-spans way 0x03 byte area h
   got-spans way (got.Refused status) area h = tt
 
   sent-next-spans : (way : Way) (byte : ℕ) → Span way (run .left) (run .place) (run .count) → GoesOn run way (sentNext way run byte)
   unfolding sentNext sentRecord
   sent-next-spans One byte h = tt
-  sent-next-spans Characters byte h = onward-spans h
-  sent-next-spans Record byte h = choose-eq (GoesOn run Record) (run .left) 0 _ _ (λ e. tt) (λ n. record-spans byte n h)
+  sent-next-spans Characters byte h = onward-spans 0x01 h
+  sent-next-spans Record byte h = choose-eq (GoesOn run Record) (run .left) 0 _ _ (λ e. tt) (λ n. record-spans 0x01 byte n h)
 
   sent-spans : (way : Way) (byte : ℕ) (says : Done) → Span way (run .left) (run .place) (run .count) → GoesOn run way (sentOf way run byte says)
   unfolding sentOf

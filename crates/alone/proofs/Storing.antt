@@ -10,13 +10,15 @@ use lib.ListN.{length, getD, set, length-set}
 use lib.Seq.{getD-set-same, getD-set-other}
 use Rattle.base.proofs.Choices.{choose-eq}
 use Rattle.handler.specs.declared.Got.the-variants as got
+use Rattle.handler.specs.Answer.{Gives}
 use Rattle.handler.specs.Acts.{Acts}
+use Rattle.handler.proofs.Giving.{gives-byte}
 use Rattle.blocks.specs.declared.Way.{Way}
 use Rattle.blocks.specs.declared.Way.the-variants.{One, Characters, Record}
 use Rattle.transfer.specs.Transfer.{eol}
 use Rattle.alone.specs.Transfer.{TransferEnd, getOne, putOne, getCharacters, dropLine, getRecord, putCharacters, putRecord, getting, putting}
 use Rattle.alone.specs.Ending.{readSays, Stores}
-use Rattle.alone.proofs.Ending.{on-got, on-done, characterIn, LengthFits}
+use Rattle.alone.proofs.Ending.{on-got, on-done, LengthFits}
 
 module _ {D : Type 0} (H : Acts D) (left : D → ℕ) (a : ℕ) where
   -- so many more are counted than before, and stored
@@ -31,46 +33,46 @@ module _ {D : Type 0} (H : Acts D) (left : D → ℕ) (a : ℕ) where
     more = 0;
     count = omega arith;
     stores = record {
-      stored = λ k byte h. absurd (omega arith);
+      stored = λ k status byte h. absurd (omega arith);
       apart = λ i h. ap (λ (l : List ℕ). getD l i 0) e;
     };
   }
 
   -- a character is stored, and then so many more
-  one-more : (x : D) (place more byte : ℕ) (area after : List ℕ) → place < length area → H .reads x .says ≡ got.Character byte
+  one-more : (x : D) (place more status byte : ℕ) (area after : List ℕ) → place < length area → Gives (H .reads x .says) status byte
       → Stores H (H .reads x .leaves) (place + 1) more (set area place byte) after → Stores H x place (suc more) area after
-  one-more x place more byte area after h e s = record {
+  one-more x place more status byte area after h e s = record {
     stored = at;
     apart = beside;
   }
     where
-      at : (k b : ℕ) → k < suc more → readSays H k x ≡ got.Character b → getD after (place + k) 0 ≡ b
-      at zero b l f =
+      at : (k t b : ℕ) → k < suc more → Gives (readSays H k x) t b → getD after (place + k) 0 ≡ b
+      at zero t b l f =
           ap (λ (i : ℕ). getD after i 0) (add-zero place)
           ∙ s .apart place (inl (omega arith))
           ∙ getD-set-same area place byte 0 h
-          ∙ ap characterIn (sym e ∙ f)
-      at (suc k) b l f =
+          ∙ gives-byte t b e f
+      at (suc k) t b l f =
           let q : place + suc k ≡ place + 1 + k = omega arith in
-          ap (λ (i : ℕ). getD after i 0) q ∙ s .stored k b (omega arith) f
+          ap (λ (i : ℕ). getD after i 0) q ∙ s .stored k t b (omega arith) f
 
       beside : (i : ℕ) → (i < place) ⊎ (place + suc more ≤ i) → getD after i 0 ≡ getD area i 0
       beside i (inl g) = s .apart i (inl (omega arith)) ∙ getD-set-other area place i byte 0 (λ q. omega arith)
       beside i (inr g) = s .apart i (inr (omega arith)) ∙ getD-set-other area place i byte 0 (λ q. omega arith)
 
   -- the last one
-  only-one : (x : D) (place byte : ℕ) (area : List ℕ) → place < length area → H .reads x .says ≡ got.Character byte → Stores H x place 1 area (set area place byte)
-  only-one x place byte area h e =
-      one-more x place 0 byte area (set area place byte) h e (record { stored = λ k b l f. absurd (omega arith); apart = λ i g. refl })
+  only-one : (x : D) (place status byte : ℕ) (area : List ℕ) → place < length area → Gives (H .reads x .says) status byte → Stores H x place 1 area (set area place byte)
+  only-one x place status byte area h e =
+      one-more x place 0 status byte area (set area place byte) h e (record { stored = λ k t b l f. absurd (omega arith); apart = λ i g. refl })
 
-  get-characters : (n place count : ℕ) (area : List ℕ) (x : D) → place + n ≤ length area → Puts x place count area (getCharacters H left a n place count area x)
+  get-characters : (said n place count : ℕ) (area : List ℕ) (x : D) → place + n ≤ length area → Puts x place count area (getCharacters H left a said n place count area x)
   unfolding getCharacters
-  get-characters zero place count area x h = none x place count area _ refl refl
-  get-characters (suc n) place count area x h =
+  get-characters said zero place count area x h = none x place count area _ refl refl
+  get-characters said (suc n) place count area x h =
       on-got (Puts x place count area) (H .reads x .says) _ _
-      (λ byte e.
-      let t = get-characters n (place + 1) (count + 1) (set area place byte) (H .reads x .leaves) (omega (arith, length-set area place byte)) in
-      record { more = suc (t .more); count = omega (arith, t .count); stores = one-more x place (t .more) byte area _ (omega arith) e (t .stores) })
+      (λ status byte e.
+      let t = get-characters status n (place + 1) (count + 1) (set area place byte) (H .reads x .leaves) (omega (arith, length-set area place byte)) in
+      record { more = suc (t .more); count = omega (arith, t .count); stores = one-more x place (t .more) status byte area _ (omega arith) e (t .stores) })
       (λ status e. none x place count area _ refl refl)
 
   -- "characters are dropped through the EOL"
@@ -79,10 +81,10 @@ module _ {D : Type 0} (H : Acts D) (left : D → ℕ) (a : ℕ) where
 
   drop-line : (m count : ℕ) (area : List ℕ) (x : D) → Leaves area count (dropLine H left a m count area x)
   unfolding dropLine
-  drop-line zero count area x = on-got (Leaves area count) (H .reads x .says) _ _ (λ byte e. (refl, refl)) (λ status e. (refl, refl))
+  drop-line zero count area x = on-got (Leaves area count) (H .reads x .says) _ _ (λ status byte e. (refl, refl)) (λ status e. (refl, refl))
   drop-line (suc m) count area x =
       on-got (Leaves area count) (H .reads x .says) _ _
-      (λ byte e. choose-eq (Leaves area count) byte eol _ _ (λ l. (refl, refl)) (λ n. drop-line m count area (H .reads x .leaves)))
+      (λ status byte e. choose-eq (Leaves area count) byte eol _ _ (λ l. (refl, refl)) (λ n. drop-line m count area (H .reads x .leaves)))
       (λ status e. (refl, refl))
 
   get-record : (n place count : ℕ) (area : List ℕ) (x : D) → place + n ≤ length area → Puts x place count area (getRecord H left a n place count area x)
@@ -90,24 +92,24 @@ module _ {D : Type 0} (H : Acts D) (left : D → ℕ) (a : ℕ) where
   get-record zero place count area x h = let d = drop-line (left x) count area x in none x place count area _ (d .0) (d .1)
   get-record (suc n) place count area x h =
       on-got (Puts x place count area) (H .reads x .says) _ _
-      (λ byte e. choose-eq (Puts x place count area) byte eol _ _
-      (λ l. record { more = 1; count = refl; stores = only-one x place byte area (omega arith) e })
+      (λ status byte e. choose-eq (Puts x place count area) byte eol _ _
+      (λ l. record { more = 1; count = refl; stores = only-one x place status byte area (omega arith) e })
       (λ m.
       let t = get-record n (place + 1) (count + 1) (set area place byte) (H .reads x .leaves) (omega (arith, length-set area place byte)) in
-      record { more = suc (t .more); count = omega (arith, t .count); stores = one-more x place (t .more) byte area _ (omega arith) e (t .stores) }))
+      record { more = suc (t .more); count = omega (arith, t .count); stores = one-more x place (t .more) status byte area _ (omega arith) e (t .stores) }))
       (λ status e. none x place count area _ refl refl)
 
   get-one : (place count : ℕ) (area : List ℕ) (x : D) → Puts x place count area (getOne H left a count area x)
   unfolding getOne
   get-one place count area x =
-      on-got (Puts x place count area) (H .reads x .says) _ _ (λ byte e. none x place count area _ refl refl) (λ status e. none x place count area _ refl refl)
+      on-got (Puts x place count area) (H .reads x .says) _ _ (λ status byte e. none x place count area _ refl refl) (λ status e. none x place count area _ refl refl)
 
   -- "n = 0: .. area not looked at"
   getting-puts : (way : Way) (n place : ℕ) (area : List ℕ) (x : D) → LengthFits way n → (n ≡ 0) ⊎ (place + n ≤ length area) → Puts x place 0 area (getting H left a way n place 0 area x)
   unfolding getting
   getting-puts One n place area x f h = get-one place 0 area x
   getting-puts Characters n place area x f (inl z) = absurd (omega arith)
-  getting-puts Characters n place area x f (inr h) = get-characters n place 0 area x h
+  getting-puts Characters n place area x f (inr h) = get-characters 0x01 n place 0 area x h
   getting-puts Record n place area x f (inl z) = absurd (omega arith)
   getting-puts Record n place area x f (inr h) = get-record n place 0 area x h
 

@@ -1,6 +1,6 @@
 -- Document 01, Transfers, said a second time, and of the end alone: which character is a transfer's last, with which status it ends,
 -- how many characters are counted, what is stored, and the device that is left; by what the handler says to one character after the
--- other.
+-- other. With document 02's Ask 7.
 -- Assumes nothing.
 use mathlib.Core.Path.{_≡_}
 use mathlib.Core.Logic.{_⊎_}
@@ -11,6 +11,7 @@ use Rattle.handler.specs.declared.Done.{Done}
 use Rattle.handler.specs.declared.Done.the-variants as done
 use Rattle.handler.specs.declared.Got.{Got}
 use Rattle.handler.specs.declared.Got.the-variants as got
+use Rattle.handler.specs.Answer.{Gives}
 use Rattle.handler.specs.Acts.{Acts}
 use Rattle.blocks.specs.declared.Way.{Way}
 use Rattle.blocks.specs.declared.Way.the-variants.{One, Characters, Record}
@@ -40,10 +41,11 @@ module _ {D : Type 0} (H : Acts D) where
   readSays k x = H .reads (readTo k x) .says
 
   module _ (way : Way) (n : ℕ) (x : D) where
-    -- character k is given, and is not the last
+    -- character k is given, with whichever status, and is not the last
     pub record GoesOn (k : ℕ) : Type 0 where
+      pub status : ℕ
       pub byte : ℕ
-      pub given : readSays k x ≡ got.Character byte
+      pub given : Gives (readSays k x) status byte
       pub more : IsLast way n k byte → ⊥
 
     -- the transfer comes to character k
@@ -53,16 +55,17 @@ module _ {D : Type 0} (H : Acts D) where
     -- the device is left as the handler leaves it after its last character
     pub data GetEnds : (status count : ℕ) → (left : D) → Type 0 where
       -- "A handler status from $80 ends the request; its character is neither stored nor counted."
-      get-refused : (k status : ℕ) → ReadsTo k → readSays k x ≡ got.Refused status → GetEnds status (placesOf n k) (readTo (suc k) x)
-      -- "$01 success", with the last character; of a record with a place for its EOL
-      get-whole : (k byte : ℕ) → ReadsTo k → readSays k x ≡ got.Character byte → IsLast way n k byte → (way ≡ Record → k < n)
-          → GetEnds 0x01 (placesOf n (suc k)) (readTo (suc k) x)
-      -- "With n stored and no EOL, characters are dropped through the EOL, then $89, count n."
-      get-cut : (k : ℕ) → ReadsTo k → readSays k x ≡ got.Character eol → way ≡ Record → n ≤ k → GetEnds 0x89 (placesOf n (suc k)) (readTo (suc k) x)
+      get-refused : (k status : ℕ) → ReadsTo k → readSays k x ≡ got.Refused status → 0x80 ≤ status → GetEnds status (placesOf n k) (readTo (suc k) x)
+      -- "$01 success", with the last character; of a record with a place for its EOL. "A request that no refusal ends, its last character
+      -- with $03, ends with $03"
+      get-whole : (k status byte : ℕ) → ReadsTo k → Gives (readSays k x) status byte → IsLast way n k byte → (way ≡ Record → k < n)
+          → GetEnds status (placesOf n (suc k)) (readTo (suc k) x)
+      -- "With n stored and no EOL, characters are dropped through the EOL, then $89, count n."; "a cut record still ends with $89"
+      get-cut : (k status : ℕ) → ReadsTo k → Gives (readSays k x) status eol → way ≡ Record → n ≤ k → GetEnds 0x89 (placesOf n (suc k)) (readTo (suc k) x)
 
   -- "bytes stored into .. the area": from this place on as many as are counted, and nothing else
   pub record Stores (x : D) (place count : ℕ) (area after : List ℕ) : Type 0 where
-    pub stored : (k byte : ℕ) → k < count → readSays k x ≡ got.Character byte → getD after (place + k) 0 ≡ byte
+    pub stored : (k status byte : ℕ) → k < count → Gives (readSays k x) status byte → getD after (place + k) 0 ≡ byte
     pub apart : (i : ℕ) → (i < place) ⊎ (place + count ≤ i) → getD after i 0 ≡ getD area i 0
 
 -- what a PUT sends at most: A; the buffer's bytes; of a record "after n without one, one EOL more"

@@ -43,6 +43,7 @@ printerLeft g = 0
 -- C: the characters that can be read one after the other before a refusal; a tape has 250 times 128 at most
 abbrev pub oneMore : Got → ℕ → ℕ
 oneMore (got.Character byte) n = suc n
+oneMore (got.Last byte) n = suc n
 oneMore (got.Refused status) n = 0
 
 unfoldable pub readsOf : (most : ℕ) → CassetteGroup → ℕ

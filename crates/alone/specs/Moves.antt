@@ -7,7 +7,7 @@ use Prim.Native.Nat.{ℕ, zero, suc, _+_, _≤_, _<_}
 use lib.ListN.{length, getD}
 use Rattle.handler.specs.declared.Asked.{Asked}
 use Rattle.handler.specs.declared.Done.the-variants as done
-use Rattle.handler.specs.declared.Got.the-variants as got
+use Rattle.handler.specs.Answer.{Gives, gotHigh}
 use Rattle.handler.specs.Acts.{Acts, asksOn}
 use Rattle.blocks.specs.declared.Device.{Device}
 use Rattle.blocks.specs.declared.Run.{Run}
@@ -43,7 +43,9 @@ pub record Lines {D : Type 0} (H : Acts D) (left : D → ℕ) (Fit : D → Type 
   pub read-fit : (x : D) → Fit x → Fit (H .reads x .leaves)
   pub write-fit : (byte : ℕ) (x : D) → Fit x → Fit (H .writes byte x .leaves)
   -- a character that is not the EOL is one fewer to read
-  pub falls : (x : D) (byte : ℕ) → Fit x → H .reads x .says ≡ got.Character byte → (byte ≡ eol → ⊥) → left x ≡ left (H .reads x .leaves) + 1
+  pub falls : (x : D) (status byte : ℕ) → Fit x → Gives (H .reads x .says) status byte → (byte ≡ eol → ⊥) → left x ≡ left (H .reads x .leaves) + 1
+  -- "A handler status from $80 ends the request"
+  pub high : (x : D) → gotHigh (H .reads x .says)
   -- a screen has at most 61,440 cells, a tape 32,000 characters
   pub few : (x : D) → Fit x → left x < mostMoves
 

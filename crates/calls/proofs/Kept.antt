@@ -3,39 +3,24 @@
 use mathlib.Core.Path.{_≡_, refl, sym, _∙_}
 use mathlib.Core.List.{List}
 use Prim.Native.Nat.{ℕ}
-use lib.ListN.{length, length-set}
+use lib.ListN.{length}
 use lib.Seq.{length-sets}
 use Rattle.base.specs.Choice.{choose}
-use Rattle.base.proofs.Choices.{choose-go, choose-eq}
+use Rattle.base.proofs.Choices.{choose-go}
 use Rattle.handler.specs.declared.Asked.{Asked}
-use Rattle.handler.specs.declared.Got.{Got}
-use Rattle.handler.specs.declared.Got.the-variants as got
 use Rattle.handler.specs.Acts.{Acts, asksOn}
-use Rattle.blocks.specs.declared.Way.{Way}
-use Rattle.blocks.specs.declared.Way.the-variants.{One, Characters, Record}
 use Rattle.blocks.specs.declared.Kind.{Kind}
 use Rattle.blocks.specs.declared.Kind.the-variants.{Get, Put}
 use Rattle.blocks.specs.declared.Run.{Run}
 use Rattle.replies.specs.Replies.{bytesAt, callReply, statusReply, fetchReply}
 use Rattle.plan.specs.declared.Errand.{Errand}
 use Rattle.plan.specs.declared.Errand.the-variants as errand
-use Rattle.transfer.specs.Transfer.{Progress, gotCharacter, gotOf, Out, goes, ends, landed}
+use Rattle.transfer.specs.Transfer.{Out, goes, ends, landed}
+use Rattle.transfer.proofs.Transfers.{got-long}
 use Rattle.moves.specs.Move.{getOf, putOf, goOf, advanceOf}
 use Rattle.cio.specs.Start.{loadFits, loadStatus, loadedOf, loadOf, errandOf}
 
-character-long : (way : Way) (run : Run) (byte : ℕ) (area : List ℕ) → length (gotCharacter way run byte area .area) ≡ length area
-unfolding gotCharacter
-character-long One run byte area = refl
-character-long Characters run byte area = length-set area (run .place) byte
-character-long Record run byte area =
-    choose-eq (λ (p : Progress). length (p .area) ≡ length area) (run .left) 0 _ _ (λ e. refl) (λ e. length-set area (run .place) byte)
-
-got-long : (way : Way) (run : Run) (says : Got) (area : List ℕ) → length (gotOf way run says area .area) ≡ length area
-unfolding gotOf
-got-long way run (got.Character byte) area = character-long way run byte area
-got-long way run (got.Refused status) area = refl
-
-go-long : {D : Type 0} (A : Acts D) (kind : Kind) (run : Run) (area : List ℕ) (x : D) → length (goOf A kind run area x .area) ≡ length area
+pub go-long : {D : Type 0} (A : Acts D) (kind : Kind) (run : Run) (area : List ℕ) (x : D) → length (goOf A kind run area x .area) ≡ length area
 unfolding goOf getOf putOf
 go-long A (Get way) run area x = got-long way run (A .reads x .says) area
 go-long A (Put way) run area x = refl

@@ -1,6 +1,6 @@
 -- What each act leaves of the cassette's group: it fits as before; OPEN and a read leave the tape; a read has fewer characters before it.
 -- Assumes nothing.
-use mathlib.Core.Path.{_≡_, _∙_, refl, ap}
+use mathlib.Core.Path.{_≡_, _∙_, refl, sym, ap}
 use mathlib.Core.Logic.{_⊎_, inl, inr}
 use mathlib.Core.Bool.{Bool, true, false}
 use mathlib.Core.List.{List}
@@ -8,11 +8,12 @@ use Prim.Native.Nat.{ℕ, _+_, _-_, _*_, _<_, _≤_}
 use native.Mathlib.Omega.{arith}
 use borrow.Author.Tests.{le-leb, eq-eqb, ne-eqb, leb-true, eqb-true}
 use lib.Dec.{eqb, leb}
-use lib.ListN.{length, set, length-set}
+use lib.ListN.{length, getD, set, length-set}
 use lib.Seq.{length-sets}
 use Rattle.base.specs.Choice.{pick, and, or, bit}
 use Rattle.base.proofs.Choices.{pick-eq, pick-lt, pick-go, and-left, and-right, by-lt, by-eq}
-use Rattle.handler.specs.Answer.{Answer}
+use Rattle.handler.specs.Answer.{Answer, answer, Gives}
+use Rattle.handler.proofs.Giving.{gives-refused}
 use Rattle.handler.specs.declared.Got.{Got}
 use Rattle.handler.specs.declared.Got.the-variants as got
 use Rattle.handler.specs.declared.Done.{Done}
@@ -21,9 +22,9 @@ use Rattle.cassette.specs.declared.Cassette.{Cassette}
 use Rattle.records.specs.Records.{tapeLength, laidAt, fullRecord, partialRecord, endRecord}
 use Rattle.cassette.specs.Cassette.{CassetteGroup, cassetteGroup, cassetteAt, withCassette, freshCassette, tapeOpened, openOf, flushed, closeOf, behind, readOf, takenOf, writeOf, cassetteLeft}
 use Rattle.cassette.specs.Fit.{fitsCassette, FitCassette}
-use Rattle.cassette.specs.Reads.{TapeReads, bad, ended, out, given, Stands, here, next}
+use Rattle.cassette.specs.Reads.{TapeReads, bad, ended, given, Stands, here, next}
 use Rattle.cassette.proofs.Laws.{read-closed}
-use Rattle.cassette.proofs.Reading.{read-always}
+use Rattle.cassette.proofs.Reading.{come-gives, read-always}
 use Rattle.records.proofs.Judging.{holds-few}
 
 -- the ranges as numbers
@@ -160,9 +161,8 @@ module _ (g : CassetteGroup) (f : FitCassette g) where
 
     reads-fits : (a : Answer Got CassetteGroup) → TapeReads g a → fitsCassette (a .leaves .cassette) ≡ true
     reads-fits a (bad r p s l w e) = rw e (f .fits)
-    reads-fits a (ended r p s l w e) = rw e (f .fits)
-    reads-fits a (out r p s l e) = rw e (f .fits)
-    reads-fits a (given r p n s l w h e) = rw e (behind-fits r p n l (holds-few _ n w))
+    reads-fits a (ended r p s t e) = rw e (f .fits)
+    reads-fits a (given r p n says s l w h c e) = rw e (behind-fits r p n l (holds-few _ n w))
 
   pub read-fit : FitCassette (readOf g .leaves)
   read-fit =
@@ -192,20 +192,22 @@ module _ (g : CassetteGroup) (f : FitCassette g) where
         pick-lt (λ (c : Cassette). cassetteLeft (withCassette g c) + 1 ≤ 128 * (250 - r) - p) (p + 1) n _ _
         (λ l. omega arith) (λ l. omega arith)
 
-    reads-left : (a : Answer Got CassetteGroup) (c : ℕ) → a .says ≡ got.Character c → TapeReads g a → cassetteLeft (a .leaves) + 1 ≤ cassetteLeft g
-    reads-left a c s (bad r p x l w e) = let z : _≡_ {A = ℕ} 0 1 = cc in absurd (omega arith)
-    reads-left a c s (ended r p x l w e) = let z : _≡_ {A = ℕ} 0 1 = cc in absurd (omega arith)
-    reads-left a c s (out r p x l e) = let z : _≡_ {A = ℕ} 0 1 = cc in absurd (omega arith)
-    reads-left a c s (given r p n x l w h e) =
+    refused-not : (a : Answer Got CassetteGroup) (s status byte : ℕ) → Gives (a .says) status byte → a ≡ answer (got.Refused s) g → ⊥
+    refused-not a s status byte k e = gives-refused s k (ap (λ (x : Answer Got CassetteGroup). x .says) e)
+
+    reads-left : (a : Answer Got CassetteGroup) (status byte : ℕ) → Gives (a .says) status byte → TapeReads g a → cassetteLeft (a .leaves) + 1 ≤ cassetteLeft g
+    reads-left a status byte s (bad r p x l w e) = absurd (refused-not a 0x8F status byte s e)
+    reads-left a status byte s (ended r p x t e) = absurd (refused-not a 0x88 status byte s e)
+    reads-left a status byte s (given r p n says x l w h c e) =
         let t = stands-left r p x l in
         let b = behind-left r p n l (t .1) h (holds-few _ n w) in
         rw e (omega (arith, t .0))
 
-  pub read-falls : (c : ℕ) → readOf g .says ≡ got.Character c → cassetteLeft (readOf g .leaves) + 1 ≤ cassetteLeft g
-  read-falls c s =
+  pub read-falls : (status byte : ℕ) → Gives (readOf g .says) status byte → cassetteLeft (readOf g .leaves) + 1 ≤ cassetteLeft g
+  read-falls status byte s =
       by-eq (g .cassette .mark) 1
-      (λ m. reads-left m (readOf g) c s (read-always g m))
-      (λ m. let q = read-closed (g .cassette) (g .tape) m in let z : _≡_ {A = ℕ} 0 1 = cc in absurd (omega arith))
+      (λ m. reads-left m (readOf g) status byte s (read-always g m))
+      (λ m. absurd (gives-refused 0x83 s (ap (λ (x : Answer Got Cassette). x .says) (sym (read-closed (g .cassette) (g .tape) m)))))
 
 -- PUT
 taken-fit : (byte : ℕ) (g : CassetteGroup) → FitCassette g → g .cassette .mark ≡ 2 → g .cassette .«record» < 249 → FitCassette (takenOf byte g)
@@ -288,9 +290,9 @@ open-refused aux1 g =
 module _ (g : CassetteGroup) (s : ℕ) where
   reads-refused : (a : Answer Got CassetteGroup) → TapeReads g a → a .says ≡ got.Refused s → (a .leaves ≡ g) × ((s ≡ 0x88) ⊎ (s ≡ 0x8F))
   reads-refused a (bad r p x l w e) q = (ap (λ (b : Answer Got CassetteGroup). b .leaves) e, inr (cc))
-  reads-refused a (ended r p x l w e) q = (ap (λ (b : Answer Got CassetteGroup). b .leaves) e, inl (cc))
-  reads-refused a (out r p x l e) q = (ap (λ (b : Answer Got CassetteGroup). b .leaves) e, inl (cc))
-  reads-refused a (given r p n x l w h e) q = let z : _≡_ {A = ℕ} 0 1 = cc in absurd (omega arith)
+  reads-refused a (ended r p x t e) q = (ap (λ (b : Answer Got CassetteGroup). b .leaves) e, inl (cc))
+  reads-refused a (given r p n says x l w h c e) q =
+      absurd (gives-refused s (come-gives (g .tape) r p n (getD (g .tape) (132 * r + 3 + p) 0) says c) (sym (ap (λ (b : Answer Got CassetteGroup). b .says) e) ∙ q))
 
   pub read-refused : readOf g .says ≡ got.Refused s → readOf g .leaves ≡ g
   read-refused q =

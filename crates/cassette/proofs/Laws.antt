@@ -1,11 +1,11 @@
 -- What the functions return and leave, from what they test and what their callees leave.
 -- Assumes nothing.
-use mathlib.Core.Path.{_≡_, _∙_, refl, sym, ap}
+use mathlib.Core.Path.{_≡_, _∙_, refl, sym, ap, subst}
 use mathlib.Core.Bool.{Bool, true, false}
 use mathlib.Core.List.{List}
 use Prim.Native.Nat.{ℕ, _+_, _*_, _/_, _%_, _<_, _≤_}
 use native.Mathlib.Omega.{arith}
-use borrow.Author.Tests.{lt-ltb, le-ltb, eq-eqb, ne-eqb}
+use borrow.Author.Tests.{lt-ltb, le-ltb, lt-leb, eq-eqb, ne-eqb}
 use lib.Dec.{leb}
 use lib.ListN.{length, getD, set, length-set}
 use Rattle.base.proofs.Choices.{pick-go}
@@ -15,11 +15,12 @@ use Rattle.handler.specs.declared.Got.the-variants as got
 use Rattle.handler.specs.declared.Done.the-variants.{Success, Refused}
 use Rattle.records.specs.declared.Judged.{Judged}
 use Rattle.records.specs.declared.Judged.the-variants.{Bad, End, Characters}
-use Rattle.records.specs.Records.{foundAt, recordMade, endRecord, laidAt, Reel}
+use Rattle.records.specs.Records.{recordAt, foundAt, recordMade, endRecord, laidAt, WholeTape, Reel}
 use Rattle.records.proofs.Laws.{characters-in, made-full, made-partial, made-end}
+use Rattle.records.proofs.Judging.{Says, found-says, holds-some}
 use Rattle.cassette.specs.declared.Cassette.{Cassette}
 use Rattle.cassette.specs.declared.Stand.{Stand}
-use Rattle.cassette.specs.Cassette.{cassetteAt, cassetteGroup, freshCassette, Found, tapeOpened, closeOf, flushed, spent, standAt, standOf, behind, givenAt, gottenOf, takenOf, writeOf}
+use Rattle.cassette.specs.Cassette.{cassetteAt, cassetteGroup, freshCassette, Found, RecordHolds, tapeOpened, closeOf, flushed, spent, standAt, standOf, behind, comesWith, givenWith, givenAt, gottenOf, takenOf, writeOf}
 
 -- OPEN
 module _ (c : Cassette) (aux1 : ℕ) where
@@ -52,6 +53,43 @@ module _ (r place n : ℕ) where
 pub found-in : (tape : List ℕ) (s : Stand) (n : ℕ) → Found tape s → s .judged ≡ Characters n → s .«record» < 250
 found-in tape s n f e = characters-in tape (s .«record») n (sym (f .found) ∙ e)
 
+pub found-holds : (tape : List ℕ) (s : Stand) (n : ℕ) → Found tape s → s .judged ≡ Characters n → RecordHolds tape (s .«record») n
+found-holds tape s n f e = record { whole = f .whole; low = found-in tape s n f e; holds = sym (f .found) ∙ e }
+
+-- a character, by what stands behind it
+pub comes-bad : (byte : ℕ) (k : Judged) → k ≡ Bad → got.Character byte ≡ comesWith byte k
+comes-bad byte k e = rw e
+
+pub comes-end : (byte : ℕ) (k : Judged) → k ≡ End → got.Last byte ≡ comesWith byte k
+comes-end byte k e = rw e
+
+pub comes-characters : (byte n : ℕ) (k : Judged) → k ≡ Characters n → got.Character byte ≡ comesWith byte k
+comes-characters byte n k e = rw e
+
+-- no record is spent at its beginning
+spent-none : (tape : List ℕ) (r : ℕ) (k : Judged) → foundAt tape r ≡ k → spent 0 k ≡ false
+spent-none tape r Bad e = refl
+spent-none tape r End e = refl
+spent-none tape r (Characters n) e =
+    let l = characters-in tape r n e in
+    lt-leb n 0 (omega (arith, holds-some (recordAt tape r) n (subst (Says (recordAt tape r)) e (found-says tape r l))))
+
+pub at-beginning : (tape : List ℕ) (r : ℕ) → standOf (cassetteAt 1 r 0) tape ≡ standAt r 0 (foundAt tape r)
+unfolding standOf
+at-beginning tape r = rw (spent-none tape r (foundAt tape r) refl)
+
+module _ (tape : List ℕ) (r place n byte : ℕ) where
+  pub more-here : foundAt tape r ≡ Characters n → place + 1 < n → got.Character byte ≡ givenWith tape (behind r place n) byte
+  unfolding standOf
+  more-here h l =
+      let t : spent (place + 1) (foundAt tape r) ≡ false = rw h (lt-leb n (place + 1) l) in
+      rw (← behind-next r place n l, t, h)
+
+  pub more-behind : (says : Got) (k : Judged) → n ≤ place + 1 → k ≡ foundAt tape (r + 1) → says ≡ comesWith byte k → says ≡ givenWith tape (behind r place n) byte
+  more-behind says k l e q =
+      q ∙ ap (comesWith byte) e ∙ sym (ap (λ (s : Stand). comesWith byte (s .judged)) (at-beginning tape (r + 1)))
+      ∙ ap (λ (c : Cassette). givenWith tape c byte) (behind-last r place n l)
+
 pub spent-characters : (place n : ℕ) (k : Judged) → k ≡ Characters n → leb n place ≡ spent place k
 spent-characters place n k e = rw e
 
@@ -65,10 +103,10 @@ module _ (c : Cassette) (tape : List ℕ) (s : Stand) where
   unfolding givenAt
   give-end e = rw e
 
-  pub give-character : (n byte : ℕ) (next : Cassette) → s .judged ≡ Characters n → byte ≡ getD tape (132 * s .«record» + 3 + s .place) 0 → next ≡ behind (s .«record») (s .place) n
-      → answer (got.Character byte) next ≡ givenAt c tape s
+  pub give-character : (n byte : ℕ) (next : Cassette) (says : Got) → s .judged ≡ Characters n → byte ≡ getD tape (132 * s .«record» + 3 + s .place) 0 → next ≡ behind (s .«record») (s .place) n
+      → says ≡ givenWith tape (behind (s .«record») (s .place) n) byte → answer says next ≡ givenAt c tape s
   unfolding givenAt
-  give-character n byte next e b m = rw (e, b, m)
+  give-character n byte next says e b m w = rw (w, e, b, m)
 
 -- CLOSE
 module _ (pending tape : List ℕ) (r place : ℕ) where
@@ -126,8 +164,8 @@ stood c tape =
     (standAt (c .«record» + 1) 0 (foundAt tape (c .«record» + 1))) (standAt (c .«record») (c .place) (foundAt tape (c .«record»)))
     (λ t. refl) (λ t. refl)
 
-pub stand-found : (c : Cassette) (tape : List ℕ) (s : Stand) → s ≡ standOf c tape → Found tape s
-stand-found c tape s e = record { found = rw e (stood c tape) }
+pub stand-found : (c : Cassette) (tape : List ℕ) (s : Stand) → WholeTape tape → s ≡ standOf c tape → Found tape s
+stand-found c tape s w e = record { whole = w; found = rw e (stood c tape) }
 
 pub read-there : (c : Cassette) (tape : List ℕ) (s : Stand) (z : Answer Got Cassette) → c .mark ≡ 1 → s ≡ standOf c tape → z ≡ givenAt c tape s → z ≡ gottenOf c tape
 unfolding gottenOf

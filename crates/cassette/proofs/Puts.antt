@@ -1,7 +1,7 @@
 -- What PUTs and CLOSE leave on the tape; and what is written is read back.
 -- Assumes nothing.
 use mathlib.Core.Path.{_≡_, _∙_, refl, sym, ap, subst}
-use mathlib.Core.List.{List, [], _∷_, _++_, map, append-assoc, append-nil}
+use mathlib.Core.List.{List, [], _∷_, _++_, append-assoc, append-nil}
 use Prim.Native.Nat.{ℕ, suc, _+_, _*_, _<_, _≤_}
 use native.Mathlib.Numerals.{add-one}
 use native.Mathlib.Omega.{arith}
@@ -21,7 +21,7 @@ use Rattle.records.specs.Records.{tapeLength, recordAt, laidAt, fullRecord, par
 use Rattle.cassette.specs.Cassette.{CassetteGroup, cassetteGroup, cassetteAt, withCassette, freshCassette, markOf, tapeOpened, openOf, flushed, closeOf, readOf, writeOf}
 use Rattle.cassette.specs.Fit.{FitCassette}
 use Rattle.records.specs.Kinds.{HoldsCharacters}
-use Rattle.cassette.specs.Written.{SpellsCharacters, stops, holds, PutRule, endsAt, CloseRule, putOn, writtenOf, gotFrom, TapeRule}
+use Rattle.cassette.specs.Written.{SpellsCharacters, stops, holds, PutRule, endsAt, CloseRule, putOn, writtenOf, gotFrom, lastWarned, TapeRule}
 use Rattle.cassette.proofs.Laws.{write-pending, write-full, write-end}
 use Rattle.records.proofs.Laws.{record-length, made-full, data-length}
 use Rattle.records.proofs.Made.{full-holds, full-characters, partial-holds, partial-characters, end-ends}
@@ -297,7 +297,7 @@ module _ (bytes : List ℕ) (h : length bytes ≤ 31872) (g : CassetteGroup) (f 
       back = gets-spelled (writtenOf w bytes g .pending) (writtenOf w bytes g .tape) written-whole 0 bytes spells
 
       got-all : gotFrom r bytes (writtenOf w bytes g)
-          ≡ answer (map got.Character bytes) (readingAt (writtenOf w bytes g .pending) (writtenOf w bytes g .tape) written-whole (back .0) 0)
+          ≡ answer (lastWarned bytes) (readingAt (writtenOf w bytes g .pending) (writtenOf w bytes g .tape) written-whole (back .0) 0)
       got-all = rw again (back .1 .1 .1)
 
       got-over : readOf (gotFrom r bytes (writtenOf w bytes g) .leaves) ≡ answer (got.Refused 0x88) (gotFrom r bytes (writtenOf w bytes g) .leaves)

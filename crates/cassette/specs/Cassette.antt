@@ -1,6 +1,6 @@
 -- The cassette's group, and what C's acts answer and leave.
 -- Assumes nothing.
-use Prim.Native.Nat.{ℕ, _+_, _*_, _-_}
+use Prim.Native.Nat.{ℕ, _+_, _*_, _-_, _<_}
 use mathlib.Core.Path.{_≡_}
 use mathlib.Core.Bool.{Bool, false}
 use mathlib.Core.List.{List}
@@ -18,7 +18,7 @@ use Rattle.cassette.specs.declared.Cassette.{Cassette}
 use Rattle.cassette.specs.declared.Stand.{Stand}
 use Rattle.records.specs.declared.Judged.{Judged}
 use Rattle.records.specs.declared.Judged.the-variants.{Bad, End, Characters}
-use Rattle.records.specs.Records.{foundAt, fullRecord, partialRecord, endRecord, laidAt}
+use Rattle.records.specs.Records.{recordCount, WholeTape, foundAt, fullRecord, partialRecord, endRecord, laidAt}
 
 -- "The group's state: how the tape is open, record, place or pending count, pending characters", and the lent tape
 pub record CassetteGroup : Type 0 where
@@ -77,19 +77,37 @@ standOf c tape =
     (standAt (c .«record» + 1) 0 (foundAt tape (c .«record» + 1)))
     (standAt (c .«record») (c .place) (foundAt tape (c .«record»)))
 
--- what a stand says of its record is so
+-- the tape is whole, and what a stand says of its record is so
 pub record Found (tape : List ℕ) (s : Stand) : Type 0 where
+  pub whole : WholeTape tape
   pub found : s .judged ≡ foundAt tape (s .«record»)
+
+-- a record of the whole tape holds so many characters
+pub record RecordHolds (tape : List ℕ) (r n : ℕ) : Type 0 where
+  pub whole : WholeTape tape
+  pub low : r < recordCount
+  pub holds : foundAt tape r ≡ Characters n
 
 -- behind a character: the next of its record, or the next record
 unfoldable pub behind : (r place n : ℕ) → Cassette
 behind r place n = pick (ltb (place + 1) n) (cassetteAt 1 r (place + 1)) (cassetteAt 1 (r + 1) 0)
 
--- "A bad checksum, control byte or partial count reads as $8F each time; a tape that runs out reads as $88."
+-- "A tape read after which the next would give $88 should come with $03.": the next place is the end, whichever it is. Before a bad
+-- record the character comes with $01
+abbrev pub comesWith : (byte : ℕ) → (next : Judged) → Got
+comesWith byte Bad = got.Character byte
+comesWith byte End = got.Last byte
+comesWith byte (Characters n) = got.Character byte
+
+-- with the cassette as the read leaves it
+abbrev pub givenWith : List ℕ → Cassette → (byte : ℕ) → Got
+givenWith tape after byte = comesWith byte (standOf after tape .judged)
+
+-- "A bad checksum, control byte or partial count .. reads as $8F each time; a tape that runs out reads as $88."
 abbrev pub givenBy : Cassette → List ℕ → (r place : ℕ) → Judged → Answer Got Cassette
 givenBy c tape r place Bad = answer (got.Refused 0x8F) c
 givenBy c tape r place End = answer (got.Refused 0x88) c
-givenBy c tape r place (Characters n) = answer (got.Character (getD tape (132 * r + 3 + place) 0)) (behind r place n)
+givenBy c tape r place (Characters n) = answer (givenWith tape (behind r place n) (getD tape (132 * r + 3 + place) 0)) (behind r place n)
 
 unfoldable pub givenAt : Cassette → List ℕ → Stand → Answer Got Cassette
 givenAt c tape s = givenBy c tape (s .«record») (s .place) (s .judged)

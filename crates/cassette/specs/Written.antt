@@ -1,7 +1,7 @@
 -- What stands on the tape after writing, and that it is read back, said of the tape and not of each act.
 -- Assumes nothing.
 use mathlib.Core.Path.{_≡_}
-use mathlib.Core.List.{List, [], _++_, map}
+use mathlib.Core.List.{List, [], _∷_, _++_}
 use Prim.Native.Nat.{ℕ, _+_, _*_, _<_, _≤_}
 use lib.Dec.{eqb}
 use lib.ListN.{length, take, drop, replicate}
@@ -49,6 +49,12 @@ putOn aux1 bytes g = putsOf writeOf bytes (openOf aux1 g .leaves)
 abbrev pub writtenOf : (aux1 : ℕ) → List ℕ → CassetteGroup → CassetteGroup
 writtenOf aux1 bytes g = closeOf (putOn aux1 bytes g .leaves)
 
+-- each with $01, and the last with $03: "A tape read after which the next would give $88 should come with $03."
+abbrev pub lastWarned : List ℕ → List Got
+lastWarned [] = []
+lastWarned (byte ∷ []) = got.Last byte ∷ []
+lastWarned (byte ∷ next ∷ bytes) = got.Character byte ∷ lastWarned (next ∷ bytes)
+
 -- as many characters are read, one after the other, from a tape just opened
 abbrev pub gotFrom : (aux1 : ℕ) → List ℕ → CassetteGroup → Answer (List Got) CassetteGroup
 gotFrom aux1 bytes g = getsOf readOf (length bytes) (openOf aux1 g .leaves)
@@ -58,7 +64,7 @@ gotFrom aux1 bytes g = getsOf readOf (length bytes) (openOf aux1 g .leaves)
 pub record TapeRule (bytes : List ℕ) (g : CassetteGroup) : Type 0 where
   pub puts : (w : ℕ) → markOf w ≡ 2 → putOn w bytes g .says ≡ replicate (length bytes) Success
   pub spelled : (w : ℕ) → markOf w ≡ 2 → SpellsCharacters (writtenOf w bytes g .tape) 0 bytes
-  pub gets : (w r : ℕ) → markOf w ≡ 2 → markOf r ≡ 1 → gotFrom r bytes (writtenOf w bytes g) .says ≡ map got.Character bytes
+  pub gets : (w r : ℕ) → markOf w ≡ 2 → markOf r ≡ 1 → gotFrom r bytes (writtenOf w bytes g) .says ≡ lastWarned bytes
   pub over : (w r : ℕ) → markOf w ≡ 2 → markOf r ≡ 1
       → readOf (gotFrom r bytes (writtenOf w bytes g) .leaves) ≡ answer (got.Refused 0x88) (gotFrom r bytes (writtenOf w bytes g) .leaves)
   pub full : (w byte : ℕ) → markOf w ≡ 2 → length bytes ≡ 31872 → writeOf byte (putOn w bytes g .leaves) ≡ answer (Refused 0x90) (putOn w bytes g .leaves)

@@ -6,7 +6,8 @@ ghost use mathlib.Core.Path.{_≡_};
 ghost use Prim.Native.Nat.{_<_};
 ghost use Rattle.handler.specs.Answer.{answer};
 ghost use Rattle.records.specs.Records.{WholeTape, Reel};
-ghost use Rattle.cassette.specs.Cassette.{cassetteGroup, freshCassette, tapeOpened, closeOf, spent, standOf, behind, givenAt, gottenOf, writeOf, Found};
+ghost use Rattle.records.specs.declared.Judged.the-variants.{Characters};
+ghost use Rattle.cassette.specs.Cassette.{cassetteGroup, freshCassette, tapeOpened, closeOf, spent, standOf, behind, comesWith, givenWith, givenAt, gottenOf, writeOf, Found, RecordHolds};
 
 // The bytes of the lent tape.
 pub const TAPE: usize = 33000;
@@ -73,6 +74,29 @@ fn is_spent(place: u8, judged: Judged) -> bool
         Judged::End => false,
         Judged::Characters(n) => n <= place,
     }
+}
+
+// A character, by what a read would find next: the last one before the tape's end.
+fn with_next(byte: u8, judged: Judged) -> Got
+    ensures { λ r. ⌜ r ≡ comesWith byte judged ⌝ }
+{
+    match judged {
+        Judged::Bad => Got::Character(byte),
+        Judged::End => Got::Last(byte),
+        Judged::Characters(n) => Got::Character(byte),
+    }
+}
+
+// The character at a place of a record of n: behind it stands the next of its record, or whatever the next record is.
+fn character(tape: &[u8], number: u8, place: u8, n: u8, byte: u8) -> Got
+    requires { ⌜ RecordHolds (now tape) number n ⌝ }
+    ensures { λ r. ⌜ r ≡ givenWith (now (tape .entry)) (behind number place n) byte ⌝ }
+{
+    let further = place as u16 + 1;
+    if further < n as u16 {
+        return Got::Character(byte);
+    }
+    with_next(byte, records::found(tape, number + 1))
 }
 
 impl Cassette {
@@ -198,7 +222,7 @@ impl Cassette {
                 let at = records::RECORD * stand.record as usize + 3 + stand.place as usize;
                 let byte = base::byte_at(tape, at);
                 let cassette = next(stand.record, stand.place, n);
-                let got = Got::Character(byte);
+                let got = character(tape, stand.record, stand.place, n, byte);
                 Read { cassette, got }
             }
         }

@@ -12,7 +12,7 @@ use Rattle.base.specs.Choice.{and, within}
 use Rattle.base.proofs.Choices.{choose-eq, by-eq, and-left, and-right}
 use Rattle.handler.specs.declared.Done.{Done}
 use Rattle.handler.specs.declared.Done.the-variants.{Success, Refused}
-use Rattle.handler.specs.Answer.{Answer}
+use Rattle.handler.specs.Answer.{Answer, NeverLast}
 use Rattle.cells.specs.Modes.{shapeOf, isMode}
 use Rattle.keys.specs.Fit.{FitKeys}
 use Rattle.keys.specs.Keyboard as keys
@@ -247,3 +247,10 @@ module _ (g : ConsoleGroup) (f : FitGroup g) where
   write-use E byte z = z
   write-use S byte z = graphics-keeps.put-fit (pictureOf g) (record { graphics = graphics-fit (g .console) fits z; whole = f .whole }) byte .graphics .mode
   write-use K byte z = z
+
+-- "other devices never give it"
+pub read-never-last : (h : Handler) (g : ConsoleGroup) → NeverLast (readOf h g .says)
+unfolding readOf readE readS readK
+read-never-last E g = editor-keeps.get-never-last (textOf g)
+read-never-last S g = graphics-keeps.get-never-last (g .screen) (graphicsOf (g .console))
+read-never-last K g = keys-keeps.get-never-last (g .console .keyboard)

@@ -16,6 +16,7 @@ use Rattle.layout.proofs.WriteRead.{head-back}
 use Rattle.damage.proofs.Undamaged.{in-bytes}
 use Rattle.calls.specs.Returned.{Returned}
 use Rattle.serial.proofs.Follows as follow
+use Rattle.rules.proofs.Warned.{request-warns, only-tape-warns}
 use Rattle.machine.specs.Real.{real}
 use Rattle.machine.proofs.Lawful.{lawful}
 use Rattle.machine.proofs.Demanded.{one-reading}
@@ -56,6 +57,8 @@ demands = record {
   demand2-course =
       course bytes (follow.demand2 real bytes bytes-follow lawful .later) (follow.never-damaged real bytes bytes-follow lawful);
   demand2-needs = needs;
+  warns = request-warns;
+  only-tape-warns = only-tape-warns;
   demand3 = follow.demand3 real bytes bytes-follow lawful;
   demand3-unfinished = follow.unfinished real bytes bytes-follow lawful;
   one-reading = one-reading;

@@ -1,7 +1,7 @@
 -- The three demands, of the five functions and key translation that the port firmware calls: what the stick is bought for, on one
 -- page. Each line is one statement, a type whose words are in the file that it is used from: `serial/specs` for any machine of
--- two ports, `machine/specs` for document 01's, here for the functions. (The other files of `serial/specs`, `Laws` and `Follows`,
--- and `rules` are the way to them.) That C's pointer and length are the slice is the toolchain's. That each promise decides is in
+-- two ports, `machine/specs` for document 01's, `rules/specs` for its requests alone, here for the functions. (The other files of
+-- `serial/specs`, `Laws` and `Follows`, and what else `rules` says are the way to them.) That C's pointer and length are the slice is the toolchain's. That each promise decides is in
 -- `firmware/proofs/Decided.antt`.
 -- Assumes nothing.
 use mathlib.Core.Path.{_≡_}
@@ -9,6 +9,7 @@ use mathlib.Core.Bool.{true}
 use mathlib.Core.List.{List, _++_}
 use Prim.Native.Nat.{ℕ, _*_}
 use lib.ListN.{length, take, replicate}
+use Rattle.wire.specs.declared.Call.{Call}
 use Rattle.wire.specs.Messages.{roomLength}
 use Rattle.layout.specs.Places.{roomsPlace, stateLength}
 use Rattle.layout.specs.Stick.{Stick, freshStick, Lent}
@@ -16,6 +17,8 @@ use Rattle.layout.specs.Layout.{headOf, stickIn}
 use Rattle.layout.specs.Stands.{stands}
 use Rattle.layout.specs.InBytes.{Bytes, InBytes, Typed}
 use Rattle.damage.specs.Fits.{stickFits}
+use Rattle.devices.specs.Groups.{Groups}
+use Rattle.alone.specs.Alone.{Local}
 use Rattle.calls.specs.Bytes.{Buffers, freshBytes, giveBytes}
 use Rattle.calls.specs.Returned.{Returned, returned, answerOf}
 use Rattle.firmware.proofs.fixlomand_fresh.Kinds as fresh-kinds
@@ -37,6 +40,7 @@ use Rattle.serial.specs.Demand1.{Demand1}
 use Rattle.serial.specs.Demand2.{Demand2}
 use Rattle.serial.specs.Demand3.{Demand3, UnfinishedRule}
 use Rattle.serial.specs.Follows.{Follows}
+use Rattle.rules.specs.Warned.{ReadsNext, RequestWarns, OnlyTapeWarns}
 use Rattle.machine.specs.Real.{real}
 use Rattle.machine.specs.Statuses.{MarkRule, StatusRule, FieldsRule, NeedsRule}
 use Rattle.machine.specs.Course.{CourseRule}
@@ -80,6 +84,10 @@ pub record Demands : Type 0 where
   pub demand2 : Demand2 real bytes
   pub demand2-course : CourseRule bytes
   pub demand2-needs : NeedsRule
+  -- Document 02: "A tape read after which the next would give $88 should come with $03. .. other devices never give it.": of requests
+  -- alone, which `demand2` links to these calls
+  pub warns : (c next : Call) (l : Local) (s : Groups) → ReadsNext c next l s → RequestWarns c next l s
+  pub only-tape-warns : OnlyTapeWarns
   -- Document 02: "Demands 2 and 3 now read over three groups and the tape."
   -- 3. "The replies made for each port, both memory areas, both control-block tables, the console and the paper are those of the
   -- run in which the started requests and the taken keys go one at a time .. The bytes taken on a port spell its started requests

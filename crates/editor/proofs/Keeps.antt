@@ -8,7 +8,7 @@ use native.Mathlib.Omega.{arith}
 use lib.ListN.{length, getD}
 use Rattle.base.proofs.Choices.{choose-eq, choose-lt, choose-le}
 use Rattle.handler.specs.declared.Got.{Got}
-use Rattle.handler.specs.Answer.{Answer}
+use Rattle.handler.specs.Answer.{Answer, NeverLast}
 use Rattle.cells.specs.Modes.{modes, rowOf, shapeOf}
 use Rattle.cells.specs.Cells.{Whole, placeOf, filled, scrolled}
 use Rattle.cells.proofs.Parts.{filled-length, scrolled-length}
@@ -64,6 +64,14 @@ end-le row cells = omega (arith, held-le cells (cellAt row 2) 38)
 column-low : (r : ReadColumn) → FitReading r → 2 ≤ columnOf r
 column-low Dropped f = omega arith
 column-low (At column) f = f .0
+
+-- "other devices never give it"
+pub get-never-last : (t : Text) → NeverLast (getOf t .says)
+unfolding getOf getAt
+get-never-last t =
+    choose-lt (λ (x : Answer Got Text). NeverLast (x .says)) (columnOf (t .editor .reading)) (endOf (t .editor .row) (t .cells)) _ _
+    (λ h byte e. let z : _≡_ {A = ℕ} 0 1 = cc in omega arith)
+    (λ h byte e. let z : _≡_ {A = ℕ} 0 1 = cc in omega arith)
 
 pub get-fit : (t : Text) → FitText t → FitText (getOf t .leaves)
 unfolding getOf getAt

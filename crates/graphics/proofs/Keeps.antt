@@ -14,7 +14,7 @@ use borrow.Author.Tests.{leb-true}
 use Rattle.handler.specs.declared.Got.{Got}
 use Rattle.handler.specs.declared.Done.{Done}
 use Rattle.handler.specs.declared.Done.the-variants.{Success, Refused}
-use Rattle.handler.specs.Answer.{Answer, answer}
+use Rattle.handler.specs.Answer.{Answer, answer, NeverLast}
 use Rattle.cells.specs.declared.Shape.{Shape}
 use Rattle.cells.specs.Modes.{modes, rowOf, shapeOf}
 use Rattle.cells.specs.Cells.{Whole, filled, reduced, withCell}
@@ -76,6 +76,14 @@ module _ (aux1 aux2 : ℕ) (p : Picture) (P : Answer Done Picture → Type 0) wh
 -- an opened screen is in range whatever it was
 pub opened-fit : (aux1 aux2 : ℕ) (p : Picture) → within 3 8 aux2 ≡ true → Whole (p .cells) → FitPicture (picture (inMode aux2 (p .graphics)) (cellsOpened aux2 aux1 (p .cells)))
 opened-fit aux1 aux2 p m w = record { graphics = record { mode = m; row = omega arith; column = some-columns aux2 m }; whole = start-whole aux2 aux1 (p .cells) w }
+
+-- "other devices never give it"
+pub get-never-last : (cells : List ℕ) (g : Graphics) → NeverLast (getOf cells g .says)
+unfolding getOf
+get-never-last cells g =
+    choose-le (λ (x : Answer Got Graphics). NeverLast (x .says)) (shapeOf (g .mode) .rows) (g .row) _ _
+    (λ h byte e. let z : _≡_ {A = ℕ} 0 1 = cc in omega arith)
+    (λ h byte e. let z : _≡_ {A = ℕ} 0 1 = cc in omega arith)
 
 pub get-fit : (cells : List ℕ) (g : Graphics) → FitGraphics g → FitGraphics (getOf cells g .leaves)
 unfolding getOf

@@ -26,9 +26,10 @@ pub fn on_block(port: u8, iocb: u8) -> Asked
     }
 }
 
-// A GET: the character, or a refusal with its status from $80.
+// A GET: the character; the last one, after which the next would be refused with end of file; or a refusal with its status from $80.
 pub enum Got {
     Character(u8),
+    Last(u8),
     Refused(u8),
 }
 

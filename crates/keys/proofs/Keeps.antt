@@ -6,7 +6,7 @@ use native.Mathlib.Omega.{arith}
 use lib.Dec.{eqb, ltb}
 use Rattle.base.specs.Choice.{or}
 use Rattle.base.proofs.Choices.{pick-go, pick-eq, pick-lt}
-use Rattle.handler.specs.Answer.{Answer, answer}
+use Rattle.handler.specs.Answer.{Answer, answer, NeverLast}
 use Rattle.handler.specs.declared.Got.{Got}
 use Rattle.handler.specs.declared.Got.the-variants.{Character, Refused}
 use Rattle.keys.specs.Translation.{entryNumber, translateOf}
@@ -65,6 +65,13 @@ get-byte k =
     get-either (λ (a : Answer Got Keyboard). (c : ℕ) → a .says ≡ Character c → c < 256) k
     (λ n h c e. let p : n ≡ c = cc in omega arith)
     (λ n c e. let z : _≡_ {A = ℕ} 0 1 = cc in absurd (omega arith))
+
+-- "other devices never give it"
+pub get-never-last : (k : Keyboard) → NeverLast (getOf k .says)
+get-never-last k =
+    get-either (λ (a : Answer Got Keyboard). NeverLast (a .says)) k
+    (λ n h c e. let z : _≡_ {A = ℕ} 0 1 = cc in omega arith)
+    (λ n c e. let z : _≡_ {A = ℕ} 0 1 = cc in omega arith)
 
 -- "Empty, above $BF, or no character: $88": there is no other refusal
 pub get-status : (k : Keyboard) (s : ℕ) → getOf k .says ≡ Refused s → s ≡ 0x88

@@ -9,10 +9,11 @@ use borrow.Author.Tests.{lt-ltb}
 use lib.ListN.{length, length-set}
 use lib.Seq.{take-suc-set}
 use Rattle.base.proofs.Choices.{pick-lt}
-use Rattle.handler.specs.Answer.{Answer}
+use Rattle.handler.specs.declared.Asked.{Asked}
+use Rattle.handler.specs.Answer.{Answer, NeverLast}
 use Rattle.handler.specs.declared.Done.{Done}
 use Rattle.handler.specs.declared.Done.the-variants.{Refused}
-use Rattle.printer.specs.Printer.{paperLength, PrinterGroup, printerGroup, freshPrinter, printedOf, putOf}
+use Rattle.printer.specs.Printer.{paperLength, PrinterGroup, printerGroup, freshPrinter, printedOf, putOf, printerActs}
 use Rattle.printer.specs.Fit.{FitPrinter}
 
 pub fresh-fit : (paper : List ℕ) → length paper ≡ paperLength → FitPrinter (printerGroup (freshPrinter .used) paper)
@@ -44,3 +45,7 @@ put-status byte g =
     pick-lt (λ (a : Answer Done PrinterGroup). (s : ℕ) → a .says ≡ Refused s → s ≡ 0x90) (g .used) paperLength _ _
     (λ h s e. let z : _≡_ {A = ℕ} 0 1 = cc in absurd (omega arith))
     (λ h s e. cc)
+
+-- "other devices never give it"
+pub read-never-last : (asked : Asked) (g : PrinterGroup) → NeverLast (printerActs asked .reads g .says)
+read-never-last asked g byte e = let z : _≡_ {A = ℕ} 0 1 = cc in omega arith

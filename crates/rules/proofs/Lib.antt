@@ -10,3 +10,4 @@ pub mod Ports
 pub mod Waits
 pub mod FreshStart
 pub mod ReadBack
+pub mod Warned

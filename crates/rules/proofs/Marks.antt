@@ -20,7 +20,7 @@ use Rattle.handler.specs.Answer.{Answer, answer}
 use Rattle.handler.specs.Acts.{Acts, asksOpen, asksOn}
 use Rattle.cassette.specs.declared.Cassette.{Cassette}
 use Rattle.cassette.specs.Cassette.{CassetteGroup, markOf, cassetteAt, withCassette, tapeOpened, closeOf, behind, readOf, takenOf, writeOf, cassetteActs}
-use Rattle.cassette.specs.Reads.{TapeReads, bad, ended, out, given}
+use Rattle.cassette.specs.Reads.{TapeReads, bad, ended, given}
 use Rattle.cassette.proofs.Laws.{read-closed}
 use Rattle.cassette.proofs.Reading.{read-always}
 use Rattle.cassette.proofs.Keeps.{close-closed}
@@ -267,9 +267,8 @@ module _ (port : ℕ) (job : Job) (table u : Table) (eight : length (table .bloc
 reads-mark : (g : CassetteGroup) (a : Answer Got CassetteGroup) → g .cassette .mark ≡ 1 → TapeReads g a → a .leaves .cassette .mark ≡ 1
 unfolding behind
 reads-mark g a m (bad r p s l w e) = rw e m
-reads-mark g a m (ended r p s l w e) = rw e m
-reads-mark g a m (out r p s l e) = rw e m
-reads-mark g a m (given r p n s l w h e) = rw e (pick-lt (λ (c : Cassette). c .mark ≡ 1) (p + 1) n _ _ (λ k. refl) (λ k. refl))
+reads-mark g a m (ended r p s t e) = rw e m
+reads-mark g a m (given r p n says s l w h c e) = rw e (pick-lt (λ (c : Cassette). c .mark ≡ 1) (p + 1) n _ _ (λ k. refl) (λ k. refl))
 
 pub read-mark : (g : CassetteGroup) → readOf g .leaves .cassette .mark ≡ g .cassette .mark
 read-mark g =

@@ -8,27 +8,21 @@ use mathlib.Core.List.{List, _++_}
 use Prim.Native.Nat.{ℕ, _≤_}
 use native.Mathlib.Omega.{arith}
 use lib.Dec.{eqb}
-use lib.ListN.{length, take, drop, length-set}
+use lib.ListN.{length, take, drop}
 use lib.Seq.{length-take-le, take-at, drop-at, length-sets}
 use Rattle.base.specs.Choice.{pick}
 use Rattle.base.proofs.Choices.{choose-go}
-use Rattle.handler.specs.declared.Got.{Got}
-use Rattle.handler.specs.declared.Got.the-variants as got
 use Rattle.handler.specs.Acts.{Acts, asksOn}
-use Rattle.blocks.specs.declared.Kind.{Kind}
-use Rattle.blocks.specs.declared.Kind.the-variants.{Get, Put}
 use Rattle.blocks.specs.declared.Phase.{Phase}
 use Rattle.blocks.specs.declared.Phase.the-variants.{Gathering, Ready, Running, Replying}
 use Rattle.blocks.specs.declared.Port.{Port}
 use Rattle.blocks.specs.declared.Run.{Run}
-use Rattle.blocks.specs.declared.Way.{Way}
-use Rattle.blocks.specs.declared.Way.the-variants.{One, Characters, Record}
 use Rattle.blocks.specs.Blocks.{blockAt}
 use Rattle.blocks.specs.Opening.{areaLength}
 use Rattle.wire.specs.Messages.{roomLength, messageOf}
 use Rattle.replies.specs.Replies.{callReply, statusReply, fetchReply, bytesAt}
 use Rattle.layout.specs.Stick.{Stick, Lent, portAt, otherAt, withPort0, withPort1, withPort, partAt, withPart}
-use Rattle.transfer.specs.Transfer.{Progress, gotCharacter, gotOf, Out, goes, ends, landed}
+use Rattle.transfer.specs.Transfer.{Out, goes, ends, landed}
 use Rattle.devices.specs.declared.Group.{Group}
 use Rattle.devices.specs.Groups.{getGroup, clash, groupOf, heldOf, deviceActs}
 use Rattle.plan.specs.declared.Errand.{Errand}
@@ -36,11 +30,12 @@ use Rattle.plan.specs.declared.Errand.the-variants as errand
 use Rattle.plan.specs.declared.Plan.{Plan}
 use Rattle.plan.specs.declared.Plan.the-variants as plan
 use Rattle.plan.specs.Plan.{planOf, groupNeeded}
-use Rattle.moves.specs.Move.{getOf, putOf, goOf, advanceOf}
+use Rattle.moves.specs.Move.{goOf, advanceOf}
 use Rattle.cio.specs.Start.{loadFits, loadedOf, loadStatus, loadOf, errandOf, jobBegun, startOf}
 use Rattle.calls.specs.Port.{Reach, startPlan, moveRun, Ticked, ticked, readyTick, tickPort, takePort, givePort}
 use Rattle.calls.specs.Stick.{refused, areaAt, roomAt, withGroups, reachAt, withReach}
 use Rattle.calls.specs.Calls.{takeAt, takeCall, tickAt, tickCall, giveAt, giveCall, consoleHeld, pressAt, pressCall}
+use Rattle.calls.proofs.Kept.{go-long}
 use Rattle.rules.specs.Answers.{Unrefused}
 use Rattle.rules.specs.Ports.{otherNumber, OtherStays, OnlyOwn, OnlyPhase, OnlyKey}
 use Rattle.rules.proofs.PortKeeps.{take-length, take-table, give-table}
@@ -145,29 +140,12 @@ start-kept n (plan.On job) r =
     let b = jobBegun (deviceActs (job .device)) n job (blockAt (r .port .table) (job .call .iocb)) (getGroup (groupOf (job .device)) (r .groups)) in
     record { room = landed-length (b .out) (r .room); area = refl }
 
-character-area : (way : Way) (run : Run) (byte : ℕ) (area : List ℕ) → length (gotCharacter way run byte area .area) ≡ length area
-unfolding gotCharacter
-character-area One run byte area = refl
-character-area Characters run byte area = length-set area (run .place) byte
-character-area Record run byte area =
-    choose-go (λ (p : Progress). length (p .area) ≡ length area) (eqb (run .left) 0) _ _ (λ t. refl) (λ t. length-set area (run .place) byte)
-
-got-area : (way : Way) (run : Run) (g : Got) (area : List ℕ) → length (gotOf way run g area .area) ≡ length area
-unfolding gotOf
-got-area way run (got.Character byte) area = character-area way run byte area
-got-area way run (got.Refused status) area = refl
-
-go-area : {D : Type 0} (H : Acts D) (kind : Kind) (run : Run) (area : List ℕ) (x : D) → length (goOf H kind run area x .area) ≡ length area
-unfolding goOf getOf putOf
-go-area H (Get way) run area x = got-area way run (H .reads x .says) area
-go-area H (Put way) run area x = refl
-
 move-kept : (n : ℕ) (run : Run) (r : Reach) → Kept r (moveRun n run r)
 unfolding moveRun advanceOf
 move-kept n run r =
     let A = deviceActs (run .device) (asksOn n (run .iocb)) in
     let x = getGroup (groupOf (run .device)) (r .groups) in
-    record { room = landed-length (goOf A (run .kind) run (r .area) x .out) (r .room); area = go-area A (run .kind) run (r .area) x }
+    record { room = landed-length (goOf A (run .kind) run (r .area) x .out) (r .room); area = go-long A (run .kind) run (r .area) x }
 
 same-kept : (r : Reach) → Kept r r
 same-kept r = record { room = refl; area = refl }

@@ -3,14 +3,15 @@
 use mathlib.Core.Path.{_≡_, _∙_, refl, sym, ap, subst}
 use mathlib.Core.Logic.{_⊎_, inl, inr}
 use mathlib.Core.Bool.{Bool, true, false}
-use mathlib.Core.List.{List, [], _∷_, _++_, map}
+use mathlib.Core.List.{List, [], _∷_, _++_}
 use Prim.Native.Nat.{ℕ, zero, suc, _+_, _<_, _≤_}
+use native.Mathlib.Nat.{add-zero, zero-add}
 use native.Mathlib.Numerals.{add-one}
 use native.Mathlib.Omega.{arith}
 use lib.Dec.{eqb, leb, ltb}
 use lib.ListN.{length, getD, set, take, drop, replicate, length-append, take-append-drop}
 use lib.Seq.{sets, length-sets, take-add, length-take-le}
-use borrow.Author.Tests.{le-ltb, le-leb, eq-eqb, ne-eqb}
+use borrow.Author.Tests.{le-ltb, le-leb, lt-leb, eq-eqb, ne-eqb}
 use Rattle.base.specs.Choice.{or, bit}
 use Rattle.base.proofs.Choices.{pick-go, choose-go, by-eq}
 use Rattle.base.proofs.Parts.{cat, part-same}
@@ -26,7 +27,7 @@ use Rattle.cassette.specs.declared.Cassette.{Cassette}
 use Rattle.cassette.specs.Cassette.{CassetteGroup, cassetteActs, markOf, readOf, writeOf}
 use Rattle.cassette.specs.Cassette as cassette
 use Rattle.cassette.specs.Fit.{FitCassette}
-use Rattle.cassette.specs.Written.{putOn, writtenOf, TapeRule}
+use Rattle.cassette.specs.Written.{putOn, writtenOf, lastWarned, TapeRule}
 use Rattle.cassette.proofs.Keeps.{close-closed}
 use Rattle.cassette.proofs.Puts.{tape-rule}
 use Rattle.blocks.specs.declared.BlockState.{BlockState}
@@ -66,14 +67,14 @@ use Rattle.plan.specs.declared.Work.{Work}
 use Rattle.plan.specs.declared.Work.the-variants as work
 use Rattle.plan.specs.Plan.{openPlan, areaPlan, transferPlan, blockPlan, callPlan, planIn, iocbOf, planOf, groupNeeded, needOf}
 use Rattle.cio.specs.Start.{openedOf, thenOf}
-use Rattle.alone.specs.Transfer.{TransferEnd, getOne, getCharacters, putOne, putCharacters, putRecord, getting, putting, transferred}
+use Rattle.alone.specs.Transfer.{TransferEnd, onGot, getOne, getCharacters, putOne, putCharacters, putRecord, getting, putting, transferred}
 use Rattle.alone.specs.Left.{deviceLeft}
 use Rattle.alone.specs.Alone.{Said, call, load, fetch, bad, askedOf, bytesOf, Local, Alone, AloneOn, alone, withArea, withOwnBlock, aloneOpening, aloneTransfer, aloneWork, aloneErrand, alonePlan, aloneOf}
 use Rattle.alone.specs.Fit.{FitLocal}
 use Rattle.alone.proofs.Ending.{on-done}
 use Rattle.alone.proofs.Keeps.{alone-keeps}
 use Rattle.rules.specs.Statuses.{replyStatus}
-use Rattle.rules.specs.ReadBack.{calledAlone, AllSuccess, OpensTape, recordSent, Sends, sends-a, sends-characters, sends-record, Wants, wants-a, wants-characters, broughtBy, Between, Puts, put-none, put-next, Gets, get-none, get-next, OpenPuts, open-puts, OpenPutsClose, open-puts-close, OpenGets, open-gets, Over, ReadBack}
+use Rattle.rules.specs.ReadBack.{calledAlone, AllSuccess, statusBefore, GetStatuses, ReadStatuses, OpensTape, recordSent, Sends, sends-a, sends-characters, sends-record, Wants, wants-a, wants-characters, broughtBy, Between, Puts, put-none, put-next, Gets, get-none, get-next, OpenPuts, open-puts, OpenPutsClose, open-puts-close, OpenGets, open-gets, Over, ReadBack}
 
 or-true : (t : Bool) → or t true ≡ true
 or-true true = refl
@@ -110,31 +111,51 @@ module _ {D : Type 0} (put : ℕ → D → Answer Done D) where
   taken-all [] x = refl
   taken-all (byte ∷ bytes) x = taken-all bytes (put byte x .leaves)
 
--- characters that it gives
+-- a character with so many left behind it
+abbrev before : (left byte : ℕ) → Got
+before zero byte = got.Last byte
+before (suc left) byte = got.Character byte
+
+by-before : {R : Type 0} (Q : R → Type 0) (says : Got) (left byte : ℕ) (f : (status byte : ℕ) → R) (g : (status : ℕ) → R) → says ≡ before left byte → Q (f (statusBefore left) byte) → Q (onGot says f g)
+by-before Q says zero byte f g e p = subst (λ (s : Got). Q (onGot s f g)) (sym e) p
+by-before Q says (suc left) byte f g e p = subst (λ (s : Got). Q (onGot s f g)) (sym e) p
+
+-- characters taken of a list, and those behind them
+length-parts : (k : ℕ) (bytes : List ℕ) → length (take k bytes) + length (drop k bytes) ≡ length bytes
+length-parts k bytes = sym (length-append (take k bytes) (drop k bytes)) ∙ ap length (take-append-drop k bytes)
+
+parts-make : (k : ℕ) (bytes : List ℕ) → k ≤ length bytes → k + length (drop k bytes) ≡ length bytes
+parts-make k bytes h = omega (arith, length-parts k bytes, length-take-le k bytes h)
+
+-- characters that it gives, with so many left behind them
 module _ {D : Type 0} (get : D → Answer Got D) where
-  abbrev Gives : List ℕ → D → Type 0
-  Gives [] x = Unit {0}
-  Gives (byte ∷ bytes) x = (get x .says ≡ got.Character byte) × Gives bytes (get x .leaves)
+  abbrev GivesAll : (left : ℕ) → List ℕ → D → Type 0
+  GivesAll left [] x = Unit {0}
+  GivesAll left (byte ∷ bytes) x = (get x .says ≡ before (length bytes + left) byte) × GivesAll left bytes (get x .leaves)
 
   abbrev given : List ℕ → D → D
   given [] x = x
   given (byte ∷ bytes) x = given bytes (get x .leaves)
 
-  gives-split : (k : ℕ) (bytes : List ℕ) (x : D) → Gives bytes x → Gives (take k bytes) x × Gives (drop k bytes) (given (take k bytes) x)
-  gives-split zero bytes x g = (tt, g)
-  gives-split (suc k) [] x g = (tt, tt)
-  gives-split (suc k) (byte ∷ bytes) x g = let q = gives-split k bytes (get x .leaves) (g .1) in ((g .0, q .0), q .1)
+  gives-split : (k left : ℕ) (bytes : List ℕ) (x : D) → GivesAll left bytes x → GivesAll (length (drop k bytes) + left) (take k bytes) x × GivesAll left (drop k bytes) (given (take k bytes) x)
+  gives-split zero left bytes x g = (tt, g)
+  gives-split (suc k) left [] x g = (tt, tt)
+  gives-split (suc k) left (byte ∷ bytes) x g =
+      let q = gives-split k left bytes (get x .leaves) (g .1) in
+      let n : length bytes + left ≡ length (take k bytes) + (length (drop k bytes) + left) = omega (arith, length-parts k bytes) in
+      ((g .0 ∙ ap (λ (m : ℕ). before m byte) n, q .0), q .1)
 
   given-more : (xs ys : List ℕ) (x : D) → given (xs ++ ys) x ≡ given ys (given xs x)
   given-more [] ys x = refl
   given-more (byte ∷ xs) ys x = given-more xs ys (get x .leaves)
 
-  gives-all : (bytes : List ℕ) (x : D) → getsOf get (length bytes) x .says ≡ map got.Character bytes → Gives bytes x
+  gives-all : (bytes : List ℕ) (x : D) → getsOf get (length bytes) x .says ≡ lastWarned bytes → GivesAll 0 bytes x
   unfolding getsOf
   gives-all [] x e = tt
-  gives-all (byte ∷ bytes) x e = (
-    ap (λ (l : List Got). getD l 0 (got.Refused 0)) e,
-    gives-all bytes (get x .leaves) (ap (λ (l : List Got). drop 1 l) e),
+  gives-all (byte ∷ []) x e = (ap (λ (l : List Got). getD l 0 (got.Refused 0)) e, tt)
+  gives-all (byte ∷ next ∷ bytes) x e = (
+    ap (λ (l : List Got). getD l 0 (got.Refused 0)) e ∙ ap (λ (m : ℕ). before m byte) (sym (add-zero (suc (length bytes)))),
+    gives-all (next ∷ bytes) (get x .leaves) (ap (λ (l : List Got). drop 1 l) e),
   )
 
   given-all : (bytes : List ℕ) (x : D) → getsOf get (length bytes) x .leaves ≡ given bytes x
@@ -229,21 +250,32 @@ module _ {D : Type 0} (H : Acts D) (left : D → ℕ) (a : ℕ) where
         let d = record-over first n (place + 1) (count + 1) area y (rw (add-one place) z) (t .1) e in
         record { says = rw (b, t .0, v) (d .says); counts = rw (b, t .0, v) (omega (arith, d .counts)); keeps = rw (b, t .0, v) (d .keeps) })
 
-  record Brought (bytes : List ℕ) (place : ℕ) (area : List ℕ) (x : D) (r : TransferEnd D) : Type 0 where
-    status : r .status ≡ 0x01
+  record Brought (behind : ℕ) (bytes : List ℕ) (place : ℕ) (area : List ℕ) (x : D) (r : TransferEnd D) : Type 0 where
+    status : r .status ≡ statusBefore behind
     device : r .device ≡ given (H .reads) bytes x
     stores : r .area ≡ sets area place bytes
 
-  get-characters : (bytes : List ℕ) (place count : ℕ) (area : List ℕ) (x : D) → Gives (H .reads) bytes x → Brought bytes place area x (getCharacters H left a (length bytes) place count area x)
+  -- the status of the character before is that of the last where there is none behind it
+  get-characters : (behind said : ℕ) (bytes : List ℕ) (place count : ℕ) (area : List ℕ) (x : D) → (length bytes ≡ 0 → said ≡ statusBefore behind) → GivesAll (H .reads) behind bytes x
+      → Brought behind bytes place area x (getCharacters H left a said (length bytes) place count area x)
   unfolding getCharacters
-  get-characters [] place count area x g = record { status = refl; device = refl; stores = refl }
-  get-characters (byte ∷ bytes) place count area x g =
-      let q = get-characters bytes (place + 1) (count + 1) (set area place byte) (H .reads x .leaves) (g .1) in
-      record {
-        status = rw (g .0) (q .status);
-        device = rw (g .0) (q .device);
-        stores = rw (g .0) (q .stores ∙ ap (λ (k : ℕ). sets (set area place byte) k bytes) (add-one place));
-      }
+  get-characters behind said [] place count area x z g = record { status = z refl; device = refl; stores = refl }
+  get-characters behind said (byte ∷ bytes) place count area x z g =
+      let said-now = statusBefore (length bytes + behind) in
+      let q = get-characters behind said-now bytes (place + 1) (count + 1) (set area place byte) (H .reads x .leaves)
+      (λ e. ap (λ (n : ℕ). statusBefore (n + behind)) e ∙ ap statusBefore (zero-add behind)) (g .1) in
+      by-before (Brought behind (byte ∷ bytes) place area x) (H .reads x .says) (length bytes + behind) byte _ _ (g .0)
+      (record { status = q .status; device = q .device; stores = q .stores ∙ ap (λ (k : ℕ). sets (set area place byte) k bytes) (add-one place) })
+
+  -- "n = 0: one character by A"
+  record BroughtOne (behind byte : ℕ) (x : D) (r : TransferEnd D) : Type 0 where
+    status : r .status ≡ statusBefore behind
+    device : r .device ≡ H .reads x .leaves
+    in-a : r .a ≡ byte
+
+  get-single : (behind byte count : ℕ) (area : List ℕ) (x : D) → H .reads x .says ≡ before behind byte → BroughtOne behind byte x (getOne H left a count area x)
+  unfolding getOne
+  get-single behind byte count area x e = by-before (BroughtOne behind byte x) (H .reads x .says) behind byte _ _ e (record { status = refl; device = refl; in-a = refl })
 
   -- those that are left, and then $88
   record Ended (bytes : List ℕ) (place count : ℕ) (area : List ℕ) (r : TransferEnd D) : Type 0 where
@@ -252,19 +284,15 @@ module _ {D : Type 0} (H : Acts D) (left : D → ℕ) (a : ℕ) where
     keeps : r .a ≡ a
     stores : r .area ≡ sets area place bytes
 
-  get-over : (bytes : List ℕ) (n place count : ℕ) (area : List ℕ) (x : D) → length bytes < n → Gives (H .reads) bytes x → H .reads (given (H .reads) bytes x) .says ≡ got.Refused 0x88
-      → Ended bytes place count area (getCharacters H left a n place count area x)
+  get-over : (behind said : ℕ) (bytes : List ℕ) (n place count : ℕ) (area : List ℕ) (x : D) → length bytes < n → GivesAll (H .reads) behind bytes x → H .reads (given (H .reads) bytes x) .says ≡ got.Refused 0x88
+      → Ended bytes place count area (getCharacters H left a said n place count area x)
   unfolding getCharacters
-  get-over bytes zero place count area x h g e = absurd (omega arith)
-  get-over [] (suc n) place count area x h g e = record { status = rw e refl; counts = rw e (omega arith); keeps = rw e refl; stores = rw e refl }
-  get-over (byte ∷ bytes) (suc n) place count area x h g e =
-      let q = get-over bytes n (place + 1) (count + 1) (set area place byte) (H .reads x .leaves) (omega arith) (g .1) e in
-      record {
-        status = rw (g .0) (q .status);
-        counts = rw (g .0) (omega (arith, q .counts));
-        keeps = rw (g .0) (q .keeps);
-        stores = rw (g .0) (q .stores ∙ ap (λ (k : ℕ). sets (set area place byte) k bytes) (add-one place));
-      }
+  get-over behind said bytes zero place count area x h g e = absurd (omega arith)
+  get-over behind said [] (suc n) place count area x h g e = record { status = rw e refl; counts = rw e (omega arith); keeps = rw e refl; stores = rw e refl }
+  get-over behind said (byte ∷ bytes) (suc n) place count area x h g e =
+      let q = get-over behind (statusBefore (length bytes + behind)) bytes n (place + 1) (count + 1) (set area place byte) (H .reads x .leaves) (omega arith) (g .1) e in
+      by-before (Ended (byte ∷ bytes) place count area) (H .reads x .says) (length bytes + behind) byte _ _ (g .0)
+      (record { status = q .status; counts = omega (arith, q .counts); keeps = q .keeps; stores = q .stores ∙ ap (λ (k : ℕ). sets (set area place byte) k bytes) (add-one place) })
 
 -- A CALL alone, by its block and its command
 module _ (c : Call) (l : Local) (s : Groups) (low : c .iocb ≤ 7) where
@@ -282,10 +310,10 @@ module _ (c : Call) (l : Local) (s : Groups) (low : c .iocb ≤ 7) where
   unfolding alonePlan aloneWork blockPlan
   close-is number aux1 h e = on-block command.Close (openBlock C number aux1) h e
 
-  abbrev acts : Acts CassetteGroup
+  abbrev pub acts : Acts CassetteGroup
   acts = cassetteActs (asksOn (l .number) (c .iocb))
 
-  abbrev ended : TransferEnd CassetteGroup → Alone
+  abbrev pub ended : TransferEnd CassetteGroup → Alone
   ended r = alone (withArea (r .area) l) (putGroup group.Cassette s (r .device)) (callReply (r .status) (r .count) (r .a))
 
   fits : (c .length ≡ 0) ⊎ (c .address + c .length ≤ areaLength) → or (eqb (c .length) 0) (leb (c .address + c .length) areaLength) ≡ true
@@ -299,22 +327,24 @@ module _ (c : Call) (l : Local) (s : Groups) (low : c .iocb ≤ 7) where
   put-is records way number aux1 h e w f y =
       on-block (command.Transfer false records) (openBlock C number aux1) h e ∙ rw (w, fits f, way-has way records (c .length) .1 y)
 
-  get-is : (records : Bool) (way : Way) (number aux1 : ℕ) → HasNumber (command.Transfer true records) (c .command) → blockAt (l .table) (c .iocb) ≡ openBlock C number aux1 → bit 4 aux1 ≡ true
+  pub get-is : (records : Bool) (way : Way) (number aux1 : ℕ) → HasNumber (command.Transfer true records) (c .command) → blockAt (l .table) (c .iocb) ≡ openBlock C number aux1 → bit 4 aux1 ≡ true
       → (c .length ≡ 0) ⊎ (c .address + c .length ≤ areaLength) → HasWay way records (c .length)
       → calledAlone c l s ≡ ended (getting acts (deviceLeft C) (c .a) way (c .length) (c .address) 0 (l .area) (s .cassette))
   unfolding alonePlan aloneWork aloneTransfer transferred blockPlan transferPlan areaPlan
   get-is records way number aux1 h e w f y =
       on-block (command.Transfer true records) (openBlock C number aux1) h e ∙ rw (w, fits f, way-has way records (c .length) .1 y)
 
+  pub past-is : (records : Bool) (number aux1 : ℕ) → HasNumber (command.Transfer true records) (c .command) → blockAt (l .table) (c .iocb) ≡ openBlock C number aux1 → bit 4 aux1 ≡ true
+      → (c .length ≡ 0 → ⊥) → areaLength < c .address + c .length → calledAlone c l s ≡ alone l s (callReply 0xB0 0 (c .a))
+  unfolding alonePlan aloneErrand blockPlan transferPlan areaPlan
+  past-is records number aux1 h e w n f =
+      on-block (command.Transfer true records) (openBlock C number aux1) h e ∙ rw (w, ne-eqb (c .length) 0 n, lt-leb (c .address + c .length) areaLength f)
+
 -- a transfer's characters in the area
 stored : (area : List ℕ) (place : ℕ) (bytes : List ℕ) → place + length bytes ≤ length area → bytesAt (sets area place bytes) place (length bytes) ≡ bytes
 stored area place bytes h =
     bytes-part (sets area place bytes) place (length bytes) (omega (arith, h, length-sets area place bytes))
     ∙ part-same place (length bytes) bytes area refl h
-
--- characters taken of a list
-length-left : (k : ℕ) (bytes : List ℕ) → k ≤ length bytes → length (take k bytes) + length (drop k bytes) ≡ length bytes
-length-left k bytes h = sym (length-append (take k bytes) (drop k bytes)) ∙ ap length (take-append-drop k bytes)
 
 all-more : (xs ys : List ℕ) → AllSuccess xs → AllSuccess ys → AllSuccess (xs ++ ys)
 all-more [] ys a b = b
@@ -416,36 +446,38 @@ module _ (iocb : ℕ) (low : iocb ≤ 7) where
             (put-is c m t own-low true Record number aux1 h own-block w (inr f) (p, refl))
 
       -- a GET whose characters are given
-      record GetDone (bytes : List ℕ) (r : Alone) : Type 0 where
-        status : replyStatus (r .reply) ≡ 0x01
+      record GetDone (behind : ℕ) (bytes : List ℕ) (r : Alone) : Type 0 where
+        status : replyStatus (r .reply) ≡ statusBefore behind
         brings : broughtBy c r ≡ bytes
         at : At opened (given readOf bytes x) (r .local) (r .groups)
 
       module _ (w : bit 4 aux1 ≡ true) (whole : length (m .area) ≡ areaLength) where
-        get-one : (bytes : List ℕ) → length bytes ≡ 1 → (records : Bool) → HasNumber (command.Transfer true records) (c .command) → c .length ≡ 0 → Gives readOf bytes (t .cassette)
-            → GetDone bytes (calledAlone c m t)
+        get-one : (behind : ℕ) (bytes : List ℕ) → length bytes ≡ 1 → (records : Bool) → HasNumber (command.Transfer true records) (c .command) → c .length ≡ 0 → GivesAll readOf behind bytes (t .cassette)
+            → GetDone behind bytes (calledAlone c m t)
         unfolding getting getOne
-        get-one [] n records h z g = absurd (omega arith)
-        get-one (byte ∷ []) n records h z g =
+        get-one behind [] n records h z g = absurd (omega arith)
+        get-one behind (byte ∷ []) n records h z g =
             let e = get-is c m t own-low records One number aux1 h own-block w (inl z) z in
+            let d : BroughtOne H (deviceLeft C) (c .a) behind byte (t .cassette) (getBy One) =
+            get-single H (deviceLeft C) (c .a) behind byte 0 (m .area) (t .cassette) (g .0 ∙ ap (λ (n : ℕ). before n byte) (zero-add behind)) in
             record {
-              status = ap (λ (y : Alone). replyStatus (y .reply)) e ∙ rw (g .0) refl;
-              brings = rw (eq-eqb (c .length) 0 z, e, g .0) refl;
+              status = ap (λ (y : Alone). replyStatus (y .reply)) e ∙ d .status;
+              brings = rw (eq-eqb (c .length) 0 z) (ap (λ (y : Alone). getD (y .reply) 6 0 ∷ []) e ∙ ap (λ (b : ℕ). b ∷ []) (d .in-a));
               at = record {
                 block = ap (λ (y : Alone). blockAt (y .local .table) iocb) e ∙ a .block;
-                cassette = ap (λ (y : Alone). y .groups .cassette) e ∙ rw (g .0) (ap (λ (y : CassetteGroup). readOf y .leaves) (a .cassette));
+                cassette = ap (λ (y : Alone). y .groups .cassette) e ∙ d .device ∙ ap (λ (y : CassetteGroup). readOf y .leaves) (a .cassette);
               };
             }
-        get-one (byte ∷ next ∷ bytes) n records h z g = absurd (omega arith)
+        get-one behind (byte ∷ next ∷ bytes) n records h z g = absurd (omega arith)
 
-        get-some : (bytes : List ℕ) → length bytes ≡ c .length → c .command ≡ 0x07 → 0 < c .length → c .address + c .length ≤ areaLength → Gives readOf bytes (t .cassette)
-            → GetDone bytes (calledAlone c m t)
+        get-some : (behind : ℕ) (bytes : List ℕ) → length bytes ≡ c .length → c .command ≡ 0x07 → 0 < c .length → c .address + c .length ≤ areaLength → GivesAll readOf behind bytes (t .cassette)
+            → GetDone behind bytes (calledAlone c m t)
         unfolding getting
-        get-some bytes n h p f g =
+        get-some behind bytes n h p f g =
             let e = get-is c m t own-low false Characters number aux1 h own-block w (inr f) (p, refl) in
-            let d : Brought H (deviceLeft C) (c .a) bytes (c .address) (m .area) (t .cassette) (getBy Characters) =
-            subst (λ (k : ℕ). Brought H (deviceLeft C) (c .a) bytes (c .address) (m .area) (t .cassette) (getCharacters H (deviceLeft C) (c .a) k (c .address) 0 (m .area) (t .cassette))) n
-            (get-characters H (deviceLeft C) (c .a) bytes (c .address) 0 (m .area) (t .cassette) g) in
+            let d : Brought H (deviceLeft C) (c .a) behind bytes (c .address) (m .area) (t .cassette) (getBy Characters) =
+            subst (λ (k : ℕ). Brought H (deviceLeft C) (c .a) behind bytes (c .address) (m .area) (t .cassette) (getCharacters H (deviceLeft C) (c .a) 0x01 k (c .address) 0 (m .area) (t .cassette))) n
+            (get-characters H (deviceLeft C) (c .a) behind 0x01 bytes (c .address) 0 (m .area) (t .cassette) (λ z. absurd (omega (arith, z, n, p))) g) in
             record {
               status = ap (λ (y : Alone). replyStatus (y .reply)) e ∙ d .status;
               brings =
@@ -458,9 +490,9 @@ module _ (iocb : ℕ) (low : iocb ≤ 7) where
               };
             }
 
-        get-step : (bytes : List ℕ) (k : ℕ) → length bytes ≡ k → Wants c k → Gives readOf bytes x → GetDone bytes (calledAlone c m t)
-        get-step bytes k n (wants-a records h z) g = get-one bytes n records h z (rw (a .cassette) g)
-        get-step bytes k n (wants-characters h p f) g = get-some bytes n h p f (rw (a .cassette) g)
+        get-step : (behind : ℕ) (bytes : List ℕ) (k : ℕ) → length bytes ≡ k → Wants c k → GivesAll readOf behind bytes x → GetDone behind bytes (calledAlone c m t)
+        get-step behind bytes k n (wants-a records h z) g = get-one behind bytes n records h z (rw (a .cassette) g)
+        get-step behind bytes k n (wants-characters h p f) g = get-some behind bytes n h p f (rw (a .cassette) g)
 
         -- one that asks for more than are left
         over-one : (left : List ℕ) → length left < 1 → (records : Bool) → HasNumber (command.Transfer true records) (c .command) → c .length ≡ 0
@@ -471,12 +503,12 @@ module _ (iocb : ℕ) (low : iocb ≤ 7) where
             record { says = ap (λ (y : Alone). y .reply) e ∙ rw r refl; brings = refl }
         over-one (byte ∷ left) n records h z r = absurd (omega arith)
 
-        over-some : (left : List ℕ) → length left < c .length → c .command ≡ 0x07 → 0 < c .length → c .address + c .length ≤ areaLength → Gives readOf left (t .cassette)
+        over-some : (left : List ℕ) → length left < c .length → c .command ≡ 0x07 → 0 < c .length → c .address + c .length ≤ areaLength → GivesAll readOf 0 left (t .cassette)
             → readOf (given readOf left (t .cassette)) .says ≡ got.Refused 0x88 → Over c left (calledAlone c m t)
         unfolding getting
         over-some left n h p f g r =
             let e = get-is c m t own-low false Characters number aux1 h own-block w (inr f) (p, refl) in
-            let d = get-over H (deviceLeft C) (c .a) left (c .length) (c .address) 0 (m .area) (t .cassette) n g r in
+            let d = get-over H (deviceLeft C) (c .a) 0 0x01 left (c .length) (c .address) 0 (m .area) (t .cassette) n g r in
             let k : getBy Characters .count ≡ length left = omega (arith, d .counts) in
             record {
               says = ap (λ (y : Alone). y .reply) e ∙ rw (d .status, k, d .keeps) refl;
@@ -485,7 +517,7 @@ module _ (iocb : ℕ) (low : iocb ≤ 7) where
                   ∙ stored (m .area) (c .address) left (omega (arith, n, f, whole));
             }
 
-        over-step : (left : List ℕ) (k : ℕ) → length left < k → Wants c k → Gives readOf left x → readOf (given readOf left x) .says ≡ got.Refused 0x88 → Over c left (calledAlone c m t)
+        over-step : (left : List ℕ) (k : ℕ) → length left < k → Wants c k → GivesAll readOf 0 left x → readOf (given readOf left x) .says ≡ got.Refused 0x88 → Over c left (calledAlone c m t)
         over-step left k n (wants-a records h z) g r = over-one left n records h z (rw (a .cassette) r)
         over-step left k n (wants-characters h p f) g r = over-some left n h p f (rw (a .cassette) g) (rw (a .cassette) r)
 
@@ -499,18 +531,40 @@ module _ (iocb : ℕ) (low : iocb ≤ 7) where
         let q = puts-done w (taken writeOf sent x) (one .at) (y .1) p in
         ((one .status, q .0), rw (taken-more writeOf sent rest x) (q .1))
 
+    -- a GET before others: it asks for one character at least, and so does each of them
+    some-wanted : (c : Call) (k : ℕ) → Wants c k → 0 < k
+    some-wanted c k (wants-a records h z) = omega arith
+    some-wanted c k (wants-characters h p f) = p
+
+    gets-some : {l n : Local} {s u : Groups} {asked status : ℕ} {brought statuses : List ℕ} → Gets iocb l s asked brought (status ∷ statuses) n u → 0 < asked
+    gets-some (get-next {k = k} c r i d p) = omega (arith, some-wanted c k d)
+
+    before-some : (status left : ℕ) → 0 < left → status ≡ statusBefore left → status ≡ 0x01
+    before-some status zero h e = absurd (omega arith)
+    before-some status (suc left) h e = e
+
+    none-asked : {l n : Local} {s u : Groups} {asked : ℕ} {brought : List ℕ} → Gets iocb l s asked brought [] n u → asked ≡ 0
+    none-asked (get-none r) = refl
+
+    told-next : {l n : Local} {s u : Groups} {asked : ℕ} {brought : List ℕ} (status left : ℕ) (statuses : List ℕ) → Gets iocb l s asked brought statuses n u → status ≡ statusBefore (asked + left)
+        → GetStatuses left statuses → GetStatuses left (status ∷ statuses)
+    told-next status left [] p e t = e ∙ ap statusBefore (ap (λ (m : ℕ). m + left) (none-asked p) ∙ zero-add left)
+    told-next {asked = asked} status left (next ∷ statuses) p e t = (before-some status (asked + left) (omega (arith, gets-some p)) e, t)
+
     -- GETs one after the other
-    gets-done : (w : bit 4 aux1 ≡ true) {l n : Local} {s u : Groups} {asked : ℕ} {brought statuses : List ℕ} (bytes : List ℕ) (x : CassetteGroup) → At opened x l s → Gives readOf bytes x
-        → asked ≤ length bytes → Gets iocb l s asked brought statuses n u → AllSuccess statuses × ((brought ≡ take asked bytes) × At opened (given readOf (take asked bytes) x) n u)
-    gets-done w bytes x a g h (get-none r) = (tt, (refl, at-between a r))
-    gets-done w bytes x a g h (get-next {m = m} {t = t} {k = k} {asked = asked} c r i d p) =
-        let y = gives-split readOf k bytes x g in
+    gets-done : (w : bit 4 aux1 ≡ true) {l n : Local} {s u : Groups} {asked : ℕ} {brought statuses : List ℕ} (left : ℕ) (bytes : List ℕ) (x : CassetteGroup) → At opened x l s → GivesAll readOf 0 bytes x
+        → asked + left ≡ length bytes → Gets iocb l s asked brought statuses n u → GetStatuses left statuses × ((brought ≡ take asked bytes) × At opened (given readOf (take asked bytes) x) n u)
+    gets-done w left bytes x a g h (get-none r) = (tt, (refl, at-between a r))
+    gets-done w left bytes x a g h (get-next {m = m} {t = t} {k = k} {asked = asked} {statuses = statuses} c r i d p) =
+        let y = gives-split readOf k 0 bytes x g in
         let z : k ≤ length bytes = omega arith in
         let v = length-take-le k bytes z in
-        let one = get-step x c i m t (at-between a r) w (r .fit .area) (take k bytes) k v d (y .0) in
-        let q = gets-done w (drop k bytes) (given readOf (take k bytes) x) (one .at) (y .1) (omega (arith, h, v, length-left k bytes z)) p in
+        let b : asked + left ≡ length (drop k bytes) = omega (arith, h, v, length-parts k bytes) in
+        let one = get-step x c i m t (at-between a r) w (r .fit .area) (length (drop k bytes) + 0) (take k bytes) k v d (y .0) in
+        let q = gets-done w left (drop k bytes) (given readOf (take k bytes) x) (one .at) (y .1) b p in
         let e = take-add k asked bytes in
-        ((one .status, q .0), (cat (one .brings) (q .1 .0) ∙ sym e, rw (e, given-more readOf (take k bytes) (take asked (drop k bytes)) x) (q .1 .1)))
+        let f : replyStatus (calledAlone c m t .reply) ≡ statusBefore (asked + left) = one .status ∙ ap statusBefore (add-zero (length (drop k bytes)) ∙ sym b) in
+        (told-next _ left statuses p f (q .0), (cat (one .brings) (q .1 .0) ∙ sym e, rw (e, given-more readOf (take k bytes) (take asked (drop k bytes)) x) (q .1 .1)))
 
   -- OPEN, on the closed block and the tape not open
   module _ (x : CassetteGroup) (free : x .cassette .mark ≡ 0) (c : Call) (m : Local) (t : Groups) (fit : FitLocal m) (a : At closedBlock x m t) where
@@ -614,22 +668,22 @@ module _ (s : Groups) (sound : FitCassette (s .cassette)) (free : s .cassette .c
         }
 
     -- what OPEN R and GETs leave
-    record Read (iocb asked : ℕ) (brought statuses : List ℕ) (n : Local) (u : Groups) : Type 0 where
-      success : AllSuccess statuses
+    record Read (iocb asked left : ℕ) (brought statuses : List ℕ) (n : Local) (u : Groups) : Type 0 where
+      told : ReadStatuses left statuses
       brings : brought ≡ take asked sent
       low : iocb ≤ 7
       number : ℕ
       aux1 : ℕ
       reading : bit 4 aux1 ≡ true
       x : CassetteGroup
-      gives : Gives readOf sent x
+      gives : GivesAll readOf 0 sent x
       ends : readOf (given readOf sent x) .says ≡ got.Refused 0x88
       at : At iocb low (openBlock C number aux1) (given readOf (take asked sent) x) n u
       whole : length (n .area) ≡ areaLength
 
     has-read : {iocb other asked : ℕ} {before statuses brought : List ℕ} {l m n o : Local} {t u v : Groups} → OpenPutsClose iocb l s sent before m t → u .cassette ≡ t .cassette
-        → OpenGets other n u asked brought statuses o v → asked ≤ length sent → Read other asked brought statuses o v
-    has-read {other = other} {n = n} {u = u} w b (open-gets r d o p) h =
+        → OpenGets other n u asked brought statuses o v → (left : ℕ) → asked + left ≡ length sent → Read other asked left brought statuses o v
+    has-read {other = other} {n = n} {u = u} w b (open-gets r d o p) left h =
         let low = d .low in
         let y = wrote w in
         let z = writtenOf (y .aux1) sent (s .cassette) in
@@ -638,9 +692,9 @@ module _ (s : Groups) (sound : FitCassette (s .cassette)) (free : s .cassette .c
         let e : z .cassette .mark ≡ 0 = ap (λ (d : Cassette). d .mark) (close-closed (putOn (y .aux1) sent (s .cassette) .leaves)) in
         let opens = open-step other low z e r n u (d .fit) (record { block = d .closed; cassette = b ∙ y .cassette }) true o in
         let g = gives-all readOf sent x (rule .gets (y .aux1) (r .aux1) (y .mark) k) in
-        let q = gets-done other low (o .number) (r .aux1) (o .with) sent x (opens .at) g h p in
+        let q = gets-done other low (o .number) (r .aux1) (o .with) left sent x (opens .at) g h p in
         record {
-          success = (opens .status, q .0);
+          told = (opens .status, q .0);
           brings = q .1 .0;
           low = low;
           number = o .number;
@@ -653,16 +707,16 @@ module _ (s : Groups) (sound : FitCassette (s .cassette)) (free : s .cassette .c
           whole = gets-fit other low p .area;
         }
 
-    read-over : {iocb asked k : ℕ} {brought statuses : List ℕ} (n : Local) (u : Groups) → Read iocb asked brought statuses n u → asked ≤ length sent → (c : Call) → c .iocb ≡ iocb → Wants c k
+    read-over : {iocb asked left k : ℕ} {brought statuses : List ℕ} (n : Local) (u : Groups) → Read iocb asked left brought statuses n u → asked ≤ length sent → (c : Call) → c .iocb ≡ iocb → Wants c k
         → length sent < asked + k → Over c (drop asked sent) (calledAlone c n u)
-    read-over {iocb} {asked} {k} n u q h c i d j =
+    read-over {iocb} {asked} {k = k} n u q h c i d j =
         let left = drop asked sent in
         let v = length-take-le asked sent h in
         let x = given readOf (take asked sent) (q .x) in
         let e : given readOf left x ≡ given readOf sent (q .x) =
         sym (given-more readOf (take asked sent) left (q .x)) ∙ ap (λ (b : List ℕ). given readOf b (q .x)) (take-append-drop asked sent) in
-        over-step iocb (q .low) (q .number) (q .aux1) x c i n u (q .at) (q .reading) (q .whole) left k (omega (arith, v, j, length-left asked sent h)) d
-        (gives-split readOf asked sent (q .x) (q .gives) .1)
+        over-step iocb (q .low) (q .number) (q .aux1) x c i n u (q .at) (q .reading) (q .whole) left k (omega (arith, v, j, length-parts asked sent)) d
+        (gives-split readOf asked 0 sent (q .x) (q .gives) .1)
         (ap (λ (b : CassetteGroup). readOf b .says) e ∙ q .ends)
 
   -- the characters that are the last that fit
@@ -688,8 +742,8 @@ module _ (s : Groups) (sound : FitCassette (s .cassette)) (free : s .cassette .c
     pub read-back : ReadBack s sent
     read-back = record {
       writes = λ w. wrote sent few w .success;
-      reads = λ w b r h. let q = has-read sent few w b r h in (q .success, q .brings);
-      over = λ {o = o} {v = v} w b r h c i d j. read-over sent few o v (has-read sent few w b r h) h c i d j;
+      reads = λ {asked = asked} w b r h. let q = has-read sent few w b r (length (drop asked sent)) (parts-make asked sent h) in (q .told, q .brings);
+      over = λ {asked = asked} {o = o} {v = v} w b r h c i d j. read-over sent few o v (has-read sent few w b r (length (drop asked sent)) (parts-make asked sent h)) h c i d j;
       full = λ {m = m} {t = t} p c i first rest byte d n. puts-full m t (putting-on sent few p) c i first rest byte d n;
     }
 

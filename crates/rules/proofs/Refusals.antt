@@ -18,22 +18,16 @@ use Rattle.handler.specs.declared.Done.{Done}
 use Rattle.handler.specs.declared.Done.the-variants as done
 use Rattle.handler.specs.declared.Got.{Got}
 use Rattle.handler.specs.declared.Got.the-variants as got
-use Rattle.handler.specs.Answer.{doneStatus, Answer, answer}
+use Rattle.handler.specs.Answer.{doneStatus, Answer, answer, Gives, plain, warns, gotHigh}
 use Rattle.handler.specs.Acts.{Acts, asksOpen, asksOn}
-use Rattle.keys.specs.Translation.{translateOf}
-use Rattle.keys.specs.Keyboard as keys
 use Rattle.cells.specs.Modes.{shapeOf}
 use Rattle.controls.specs.Put as controls
-use Rattle.editor.specs.Get as editor-get
 use Rattle.graphics.specs.Picture as graphics
 use Rattle.printer.specs.Printer as printer
 use Rattle.printer.specs.Printer.{paperLength}
 use Rattle.cassette.specs.declared.Cassette.{Cassette}
 use Rattle.cassette.specs.Cassette as cassette
 use Rattle.cassette.specs.Cassette.{CassetteGroup}
-use Rattle.cassette.specs.Reads.{TapeReads, bad, ended, out, given}
-use Rattle.cassette.proofs.Laws.{read-closed}
-use Rattle.cassette.proofs.Reading.{read-always}
 use Rattle.cassette.proofs.Keeps as cassette-keeps
 use Rattle.console.specs.declared.Handler.the-variants as console
 use Rattle.console.specs.Handlers.{openOf, openS, prepareOf, prepareS, readOf, readE, readS, readK, writeOf, writeE, writeS}
@@ -55,7 +49,7 @@ use Rattle.transfer.specs.declared.Next.{Next}
 use Rattle.transfer.specs.declared.Next.the-variants.{On, Off}
 use Rattle.transfer.specs.Transfer.{Out, goes, ends, outOf, landed, Progress, progress, furtherOf, endedOf, onwardOf, eol, recordOf, gotCharacter, gotOf, sentByte, sentRecord, sentNext, sentOf}
 use Rattle.transfer.specs.Spans.{Spans}
-use Rattle.transfer.proofs.Transfers.{span-characters, span-record}
+use Rattle.transfer.proofs.Transfers.{got-given, span-characters, span-record}
 use Rattle.devices.specs.declared.Owner.{Owner}
 use Rattle.devices.specs.declared.Owner.the-variants as owner
 use Rattle.devices.specs.Groups.{Part, groupIn, ownActs}
@@ -69,6 +63,7 @@ use Rattle.plan.specs.declared.Work.the-variants as work
 use Rattle.commands.specs.Commands.{wayOf}
 use Rattle.moves.specs.Move.{went, getOf, putOf, goOf, moveOf, advanceOf}
 use Rattle.cio.specs.Start.{loadFits, loadStatus, loadedOf, loadOf, errandOf, Begun, over, openingOf, preparedOut, transferOf, workOf, runOf, startOf, blockAfter, jobBegun, openedBy, openedOf, thenOf}
+use Rattle.alone.proofs.Lines.{read-high}
 
 -- the status of a reply $90; a request that goes on has none
 abbrev pub statusIn : Out → ℕ
@@ -136,10 +131,6 @@ abbrev pub doneHigh : Done → Type 0
 doneHigh done.Success = Unit
 doneHigh (done.Refused status) = 0x80 ≤ status
 
-abbrev pub gotHigh : Got → Type 0
-gotHigh (got.Character byte) = Unit
-gotHigh (got.Refused status) = 0x80 ≤ status
-
 pub record High {D : Type 0} (H : Acts D) : Type 0 where
   pub opens : (x : D) → doneHigh (H .opens x .says)
   pub prepares : (x : D) → doneHigh (H .prepares x .says)
@@ -147,19 +138,6 @@ pub record High {D : Type 0} (H : Acts D) : Type 0 where
   pub writes : (byte : ℕ) (x : D) → doneHigh (H .writes byte x .says)
   pub statuses : (x : D) → doneHigh (H .statuses x)
   pub specials : (x : D) → doneHigh (H .specials x .says)
-
--- C's, by the tape
-reads-high : (g : CassetteGroup) (a : Answer Got CassetteGroup) → TapeReads g a → gotHigh (a .says)
-reads-high g a (bad r p s l w e) = rw e (omega arith)
-reads-high g a (ended r p s l w e) = rw e (omega arith)
-reads-high g a (out r p s l e) = rw e (omega arith)
-reads-high g a (given r p n s l w h e) = rw e tt
-
-tape-read-high : (g : CassetteGroup) → gotHigh (cassette.readOf g .says)
-tape-read-high g =
-    by-eq (g .cassette .mark) 1
-    (λ m. reads-high g (cassette.readOf g) (read-always g m))
-    (λ m. rw (← read-closed (g .cassette) (g .tape) m) (omega arith))
 
 tape-write-high : (byte : ℕ) (g : CassetteGroup) → doneHigh (cassette.writeOf byte g .says)
 unfolding cassette.writeOf
@@ -190,24 +168,6 @@ prepare-high (owner.Console console.S) asked x = pick-go doneHigh (eqb (x .conso
 prepare-high (owner.Console console.K) asked x = tt
 prepare-high owner.Printer asked x = tt
 prepare-high owner.Cassette asked x = tt
-
-read-high : (o : Owner) (asked : Asked) (x : Part (groupIn o)) → gotHigh (ownActs o asked .reads x .says)
-unfolding readOf readE readS readK editor-get.getOf editor-get.getAt graphics.getOf keys.getOf keys.struckBy
-read-high (owner.Console console.E) asked x =
-    by-test (ltb (editor-get.columnOf (x .console .reading)) (editor-get.endOf (x .console .row) (x .screen)))
-    (λ t. rw t tt)
-    (λ t. rw t tt)
-read-high (owner.Console console.S) asked x =
-    by-test (leb (shapeOf (x .console .mode) .rows) (x .console .row))
-    (λ t. rw t (omega arith))
-    (λ t. rw t tt)
-read-high (owner.Console console.K) asked x =
-    let k = x .console .keyboard in
-    by-test (ltb (translateOf (k .code) (k .lock) (k .inverse)) 256)
-    (λ t. rw t tt)
-    (λ t. rw t (omega arith))
-read-high owner.Printer asked x = omega arith
-read-high owner.Cassette asked x = tape-read-high x
 
 write-high : (o : Owner) (asked : Asked) (byte : ℕ) (x : Part (groupIn o)) → doneHigh (ownActs o asked .writes byte x .says)
 unfolding writeOf writeE writeS controls.putOf graphics.putOf printer.putOf
@@ -414,57 +374,62 @@ module _ {D : Type 0} (H : Acts D) (way : Way) (run : Run) (area : List ℕ) (x 
   unfolding putOf
   put-area = refl
 
-onward-a : (run : Run) → aIn (outOf (onwardOf run)) ≡ run .a
+onward-a : (run : Run) (status : ℕ) → aIn (outOf (onwardOf run status)) ≡ run .a
 unfolding onwardOf
-onward-a run = pick-go (λ (n : Next). aIn (outOf n) ≡ run .a) (eqb (run .left) 0) (endedOf 0x01 run) (On run) (λ t. refl) (λ t. refl)
+onward-a run status = pick-go (λ (n : Next). aIn (outOf n) ≡ run .a) (eqb (run .left) 0) (endedOf status run) (On run) (λ t. refl) (λ t. refl)
 
-record-a : (run : Run) (byte : ℕ) → aIn (outOf (recordOf run byte)) ≡ run .a
+record-a : (run : Run) (status byte : ℕ) → aIn (outOf (recordOf run status byte)) ≡ run .a
 unfolding recordOf
-record-a run byte = pick-go (λ (n : Next). aIn (outOf n) ≡ run .a) (eqb byte eol) (endedOf 0x01 run) (On run) (λ t. refl) (λ t. refl)
+record-a run status byte = pick-go (λ (n : Next). aIn (outOf n) ≡ run .a) (eqb byte eol) (endedOf status run) (On run) (λ t. refl) (λ t. refl)
 
-characters-a : (run : Run) (byte : ℕ) (area : List ℕ) → aIn (outOf (gotCharacter Characters run byte area .next)) ≡ run .a
+characters-a : (run : Run) (status byte : ℕ) (area : List ℕ) → aIn (outOf (gotCharacter Characters run status byte area .next)) ≡ run .a
 unfolding gotCharacter
-characters-a run byte area = onward-a (furtherOf run)
+characters-a run status byte area = onward-a (furtherOf run) status
 
-dropping-a : (run : Run) (byte : ℕ) (area : List ℕ) → aIn (outOf (gotCharacter Record run byte area .next)) ≡ run .a
+dropping-a : (run : Run) (status byte : ℕ) (area : List ℕ) → aIn (outOf (gotCharacter Record run status byte area .next)) ≡ run .a
 unfolding gotCharacter
-dropping-a run byte area =
+dropping-a run status byte area =
     choose-go (λ (p : Progress). aIn (outOf (p .next)) ≡ run .a) (eqb (run .left) 0)
     (λ u. progress (pick (eqb byte eol) (endedOf 0x89 run) (On run)) area)
-    (λ u. progress (recordOf (furtherOf run) byte) (set area (run .place) byte))
+    (λ u. progress (recordOf (furtherOf run) status byte) (set area (run .place) byte))
     (λ t. pick-go (λ (n : Next). aIn (outOf n) ≡ run .a) (eqb byte eol) (endedOf 0x89 run) (On run) (λ s. refl) (λ s. refl))
-    (λ t. record-a (furtherOf run) byte)
+    (λ t. record-a (furtherOf run) status byte)
 
 sent-a : (way : Way) (run : Run) (byte : ℕ) (d : Done) → aIn (outOf (sentOf way run byte d)) ≡ run .a
 unfolding sentOf sentNext sentRecord
 sent-a One run byte done.Success = refl
-sent-a Characters run byte done.Success = onward-a (furtherOf run)
+sent-a Characters run byte done.Success = onward-a (furtherOf run) 0x01
 sent-a Record run byte done.Success =
     choose-go (λ (n : Next). aIn (outOf n) ≡ run .a) (eqb (run .left) 0)
     (λ u. endedOf 0x01 run)
-    (λ u. recordOf (furtherOf run) byte)
+    (λ u. recordOf (furtherOf run) 0x01 byte)
     (λ t. refl)
-    (λ t. record-a (furtherOf run) byte)
+    (λ t. record-a (furtherOf run) 0x01 byte)
 sent-a way run byte (done.Refused status) = refl
 
 module _ {D : Type 0} (H : Acts D) (run : Run) (area : List ℕ) (x : D) where
   -- a successful read of length 0: the reply's A is the character
   pub record ReadOne (kind : Kind) : Type 0 where
     pub one : kind ≡ Get One
+    pub status : ℕ
     pub byte : ℕ
-    pub read : H .reads x .says ≡ got.Character byte
-    pub reply : goOf H kind run area x .out ≡ ends (callReply 0x01 (run .count) byte)
+    pub read : Gives (H .reads x .says) status byte
+    pub reply : goOf H kind run area x .out ≡ ends (callReply status (run .count) byte)
 
-  read-one : (byte : ℕ) → H .reads x .says ≡ got.Character byte → goOf H (Get One) run area x .out ≡ ends (callReply 0x01 (run .count) byte)
-  unfolding goOf getOf gotOf gotCharacter
-  read-one byte e = rw e
+  read-one : (status byte : ℕ) → Gives (H .reads x .says) status byte → goOf H (Get One) run area x .out ≡ ends (callReply status (run .count) byte)
+  unfolding goOf getOf gotCharacter
+  read-one status byte e = ap (λ (p : Progress). outOf (p .next)) (got-given One run (H .reads x .says) status byte area e)
+
+  given-a : (way : Way) (status byte : ℕ) → Gives (H .reads x .says) status byte → (aIn (outOf (gotCharacter way run status byte area .next)) ≡ run .a) ⊎ ReadOne (Get way)
+  given-a One status byte e = inr (record { one = refl; status = status; byte = byte; read = e; reply = read-one status byte e })
+  given-a Characters status byte e = inl (characters-a run status byte area)
+  given-a Record status byte e = inl (dropping-a run status byte area)
 
   got-a : (way : Way) (g : Got) → H .reads x .says ≡ g → (aIn (outOf (gotOf way run g area .next)) ≡ run .a) ⊎ ReadOne (Get way)
   unfolding gotOf
   got-a way (got.Refused status) e = inl refl
-  got-a One (got.Character byte) e = inr (record { one = refl; byte = byte; read = e; reply = read-one byte e })
-  got-a Characters (got.Character byte) e = inl (characters-a run byte area)
-  got-a Record (got.Character byte) e = inl (dropping-a run byte area)
+  got-a way (got.Character byte) e = given-a way 0x01 byte (plain e refl)
+  got-a way (got.Last byte) e = given-a way 0x03 byte (warns e refl)
 
   -- "The reply's A is the request's except after a successful read of length 0."
   pub move-a : (kind : Kind) → (aIn (goOf H kind run area x .out) ≡ run .a) ⊎ ReadOne kind
@@ -500,14 +465,14 @@ module _ (run : Run) (area : List ℕ) (none : run .left ≡ 0) where
   added-uncounted = rw (eq-eqb (run .left) 0 none)
 
   -- GET RECORD: "With n stored and no EOL, characters are dropped through the EOL": neither stored nor counted
-  pub dropped : (byte : ℕ) → (byte ≡ eol → ⊥) → gotOf Record run (got.Character byte) area ≡ progress (On run) area
-  unfolding gotOf gotCharacter
-  dropped byte n = rw (eq-eqb (run .left) 0 none, ne-eqb byte 0x9B n)
+  pub dropped : (says : Got) (status byte : ℕ) → Gives says status byte → (byte ≡ eol → ⊥) → gotOf Record run says area ≡ progress (On run) area
+  unfolding gotCharacter
+  dropped says status byte e n = got-given Record run says status byte area e ∙ rw (eq-eqb (run .left) 0 none, ne-eqb byte 0x9B n)
 
-  -- "then $89, count n"
-  pub cut : gotOf Record run (got.Character eol) area ≡ progress (Off 0x89 (run .count) (run .a)) area
-  unfolding gotOf gotCharacter
-  cut = rw (eq-eqb (run .left) 0 none)
+  -- "then $89, count n", whichever status the EOL has
+  pub cut : (says : Got) (status : ℕ) → Gives says status eol → gotOf Record run says area ≡ progress (Off 0x89 (run .count) (run .a)) area
+  unfolding gotCharacter
+  cut says status e = got-given Record run says status eol area e ∙ rw (eq-eqb (run .left) 0 none)
 
 -- "length n": so many are counted or left, at the start and after each character
 abbrev pub lengthOf : Run → ℕ
@@ -525,38 +490,43 @@ module _ (run : Run) where
     further-length : lengthOf (furtherOf run) ≡ lengthOf run
     further-length = omega arith
 
-    onward-keeps : Keeps run (onwardOf (furtherOf run))
+    onward-keeps : (status : ℕ) → Keeps run (onwardOf (furtherOf run) status)
     unfolding onwardOf
-    onward-keeps = pick-go (Keeps run) (eqb (furtherOf run .left) 0) (endedOf 0x01 (furtherOf run)) (On (furtherOf run)) (λ t. tt) (λ t. further-length)
+    onward-keeps status = pick-go (Keeps run) (eqb (furtherOf run .left) 0) (endedOf status (furtherOf run)) (On (furtherOf run)) (λ t. tt) (λ t. further-length)
 
-    record-keeps : (byte : ℕ) → Keeps run (recordOf (furtherOf run) byte)
+    record-keeps : (status byte : ℕ) → Keeps run (recordOf (furtherOf run) status byte)
     unfolding recordOf
-    record-keeps byte = pick-go (Keeps run) (eqb byte eol) (endedOf 0x01 (furtherOf run)) (On (furtherOf run)) (λ t. tt) (λ t. further-length)
+    record-keeps status byte = pick-go (Keeps run) (eqb byte eol) (endedOf status (furtherOf run)) (On (furtherOf run)) (λ t. tt) (λ t. further-length)
 
-  pub got-length : (way : Way) (g : Got) (area : List ℕ) → Spans way run → Keeps run (gotOf way run g area .next)
-  unfolding gotOf gotCharacter
-  got-length way (got.Refused status) area s = tt
-  got-length One (got.Character byte) area s = tt
-  got-length Characters (got.Character byte) area s = onward-keeps (span-characters Characters run s refl .left)
-  got-length Record (got.Character byte) area s =
+  given-length : (way : Way) (status byte : ℕ) (area : List ℕ) → Spans way run → Keeps run (gotCharacter way run status byte area .next)
+  unfolding gotCharacter
+  given-length One status byte area s = tt
+  given-length Characters status byte area s = onward-keeps (span-characters Characters run s refl .left) status
+  given-length Record status byte area s =
       choose-eq (λ (p : Progress). Keeps run (p .next)) (run .left) 0
       (λ u. progress (pick (eqb byte eol) (endedOf 0x89 run) (On run)) area)
-      (λ u. progress (recordOf (furtherOf run) byte) (set area (run .place) byte))
+      (λ u. progress (recordOf (furtherOf run) status byte) (set area (run .place) byte))
       (λ z. pick-go (Keeps run) (eqb byte eol) (endedOf 0x89 run) (On run) (λ t. tt) (λ t. refl))
-      (λ n. record-keeps (span-record run s n .left) byte)
+      (λ n. record-keeps (span-record run s n .left) status byte)
+
+  pub got-length : (way : Way) (g : Got) (area : List ℕ) → Spans way run → Keeps run (gotOf way run g area .next)
+  unfolding gotOf
+  got-length way (got.Refused status) area s = tt
+  got-length way (got.Character byte) area s = given-length way 0x01 byte area s
+  got-length way (got.Last byte) area s = given-length way 0x03 byte area s
 
   pub sent-length : (way : Way) (byte : ℕ) (d : Done) → Spans way run → Keeps run (sentOf way run byte d)
   unfolding sentOf sentNext sentRecord
   sent-length One byte done.Success s = tt
-  sent-length Characters byte done.Success s = onward-keeps (span-characters Characters run s refl .left)
+  sent-length Characters byte done.Success s = onward-keeps (span-characters Characters run s refl .left) 0x01
   sent-length Record byte done.Success s =
       choose-eq (Keeps run) (run .left) 0
       (λ u. endedOf 0x01 run)
-      (λ u. recordOf (furtherOf run) byte)
+      (λ u. recordOf (furtherOf run) 0x01 byte)
       (λ z. tt)
-      (λ n. record-keeps (span-record run s n .left) byte)
+      (λ n. record-keeps (span-record run s n .left) 0x01 byte)
   sent-length way byte (done.Refused status) s = tt
 
   -- "then $89, count n"
-  pub cut-count : (n : ℕ) (area : List ℕ) → lengthOf run ≡ n → run .left ≡ 0 → gotOf Record run (got.Character eol) area ≡ progress (Off 0x89 n (run .a)) area
-  cut-count n area e z = cut run area z ∙ ap (λ (c : ℕ). progress (Off 0x89 c (run .a)) area) (omega arith)
+  pub cut-count : (n : ℕ) (area : List ℕ) (says : Got) (status : ℕ) → Gives says status eol → lengthOf run ≡ n → run .left ≡ 0 → gotOf Record run says area ≡ progress (Off 0x89 n (run .a)) area
+  cut-count n area says status g e z = cut run area z says status g ∙ ap (λ (c : ℕ). progress (Off 0x89 c (run .a)) area) (omega arith)

@@ -4,7 +4,7 @@ use mathlib.Core.Path.{_≡_, _∙_, refl, sym, ap, subst}
 use mathlib.Core.Logic.{_↔_, _⊎_, inl, inr, ⊎-elim}
 use mathlib.Core.Bool.{Bool, true, false, not}
 use mathlib.Core.List.{List, [], _∷_}
-use Prim.Native.Nat.{ℕ, zero, suc, _+_, _<_, _≤_}
+use Prim.Native.Nat.{ℕ, zero, suc, _+_, _*_, _<_, _≤_}
 use native.Mathlib.Omega.{arith}
 use lib.Dec.{T, eqb, leb, ltb}
 use lib.ListN.{length, getD}
@@ -16,7 +16,8 @@ use Rattle.handler.specs.declared.Done.{Done}
 use Rattle.handler.specs.declared.Done.the-variants as done
 use Rattle.handler.specs.declared.Got.{Got}
 use Rattle.handler.specs.declared.Got.the-variants as got
-use Rattle.handler.specs.Answer.{doneStatus, Answer, answer}
+use Rattle.handler.specs.Answer.{doneStatus, Answer, answer, Gives, plain, warns}
+use Rattle.handler.proofs.Giving.{gives-refused}
 use Rattle.handler.specs.Acts.{Acts, asksOpen, asksOn}
 use Rattle.keys.specs.Translation.{translateOf}
 use Rattle.keys.specs.declared.keyboard.Keyboard.{Keyboard}
@@ -32,13 +33,14 @@ use Rattle.graphics.specs.Picture as graphics
 use Rattle.printer.specs.Printer.{paperLength, PrinterGroup}
 use Rattle.printer.specs.Printer as printer
 use Rattle.printer.proofs.Keeps as printer-keeps
-use Rattle.cassette.specs.Cassette.{CassetteGroup}
+use Rattle.cassette.specs.Cassette.{CassetteGroup, withCassette, behind}
 use Rattle.cassette.specs.Cassette as cassette
-use Rattle.cassette.specs.Reads.{TapeReads, bad, ended, out, given}
-use Rattle.cassette.proofs.Reading.{read-always, read-only}
+use Rattle.cassette.specs.Reads.{success, warned, TapeReads, bad, ended, given}
+use Rattle.cassette.proofs.Reading.{come-gives, read-always, read-only}
 use Rattle.console.specs.Group.{ConsoleGroup}
 use Rattle.console.specs.Handlers.{textOf, openOf, openS, prepareOf, prepareE, prepareS, readOf, readE, readS, readK, writeOf, writeE, writeS}
 use Rattle.console.specs.declared.Handler.the-variants as console
+use Rattle.console.proofs.Keeps.{read-never-last}
 use Rattle.blocks.specs.declared.BlockState.{BlockState}
 use Rattle.blocks.specs.declared.BlockState.the-variants as block
 use Rattle.blocks.specs.declared.ControlBlock.{ControlBlock}
@@ -78,7 +80,7 @@ use Rattle.alone.specs.Transfer.{TransferEnd, getting, putting, transferred}
 use Rattle.alone.specs.Left.{deviceLeft}
 use Rattle.alone.specs.Fit.{FitLocal, FitOwn}
 use Rattle.alone.specs.Alone.{call, load, fetch, askedOf, Local, aloneOpening, aloneTransfer, aloneWork, aloneErrand, alonePlan, aloneOf}
-use Rattle.alone.specs.Ending.{GoesOn, ReadsTo, GetEnds, Stores, get-refused, get-whole, get-cut, SentOn, WritesTo, PutEnds, put-refused, put-whole, readTo, readSays, writtenTo, writeSays}
+use Rattle.alone.specs.Ending.{IsLast, GoesOn, ReadsTo, GetEnds, Stores, get-refused, get-whole, get-cut, SentOn, WritesTo, PutEnds, put-refused, put-whole, readTo, readSays, writtenTo, writeSays}
 use Rattle.alone.proofs.Ending.{LengthFits, get-ends, put-ends, get-once, put-once, get-kept, get-read, put-kept}
 use Rattle.alone.proofs.Loading.{load-leaves}
 use Rattle.alone.proofs.Storing.{get-stores, put-area}
@@ -86,11 +88,12 @@ use Rattle.alone.proofs.Fit.{fit-part}
 use Rattle.alone.proofs.Lines.{device-lines, device-starts}
 use Rattle.rules.proofs.Marks.{read-mark, write-mark}
 use Rattle.rules.specs.Answers.{oneOf}
-use Rattle.rules.specs.Statuses.{replyStatus, directionBit, BadMode, OnBlock, OpenElsewhere, MarkedAs, AtEnd, end-record, run-out, AtBad, bad-record, OpenOnOpen, TransferOnClosed, Transfer, Undirected, Directed, Opening, PastArea, buffer-past, specification-past, NoDevice, NamesDevice, AlreadyOpen, block-open, tape-open, Illegal, bad-command, not-offered, special-on-open, special-on-closed, Passed, NoMode, open-mode, transfer-mode, Started, actsOn, sentBy, ReadsAt, WritesAt, EndOfFile, BadRecord, RecordCut, PastRows, CursorPast, Full, CallStatuses, CallBlocks, CallNeeds, GetReply, PutReply, Uncounted, CallReplies, LoadStatuses, LoadReplies, FetchReplies}
+use Rattle.rules.specs.Statuses.{replyStatus, directionBit, BadMode, OnBlock, OpenElsewhere, MarkedAs, AtEnd, at-end, AtBad, bad-record, BeforeEnd, before-end, OpenOnOpen, TransferOnClosed, Transfer, Undirected, Directed, Opening, PastArea, buffer-past, specification-past, NoDevice, NamesDevice, AlreadyOpen, block-open, tape-open, Illegal, bad-command, not-offered, special-on-open, special-on-closed, Passed, NoMode, open-mode, transfer-mode, Started, actsOn, sentBy, ReadsAt, WritesAt, EndOfFile, BadRecord, EndWarned, RecordCut, PastRows, CursorPast, Full, CallStatuses, CallBlocks, CallNeeds, GetReply, PutReply, Uncounted, CallReplies, LoadStatuses, LoadReplies, FetchReplies}
 
 -- What a handler says, as a number: a character or a success is 0, a refusal one more than its status
 abbrev gotNumber : Got → ℕ
 gotNumber (got.Character byte) = 0
+gotNumber (got.Last byte) = 0
 gotNumber (got.Refused status) = 1 + status
 
 abbrev doneNumber : Done → ℕ
@@ -253,16 +256,32 @@ data TapeRefused (g : CassetteGroup) (status : ℕ) : Type 0 where
 
 reads-tape : (g : CassetteGroup) (status : ℕ) (a : Answer Got CassetteGroup) → TapeReads g a → a .says ≡ got.Refused status → TapeRefused g status
 reads-tape g status a (bad r p s l w e) q = tape-bad (omega (arith, ap gotNumber (sym (ap (λ (b : Answer Got CassetteGroup). b .says) e) ∙ q))) (bad-record r p s l w)
-reads-tape g status a (ended r p s l w e) q = tape-ends (omega (arith, ap gotNumber (sym (ap (λ (b : Answer Got CassetteGroup). b .says) e) ∙ q))) (end-record r p s l w)
-reads-tape g status a (out r p s l e) q = tape-ends (omega (arith, ap gotNumber (sym (ap (λ (b : Answer Got CassetteGroup). b .says) e) ∙ q))) (run-out r p s l)
-reads-tape g status a (given r p n s l w h e) q = absurd (omega (arith, ap gotNumber (sym (ap (λ (b : Answer Got CassetteGroup). b .says) e) ∙ q)))
+reads-tape g status a (ended r p s t e) q = tape-ends (omega (arith, ap gotNumber (sym (ap (λ (b : Answer Got CassetteGroup). b .says) e) ∙ q))) (at-end r p s t)
+reads-tape g status a (given r p n says s l w h x e) q =
+    absurd (gives-refused status (come-gives (g .tape) r p n (getD (g .tape) (132 * r + 3 + p) 0) says x) (sym (ap (λ (b : Answer Got CassetteGroup). b .says) e) ∙ q))
+
+-- a character with $03, by the tape's bytes
+not-last : (s byte : ℕ) → got.Refused s ≡ got.Last byte → ⊥
+not-last s byte e = omega (arith, ap gotNumber e)
+
+warned-tape : (g : CassetteGroup) (byte : ℕ) (a : Answer Got CassetteGroup) → TapeReads g a → a .says ≡ got.Last byte → BeforeEnd g byte
+warned-tape g byte a (bad r p s l w e) q = absurd (not-last 0x8F byte (sym (ap (λ (b : Answer Got CassetteGroup). b .says) e) ∙ q))
+warned-tape g byte a (ended r p s t e) q = absurd (not-last 0x88 byte (sym (ap (λ (b : Answer Got CassetteGroup). b .says) e) ∙ q))
+warned-tape g byte a (given r p n says s l w h (success x f) e) q = let z : _≡_ {A = ℕ} 0 1 = cc in absurd (omega arith)
+warned-tape g byte a (given r p n says s l w h (warned x f) e) q = before-end r p n s l w h x cc
+
+warned-C : (asked : Asked) (g : CassetteGroup) (byte : ℕ) → g .cassette .mark ≡ 1 → deviceActs C asked .reads g .says ≡ got.Last byte → BeforeEnd g byte
+warned-C asked g byte m e = warned-tape g byte (cassette.readOf g) (read-always g m) e
+
+tape-warns : (asked : Asked) (g : CassetteGroup) (byte : ℕ) → g .cassette .mark ≡ 1 → BeforeEnd g byte → deviceActs C asked .reads g .says ≡ got.Last byte
+tape-warns asked g byte m (before-end r p n s l w h x e) =
+    sym (ap (λ (b : Answer Got CassetteGroup). b .says) (read-only g m (answer (got.Last byte) (withCassette g (behind r p n))) (given r p n (got.Last byte) s l w h (warned x (ap got.Last e)) refl)))
 
 reads-C : (asked : Asked) (g : CassetteGroup) (status : ℕ) → g .cassette .mark ≡ 1 → deviceActs C asked .reads g .says ≡ got.Refused status → TapeRefused g status
 reads-C asked g status m e = reads-tape g status (cassette.readOf g) (read-always g m) e
 
 reads-end : (asked : Asked) (g : CassetteGroup) → g .cassette .mark ≡ 1 → AtEnd g → deviceActs C asked .reads g .says ≡ got.Refused 0x88
-reads-end asked g m (end-record r p s l w) = sym (ap (λ (b : Answer Got CassetteGroup). b .says) (read-only g m (answer (got.Refused 0x88) g) (ended r p s l w refl)))
-reads-end asked g m (run-out r p s l) = sym (ap (λ (b : Answer Got CassetteGroup). b .says) (read-only g m (answer (got.Refused 0x88) g) (out r p s l refl)))
+reads-end asked g m (at-end r p s t) = sym (ap (λ (b : Answer Got CassetteGroup). b .says) (read-only g m (answer (got.Refused 0x88) g) (ended r p s t refl)))
 
 reads-bad : (asked : Asked) (g : CassetteGroup) → g .cassette .mark ≡ 1 → AtBad g → deviceActs C asked .reads g .says ≡ got.Refused 0x8F
 reads-bad asked g m (bad-record r p s l w) = sym (ap (λ (b : Answer Got CassetteGroup). b .says) (read-only g m (answer (got.Refused 0x8F) g) (bad r p s l w refl)))
@@ -339,6 +358,7 @@ module _ (c : Call) (l : Local) (s : Groups) where
   abbrev Row : ℕ → Type 0
   Row status =
       row (eqb status 0x01) (Unit {0})
+      (row (eqb status 0x03) (EndWarned c l s)
       (row (eqb status 0x86) (7 < c .iocb)
       (row (eqb status 0x84) (Illegal c l s)
       (row (eqb status 0x81) (AlreadyOpen c l s)
@@ -353,7 +373,7 @@ module _ (c : Call) (l : Local) (s : Groups) where
       (row (eqb status 0x8D) (CursorPast c l s)
       (row (eqb status 0x8F) (BadRecord c l s)
       (row (eqb status 0x90) (Full c l s)
-      ⊥))))))))))))))
+      ⊥)))))))))))))))
 
   abbrev half : List ℕ
   half = l .area
@@ -741,10 +761,25 @@ module _ (c : Call) (l : Local) (s : Groups) where
     read-refused P t k status q e = absurd (unread (t .passed .directed))
     read-refused C t k status q e = tape-row t k status q (reads-C tapeAsks (readTo (actsOn c l s C) k (t .stands)) status (read-at-mark t k) e)
 
+    -- "other devices never give it"
+    warned-row : (device : Device) (t : Started c l s true device) (k byte : ℕ) → ReadsTo (actsOn c l s device) (t .way) (c .length) (t .stands) k
+        → readSays (actsOn c l s device) k (t .stands) ≡ got.Last byte → IsLast (t .way) (c .length) k byte → (t .way ≡ Record → k < c .length) → EndWarned c l s
+    warned-row E t k byte q e final h = absurd (read-never-last console.E (readTo (actsOn c l s E) k (t .stands)) byte e)
+    warned-row S t k byte q e final h = absurd (read-never-last console.S (readTo (actsOn c l s S) k (t .stands)) byte e)
+    warned-row K t k byte q e final h = absurd (read-never-last console.K (readTo (actsOn c l s K) k (t .stands)) byte e)
+    warned-row P t k byte q e final h = absurd (unread (t .passed .directed))
+    warned-row C t k byte q e final h = record {
+      byte = byte;
+      reads = record { started = t; k = k; comes = q; at = warned-C tapeAsks (readTo (actsOn c l s C) k (t .stands)) byte (read-at-mark t k) e };
+      final = final;
+      uncut = h;
+    }
+
     get-row : (device : Device) (t : Started c l s true device) {status count : ℕ} {y : Part (groupOf device)} → GetEnds (actsOn c l s device) (t .way) (c .length) (t .stands) status count y → Row status
-    get-row device t (get-refused k status q e) = read-refused device t k status q e
-    get-row device t (get-whole k byte q e last h) = tt
-    get-row device t (get-cut k q e r h) = record { device = device; reads = record { started = t; k = k; comes = q; at = e }; way = r; stored = h }
+    get-row device t (get-refused k status q e h) = read-refused device t k status q e
+    get-row device t (get-whole k status byte q (plain e z) final h) = subst Row (sym z) tt
+    get-row device t (get-whole k status byte q (warns e z) final h) = subst Row (sym z) (warned-row device t k byte q e final h)
+    get-row device t (get-cut k status q e r h) = record { device = device; status = status; reads = record { started = t; k = k; comes = q; at = e }; way = r; stored = h }
 
     write-refused : (device : Device) (t : Started c l s false device) (k status : ℕ) → WritesTo (actsOn c l s device) (t .way) (c .length) (sentBy c l s (t .way)) (t .stands) k
         → writeSays (actsOn c l s device) (sentBy c l s (t .way)) k (t .stands) ≡ done.Refused status → Row status
@@ -763,7 +798,7 @@ module _ (c : Call) (l : Local) (s : Groups) where
 
     put-row : (device : Device) (t : Started c l s false device) {status count : ℕ} {y : Part (groupOf device)} → PutEnds (actsOn c l s device) (t .way) (c .length) (sentBy c l s (t .way)) (t .stands) status count y → Row status
     put-row device t (put-refused k status q e) = write-refused device t k status q e
-    put-row device t (put-whole k q e last) = tt
+    put-row device t (put-whole k q e final) = tt
 
     no-mode : (reading : Bool) (device : Device) → Passed c l s reading device → NoPicture device (own device) → NoMode c l s
     no-mode reading E p e = absurd e
@@ -1082,23 +1117,32 @@ module _ (c : Call) (l : Local) (s : Groups) where
     line-88 : FitLocal l → MarkedAs l s → EndOfFile c l s → ends 0x88
     line-88 fl mk (inl r) =
         get-line K (r .started)
-        (get-refused (r .k) 0x88 (r .comes) (keys-reads (asksOn (l .number) (c .iocb)) (readTo (actsOn c l s K) (r .k) (r .started .stands)) (r .at)))
+        (get-refused (r .k) 0x88 (r .comes) (keys-reads (asksOn (l .number) (c .iocb)) (readTo (actsOn c l s K) (r .k) (r .started .stands)) (r .at)) (omega arith))
     line-88 fl mk (inr r) =
         get-line C (r .started)
-        (get-refused (r .k) 0x88 (r .comes) (reads-end (asksOn (l .number) (c .iocb)) (readTo (actsOn c l s C) (r .k) (r .started .stands)) (read-at-mark fl mk (r .started) (r .k)) (r .at)))
+        (get-refused (r .k) 0x88 (r .comes) (reads-end (asksOn (l .number) (c .iocb)) (readTo (actsOn c l s C) (r .k) (r .started .stands)) (read-at-mark fl mk (r .started) (r .k)) (r .at)) (omega arith))
 
     line-8f : FitLocal l → MarkedAs l s → BadRecord c l s → ends 0x8F
     line-8f fl mk r =
         get-line C (r .started)
-        (get-refused (r .k) 0x8F (r .comes) (reads-bad (asksOn (l .number) (c .iocb)) (readTo (actsOn c l s C) (r .k) (r .started .stands)) (read-at-mark fl mk (r .started) (r .k)) (r .at)))
+        (get-refused (r .k) 0x8F (r .comes) (reads-bad (asksOn (l .number) (c .iocb)) (readTo (actsOn c l s C) (r .k) (r .started .stands)) (read-at-mark fl mk (r .started) (r .k)) (r .at)) (omega arith))
+
+    line-03 : FitLocal l → MarkedAs l s → EndWarned c l s → ends 0x03
+    line-03 fl mk r =
+        let t = r .reads .started in
+        let k = r .reads .k in
+        get-line C t
+        (get-whole k 0x03 (r .byte) (r .reads .comes)
+        (warns (tape-warns (asksOn (l .number) (c .iocb)) (readTo (actsOn c l s C) k (t .stands)) (r .byte) (read-at-mark fl mk t k) (r .reads .at)) refl)
+        (r .final) (r .uncut))
 
     line-89 : RecordCut c l s → ends 0x89
-    line-89 r = get-line (r .device) (r .reads .started) (get-cut (r .reads .k) (r .reads .comes) (r .reads .at) (r .way) (r .stored))
+    line-89 r = get-line (r .device) (r .reads .started) (get-cut (r .reads .k) (r .status) (r .reads .comes) (r .reads .at) (r .way) (r .stored))
 
     line-8d : CursorPast c l s → ends 0x8D
     line-8d (inl r) =
         get-line S (r .started)
-        (get-refused (r .k) 0x8D (r .comes) (screen-reads (asksOn (l .number) (c .iocb)) (readTo (actsOn c l s S) (r .k) (r .started .stands)) (r .at)))
+        (get-refused (r .k) 0x8D (r .comes) (screen-reads (asksOn (l .number) (c .iocb)) (readTo (actsOn c l s S) (r .k) (r .started .stands)) (r .at)) (omega arith))
     line-8d (inr w) =
         put-line S (w .started)
         (put-refused (w .k) 0x8D (w .comes)
@@ -1119,9 +1163,10 @@ module _ (c : Call) (l : Local) (s : Groups) where
     to : (status : ℕ) → ends status → Row status
     to status e = subst Row e (row-holds fl mk fg .line)
 
-    one-of : (status : ℕ) → Row status → oneOf (0x01 ∷ 0x86 ∷ 0x84 ∷ 0x81 ∷ 0x85 ∷ 0x83 ∷ 0x87 ∷ 0xB0 ∷ 0x82 ∷ 0x91 ∷ 0x88 ∷ 0x89 ∷ 0x8D ∷ 0x8F ∷ 0x90 ∷ []) status ≡ true
+    one-of : (status : ℕ) → Row status → oneOf (0x01 ∷ 0x03 ∷ 0x86 ∷ 0x84 ∷ 0x81 ∷ 0x85 ∷ 0x83 ∷ 0x87 ∷ 0xB0 ∷ 0x82 ∷ 0x91 ∷ 0x88 ∷ 0x89 ∷ 0x8D ∷ 0x8F ∷ 0x90 ∷ []) status ≡ true
     one-of status r =
         row-any (eqb status 0x01) _ _ _
+        (row-any (eqb status 0x03) _ _ _
         (row-any (eqb status 0x86) _ _ _
         (row-any (eqb status 0x84) _ _ _
         (row-any (eqb status 0x81) _ _ _
@@ -1136,7 +1181,7 @@ module _ (c : Call) (l : Local) (s : Groups) where
         (row-any (eqb status 0x8D) _ _ _
         (row-any (eqb status 0x8F) _ _ _
         (row-any (eqb status 0x90) _ _ _
-        (λ n. absurd n))))))))))))))) r
+        (λ n. absurd n)))))))))))))))) r
 
     pub call-statuses : CallStatuses c l s (replyStatus (aloneOf (call c) l s .reply))
     unfolding aloneOf planOf planIn
@@ -1150,6 +1195,7 @@ module _ (c : Call) (l : Local) (s : Groups) where
       past-area = (to 0xB0, λ h. refused-by 0xB0 (plan-b0 h));
       no-device = (to 0x82, λ h. refused-by 0x82 (plan-82 h));
       screen-mode = (to 0x91, line-91);
+      end-warned = (to 0x03, line-03 fg fl mk);
       end-of-file = (to 0x88, line-88 fg fl mk);
       record-cut = (to 0x89, line-89 fg);
       cursor-past = (to 0x8D, line-8d fg);
@@ -1178,7 +1224,7 @@ module _ (c : Call) (l : Local) (s : Groups) where
           stores =
               subst (Stores (actsOn c l s device) x (c .address) (r .count) half) (sym (ap areaOf p ∙ get-area device (t .way) x (t .begins)))
               (get-stores (actsOn c l s device) (deviceLeft device) (c .a) (t .way) n (c .address) half x fits buffer);
-          a-read = λ z byte e. get-read (actsOn c l s device) (deviceLeft device) (c .a) (t .way) n (c .address) half x byte fits z e;
+          a-read = λ z status byte e. get-read (actsOn c l s device) (deviceLeft device) (c .a) (t .way) n (c .address) half x status byte fits z e;
           a-kept = λ none. get-kept (actsOn c l s device) (deviceLeft device) (c .a) (t .way) n (c .address) half x fits none;
         }
 

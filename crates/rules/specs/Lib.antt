@@ -4,3 +4,4 @@ pub mod Ports
 pub mod Running
 pub mod Statuses
 pub mod ReadBack
+pub mod Warned

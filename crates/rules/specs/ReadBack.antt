@@ -1,11 +1,11 @@
--- Document 02, Ask 1, over whole requests: what is written is read back, for every list of at most 31,872 characters, however it is cut
--- into PUT CHARACTERS and GET CHARACTERS, length 0 too. OPEN W, PUTs, CLOSE, OPEN R and GETs give the same characters, and then $88; and
--- what PUT RECORD sent, its added EOL included.
+-- Document 02, Asks 1 and 7, over whole requests: what is written is read back, for every list of at most 31,872 characters, however it is
+-- cut into PUT CHARACTERS and GET CHARACTERS, length 0 too. OPEN W, PUTs, CLOSE, OPEN R and GETs give the same characters, the last with
+-- $03, and then $88; and what PUT RECORD sent, its added EOL included.
 -- Assumes nothing.
 use mathlib.Core.Path.{_≡_}
 use mathlib.Core.Bool.{Bool, true, false, not}
 use mathlib.Core.List.{List, [], _∷_, _++_}
-use Prim.Native.Nat.{ℕ, _+_, _<_, _≤_}
+use Prim.Native.Nat.{ℕ, zero, suc, _+_, _<_, _≤_}
 use lib.Dec.{eqb}
 use lib.ListN.{length, getD, take, drop}
 use Rattle.base.specs.Choice.{pick, bit}
@@ -31,6 +31,22 @@ calledAlone c l s = aloneOf (call c) l s
 -- "$01 success", of every reply
 abbrev pub AllSuccess : (statuses : List ℕ) → Type 0
 AllSuccess statuses = Each (λ (status : ℕ). status ≡ 0x01) statuses
+
+-- "A tape read after which the next would give $88 should come with $03.": with so many characters left behind it
+abbrev pub statusBefore : (left : ℕ) → ℕ
+statusBefore zero = 0x03
+statusBefore (suc left) = 0x01
+
+-- of GETs one after the other, with so many characters left behind the last of them
+abbrev pub GetStatuses : (left : ℕ) → (statuses : List ℕ) → Type 0
+GetStatuses left [] = Unit {0}
+GetStatuses left (status ∷ []) = status ≡ statusBefore left
+GetStatuses left (status ∷ next ∷ statuses) = (status ≡ 0x01) × GetStatuses left (next ∷ statuses)
+
+-- and of an OPEN before them
+abbrev pub ReadStatuses : (left : ℕ) → (statuses : List ℕ) → Type 0
+ReadStatuses left [] = ⊥
+ReadStatuses left (status ∷ statuses) = (status ≡ 0x01) × GetStatuses left statuses
 
 -- OPEN R or OPEN W of C: "AUX1: R is 4, W is 8."; "C opens for reading or writing, both at once is $84"
 pub record OpensTape (reading : Bool) (iocb : ℕ) (c : Call) (l : Local) : Type 0 where
@@ -121,7 +137,7 @@ pub record ReadBack (s : Groups) (sent : List ℕ) : Type 0 where
   pub writes : {iocb : ℕ} {statuses : List ℕ} {l m : Local} {t : Groups} → OpenPutsClose iocb l s sent statuses m t → AllSuccess statuses
   -- the same characters, in order
   pub reads : {iocb other asked : ℕ} {before statuses brought : List ℕ} {l m n o : Local} {t u v : Groups} → OpenPutsClose iocb l s sent before m t
-      → u .cassette ≡ t .cassette → OpenGets other n u asked brought statuses o v → asked ≤ length sent → AllSuccess statuses × (brought ≡ take asked sent)
+      → u .cassette ≡ t .cassette → OpenGets other n u asked brought statuses o v → asked ≤ length sent → ReadStatuses (length (drop asked sent)) statuses × (brought ≡ take asked sent)
   pub over : {iocb other asked k : ℕ} {before statuses brought : List ℕ} {l m n o : Local} {t u v : Groups} → OpenPutsClose iocb l s sent before m t
       → u .cassette ≡ t .cassette → OpenGets other n u asked brought statuses o v → asked ≤ length sent → (c : Call) → c .iocb ≡ other → Wants c k
       → length sent < asked + k → Over c (drop asked sent) (calledAlone c o v)

@@ -1,25 +1,24 @@
 -- Document 01, Statuses: the table and the order of the checks, a line each: a request alone ends with a status exactly when its line
--- says so. From the message, the port's blocks and area, and the device alone. With document 02's Ask 1: the lines of the tape.
+-- says so. From the message, the port's blocks and area, and the device alone. With document 02's Asks 1 and 7: the lines of the tape.
 -- Assumes nothing.
 use mathlib.Core.Path.{_≡_}
 use mathlib.Core.Logic.{_↔_, _⊎_}
 use mathlib.Core.Bool.{Bool, true, false}
 use mathlib.Core.List.{List, [], _∷_}
-use Prim.Native.Nat.{ℕ, _+_, _<_, _≤_}
+use Prim.Native.Nat.{ℕ, _+_, _*_, _<_, _≤_}
 use lib.ListN.{length, getD}
 use Rattle.base.specs.Choice.{bit}
 use Rattle.handler.specs.declared.Done.the-variants as done
-use Rattle.handler.specs.declared.Got.the-variants as got
-use Rattle.handler.specs.Answer.{answer}
+use Rattle.handler.specs.Answer.{answer, Gives}
 use Rattle.handler.specs.Acts.{Acts, asksOn}
 use Rattle.keys.specs.Translation.{translateOf}
 use Rattle.cells.specs.Modes.{shapeOf}
 use Rattle.console.specs.Group.{ConsoleGroup}
 use Rattle.printer.specs.Printer.{paperLength, PrinterGroup}
 use Rattle.records.specs.Records.{recordAt}
-use Rattle.records.specs.Kinds.{EndsFile, Wrong}
+use Rattle.records.specs.Kinds.{HoldsCharacters, Wrong}
 use Rattle.cassette.specs.Cassette.{CassetteGroup, markOf}
-use Rattle.cassette.specs.Reads.{Stands}
+use Rattle.cassette.specs.Reads.{Stands, TapeEnds, EndsBehind}
 use Rattle.blocks.specs.declared.BlockState.{BlockState}
 use Rattle.blocks.specs.declared.BlockState.the-variants as block
 use Rattle.blocks.specs.declared.Device.{Device}
@@ -41,7 +40,7 @@ use Rattle.devices.specs.declared.Group.the-variants as group
 use Rattle.devices.specs.Groups.{Groups, Part, getGroup, groupOf, deviceActs}
 use Rattle.alone.specs.Alone.{Local}
 use Rattle.alone.specs.Loading.{LoadLeaves}
-use Rattle.alone.specs.Ending.{readTo, ReadsTo, GetEnds, Stores, mostSent, writtenTo, WritesTo, PutEnds}
+use Rattle.alone.specs.Ending.{IsLast, readTo, ReadsTo, GetEnds, Stores, mostSent, writtenTo, WritesTo, PutEnds}
 use Rattle.rules.specs.Answers.{oneOf}
 
 -- "status", the first byte of a reply's value
@@ -106,12 +105,16 @@ pub record MarkedAs (l : Local) (s : Groups) : Type 0 where
 
 -- "a tape that runs out reads as $88", and so does a good end record
 pub data AtEnd (g : CassetteGroup) : Type 0 where
-  end-record : (r p : ℕ) → Stands g r p → r < 250 → EndsFile (recordAt (g .tape) r) → AtEnd g
-  run-out : (r p : ℕ) → Stands g r p → 250 ≤ r → AtEnd g
+  at-end : (r p : ℕ) → Stands g r p → TapeEnds (g .tape) r → AtEnd g
 
 -- "A bad checksum, control byte or partial count (0, above 127) reads as $8F each time"
 pub data AtBad (g : CassetteGroup) : Type 0 where
   bad-record : (r p : ℕ) → Stands g r p → r < 250 → Wrong (recordAt (g .tape) r) → AtBad g
+
+-- "A tape read after which the next would give $88": this is its character
+pub data BeforeEnd (g : CassetteGroup) (byte : ℕ) : Type 0 where
+  before-end : (r p n : ℕ) → Stands g r p → r < 250 → HoldsCharacters (recordAt (g .tape) r) n → p < n → EndsBehind (g .tape) r p n
+      → byte ≡ getD (g .tape) (132 * r + 3 + p) 0 → BeforeEnd g byte
 
 module _ (c : Call) (l : Local) (s : Groups) where
   abbrev pub blockState : BlockState
@@ -237,10 +240,19 @@ module _ (c : Call) (l : Local) (s : Groups) where
   abbrev pub BadRecord : Type 0
   BadRecord = ReadsAt C AtBad
 
+  -- "A request that no refusal ends, its last character with $03, ends with $03, except that a cut record still ends with $89."; "other
+  -- devices never give it"
+  pub record EndWarned : Type 0 where
+    pub byte : ℕ
+    pub reads : ReadsAt C (λ (g : CassetteGroup). BeforeEnd g byte)
+    pub final : IsLast (reads .started .way) (c .length) (reads .k) byte
+    pub uncut : reads .started .way ≡ Record → reads .k < c .length
+
   -- "$89 .. record cut": "With n stored and no EOL, characters are dropped through the EOL, then $89"
   pub record RecordCut : Type 0 where
     pub device : Device
-    pub reads : ReadsAt device (λ (x : Part (groupOf device)). actsOn device .reads x .says ≡ got.Character eol)
+    pub status : ℕ
+    pub reads : ReadsAt device (λ (x : Part (groupOf device)). Gives (actsOn device .reads x .says) status eol)
     pub way : reads .started .way ≡ Record
     pub stored : c .length ≤ reads .k
 
@@ -267,13 +279,14 @@ module _ (c : Call) (l : Local) (s : Groups) where
     pub past-area : (status ≡ 0xB0) ↔ PastArea
     pub no-device : (status ≡ 0x82) ↔ NoDevice
     pub screen-mode : (status ≡ 0x91) ↔ NoMode
+    pub end-warned : (status ≡ 0x03) ↔ EndWarned
     pub end-of-file : (status ≡ 0x88) ↔ EndOfFile
     pub record-cut : (status ≡ 0x89) ↔ RecordCut
     pub cursor-past : (status ≡ 0x8D) ↔ CursorPast
     pub bad-tape : (status ≡ 0x8F) ↔ BadRecord
     pub full : (status ≡ 0x90) ↔ Full
     -- "$01 success", where none of these; no other status
-    pub numbers : oneOf (0x01 ∷ 0x86 ∷ 0x84 ∷ 0x81 ∷ 0x85 ∷ 0x83 ∷ 0x87 ∷ 0xB0 ∷ 0x82 ∷ 0x91 ∷ 0x88 ∷ 0x89 ∷ 0x8D ∷ 0x8F ∷ 0x90 ∷ []) status ≡ true
+    pub numbers : oneOf (0x01 ∷ 0x03 ∷ 0x86 ∷ 0x84 ∷ 0x81 ∷ 0x85 ∷ 0x83 ∷ 0x87 ∷ 0xB0 ∷ 0x82 ∷ 0x91 ∷ 0x88 ∷ 0x89 ∷ 0x8D ∷ 0x8F ∷ 0x90 ∷ []) status ≡ true
 
   -- "Reply $90, length 4: status, count (2), A.": of a GET, with the area and the device that it leaves
   pub record GetReply (device : Device) (t : Started true device) (reply area : List ℕ) (left : Part (groupOf device)) : Type 0 where
@@ -284,9 +297,10 @@ module _ (c : Call) (l : Local) (s : Groups) where
     -- "Count is bytes stored into or taken from the area."
     pub ends : GetEnds (actsOn device) (t .way) (c .length) (t .stands) status count left
     pub stores : Stores (actsOn device) (t .stands) (c .address) count (l .area) area
-    -- "The reply's A is the request's except after a successful read of length 0."
-    pub a-read : c .length ≡ 0 → (byte : ℕ) → actsOn device .reads (t .stands) .says ≡ got.Character byte → a ≡ byte
-    pub a-kept : (c .length ≡ 0 → (byte : ℕ) → actsOn device .reads (t .stands) .says ≡ got.Character byte → ⊥) → a ≡ c .a
+    -- "The reply's A is the request's except after a successful read of length 0."; $03 "is below $80, so the character is .. given in A
+    -- when the length is 0"
+    pub a-read : c .length ≡ 0 → (status byte : ℕ) → Gives (actsOn device .reads (t .stands) .says) status byte → a ≡ byte
+    pub a-kept : (c .length ≡ 0 → (status byte : ℕ) → Gives (actsOn device .reads (t .stands) .says) status byte → ⊥) → a ≡ c .a
 
   -- of a PUT
   pub record PutReply (device : Device) (t : Started false device) (reply area : List ℕ) (left : Part (groupOf device)) : Type 0 where

@@ -57,25 +57,26 @@ module _ (run : Run) where
   abbrev Same : Next → Type 0
   Same next = nextOf run (carriedIn next) ≡ next
 
-  onward-same : Same (onwardOf (furtherOf run))
+  onward-same : (status : ℕ) → Same (onwardOf (furtherOf run) status)
   unfolding carriedIn onwardOf
-  onward-same = pick-eq Same (furtherOf run .left) 0 _ _ (λ e. refl) (λ n. refl)
+  onward-same status = pick-eq Same (furtherOf run .left) 0 _ _ (λ e. refl) (λ n. refl)
 
-  record-same : (byte : ℕ) → Same (recordOf (furtherOf run) byte)
+  record-same : (status byte : ℕ) → Same (recordOf (furtherOf run) status byte)
   unfolding carriedIn recordOf
-  record-same byte = pick-eq Same byte eol _ _ (λ e. refl) (λ n. refl)
+  record-same status byte = pick-eq Same byte eol _ _ (λ e. refl) (λ n. refl)
 
-  character-same : (way : Way) (byte : ℕ) (area : List ℕ) → Same (gotCharacter way run byte area .next)
+  character-same : (way : Way) (status byte : ℕ) (area : List ℕ) → Same (gotCharacter way run status byte area .next)
   unfolding carriedIn gotCharacter
-  character-same One byte area = refl
-  character-same Characters byte area = onward-same
-  character-same Record byte area =
+  character-same One status byte area = refl
+  character-same Characters status byte area = onward-same status
+  character-same Record status byte area =
       choose-eq (λ (p : Progress). Same (p .next)) (run .left) 0 _ _
-      (λ e. pick-eq Same byte eol _ _ (λ k. refl) (λ n. refl)) (λ n. record-same byte)
+      (λ e. pick-eq Same byte eol _ _ (λ k. refl) (λ n. refl)) (λ n. record-same status byte)
 
   pub got-same : (way : Way) (says : Got) (area : List ℕ) → Same (gotOf way run says area .next)
   unfolding carriedIn gotOf
-  got-same way (got.Character byte) area = character-same way byte area
+  got-same way (got.Character byte) area = character-same way 0x01 byte area
+  got-same way (got.Last byte) area = character-same way 0x03 byte area
   got-same way (got.Refused status) area = refl
 
   pub got-allowed : (way : Way) (says : Got) (area : List ℕ) → let p = gotOf way run says area in progress (nextOf run (carriedIn (p .next))) (p .area) ≡ p
@@ -84,8 +85,8 @@ module _ (run : Run) where
   sent-way-same : (way : Way) (byte : ℕ) → Same (sentNext way run byte)
   unfolding carriedIn sentNext sentRecord
   sent-way-same One byte = refl
-  sent-way-same Characters byte = onward-same
-  sent-way-same Record byte = choose-eq Same (run .left) 0 _ _ (λ e. refl) (λ n. record-same byte)
+  sent-way-same Characters byte = onward-same 0x01
+  sent-way-same Record byte = choose-eq Same (run .left) 0 _ _ (λ e. refl) (λ n. record-same 0x01 byte)
 
   pub sent-same : (way : Way) (byte : ℕ) (says : Done) → Same (sentOf way run byte says)
   unfolding carriedIn sentOf

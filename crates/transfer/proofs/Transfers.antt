@@ -6,12 +6,13 @@ use mathlib.Core.List.{List}
 use Prim.Native.Nat.{ℕ, _+_, _-_, _<_, _≤_}
 use native.Mathlib.Omega.{arith}
 use lib.Dec.{eqb, leb, ltb}
-use lib.ListN.{getD, set}
+use lib.ListN.{length, getD, set, length-set}
 use borrow.Author.Tests.{eq-eqb, ne-eqb, ltb-true, leb-true}
 use Rattle.base.specs.Choice.{and}
-use Rattle.base.proofs.Choices.{and-left, and-right}
+use Rattle.base.proofs.Choices.{choose-eq, and-left, and-right}
 use Rattle.handler.specs.declared.Got.{Got}
 use Rattle.handler.specs.declared.Got.the-variants as got
+use Rattle.handler.specs.Answer.{Gives, plain, warns}
 use Rattle.handler.specs.declared.Done.{Done}
 use Rattle.handler.specs.declared.Done.the-variants as done
 use Rattle.blocks.specs.declared.Way.{Way}
@@ -25,6 +26,26 @@ use Rattle.transfer.specs.declared.Next.the-variants.{On, Off}
 use Rattle.transfer.specs.declared.Carried.{Carried}
 use Rattle.transfer.specs.Transfer.{nextOf, Progress, progress, furtherOf, endedOf, onwardOf, eol, recordOf, gotCharacter, gotOf, sentByte, sentRecord, sentNext, sentOf, outOf, inPort, landed}
 use Rattle.transfer.specs.Spans.{Further, spanFits, Spans}
+
+-- a character that is given, whichever its status
+pub got-given : (way : Way) (run : Run) (says : Got) (status byte : ℕ) (area : List ℕ) → Gives says status byte → gotOf way run says area ≡ gotCharacter way run status byte area
+unfolding gotOf
+got-given way run says status byte area (plain e z) = rw (e, z)
+got-given way run says status byte area (warns e z) = rw (e, z)
+
+-- the area keeps its length
+character-long : (way : Way) (run : Run) (status byte : ℕ) (area : List ℕ) → length (gotCharacter way run status byte area .area) ≡ length area
+unfolding gotCharacter
+character-long One run status byte area = refl
+character-long Characters run status byte area = length-set area (run .place) byte
+character-long Record run status byte area =
+    choose-eq (λ (p : Progress). length (p .area) ≡ length area) (run .left) 0 _ _ (λ e. refl) (λ e. length-set area (run .place) byte)
+
+pub got-long : (way : Way) (run : Run) (says : Got) (area : List ℕ) → length (gotOf way run says area .area) ≡ length area
+unfolding gotOf
+got-long way run (got.Character byte) area = character-long way run 0x01 byte area
+got-long way run (got.Last byte) area = character-long way run 0x03 byte area
+got-long way run (got.Refused status) area = refl
 
 -- what a span says of a request whose way is known
 module _ (way : Way) (run : Run) (s : Spans way run) where
@@ -51,69 +72,75 @@ span-record run s n =
     record { left = omega arith; place = omega arith; count = omega arith }
 
 module _ (run : Run) where
-  pub onward-end : (next : Next) → run .left ≡ 0 → next ≡ endedOf 0x01 run → next ≡ onwardOf run
+  pub onward-end : (status : ℕ) (next : Next) → run .left ≡ 0 → next ≡ endedOf status run → next ≡ onwardOf run status
   unfolding onwardOf
-  onward-end next h q = q ∙ rw (eq-eqb (run .left) 0 h)
+  onward-end status next h q = q ∙ rw (eq-eqb (run .left) 0 h)
 
-  pub onward-on : (next : Next) → (run .left ≡ 0 → ⊥) → next ≡ On run → next ≡ onwardOf run
+  pub onward-on : (status : ℕ) (next : Next) → (run .left ≡ 0 → ⊥) → next ≡ On run → next ≡ onwardOf run status
   unfolding onwardOf
-  onward-on next h q = q ∙ rw (ne-eqb (run .left) 0 h)
+  onward-on status next h q = q ∙ rw (ne-eqb (run .left) 0 h)
 
   module _ (byte : ℕ) where
-    pub record-end : (next : Next) → byte ≡ 0x9B → next ≡ endedOf 0x01 run → next ≡ recordOf run byte
+    pub record-end : (status : ℕ) (next : Next) → byte ≡ 0x9B → next ≡ endedOf status run → next ≡ recordOf run status byte
     unfolding recordOf
-    record-end next h q = q ∙ rw (eq-eqb byte 0x9B h)
+    record-end status next h q = q ∙ rw (eq-eqb byte 0x9B h)
 
-    pub record-on : (next : Next) → (byte ≡ 0x9B → ⊥) → next ≡ On run → next ≡ recordOf run byte
+    pub record-on : (status : ℕ) (next : Next) → (byte ≡ 0x9B → ⊥) → next ≡ On run → next ≡ recordOf run status byte
     unfolding recordOf
-    record-on next h q = q ∙ rw (ne-eqb byte 0x9B h)
+    record-on status next h q = q ∙ rw (ne-eqb byte 0x9B h)
 
-    -- a character got
-    module _ (area after : List ℕ) where
-      pub got-characters : (more : Run) (c : Carried) → after ≡ set area (run .place) byte → more ≡ furtherOf run → nextOf more c ≡ onwardOf more → progress (nextOf run c) after ≡ gotCharacter Characters run byte area
+    -- a character got with this status
+    module _ (status : ℕ) (area after : List ℕ) where
+      pub got-characters : (more : Run) (c : Carried) → after ≡ set area (run .place) byte → more ≡ furtherOf run → nextOf more c ≡ onwardOf more status → progress (nextOf run c) after ≡ gotCharacter Characters run status byte area
       unfolding gotCharacter
-      got-characters more c p q r = let moved : nextOf run c ≡ onwardOf (furtherOf run) = rw q at r in rw (p, moved)
+      got-characters more c p q r = let moved : nextOf run c ≡ onwardOf (furtherOf run) status = rw q at r in rw (p, moved)
 
-      pub drop-end : (next : Next) → run .left ≡ 0 → byte ≡ 0x9B → next ≡ endedOf 0x89 run → progress next area ≡ gotCharacter Record run byte area
+      pub drop-end : (next : Next) → run .left ≡ 0 → byte ≡ 0x9B → next ≡ endedOf 0x89 run → progress next area ≡ gotCharacter Record run status byte area
       unfolding gotCharacter
       drop-end next h k q = rw (q, eq-eqb (run .left) 0 h, eq-eqb byte 0x9B k)
 
-      pub drop-on : (next : Next) → run .left ≡ 0 → (byte ≡ 0x9B → ⊥) → next ≡ On run → progress next area ≡ gotCharacter Record run byte area
+      pub drop-on : (next : Next) → run .left ≡ 0 → (byte ≡ 0x9B → ⊥) → next ≡ On run → progress next area ≡ gotCharacter Record run status byte area
       unfolding gotCharacter
       drop-on next h k q = rw (q, eq-eqb (run .left) 0 h, ne-eqb byte 0x9B k)
 
-      pub got-record : (more : Run) (c : Carried) → (run .left ≡ 0 → ⊥) → after ≡ set area (run .place) byte → more ≡ furtherOf run → nextOf more c ≡ recordOf more byte → progress (nextOf run c) after ≡ gotCharacter Record run byte area
+      pub got-record : (more : Run) (c : Carried) → (run .left ≡ 0 → ⊥) → after ≡ set area (run .place) byte → more ≡ furtherOf run → nextOf more c ≡ recordOf more status byte → progress (nextOf run c) after ≡ gotCharacter Record run status byte area
       unfolding gotCharacter
-      got-record more c h p q r = let moved : nextOf run c ≡ recordOf (furtherOf run) byte = rw q at r in rw (p, moved, ne-eqb (run .left) 0 h)
+      got-record more c h p q r = let moved : nextOf run c ≡ recordOf (furtherOf run) status byte = rw q at r in rw (p, moved, ne-eqb (run .left) 0 h)
 
       module _ (way : Way) where
-        pub character-one : way ≡ One → progress (Off 0x01 (run .count) byte) area ≡ gotCharacter way run byte area
+        pub character-one : way ≡ One → progress (Off status (run .count) byte) area ≡ gotCharacter way run status byte area
         unfolding gotCharacter
         character-one e = rw e
 
-        pub character-way : (w : Way) (next : Next) → way ≡ w → progress next after ≡ gotCharacter w run byte area → progress next after ≡ gotCharacter way run byte area
+        pub character-way : (w : Way) (next : Next) → way ≡ w → progress next after ≡ gotCharacter w run status byte area → progress next after ≡ gotCharacter way run status byte area
         character-way w next e q = q ∙ rw e
 
-        pub got-character : (g : Got) (next : Next) → g ≡ got.Character byte → progress next after ≡ gotCharacter way run byte area → progress next after ≡ gotOf way run g area
-        unfolding gotOf
-        got-character g next e q = q ∙ rw e
+    -- by what the handler says
+    module _ (area after : List ℕ) (way : Way) (says : Got) (next : Next) where
+      pub got-character : says ≡ got.Character byte → progress next after ≡ gotCharacter way run 0x01 byte area → progress next after ≡ gotOf way run says area
+      unfolding gotOf
+      got-character e q = q ∙ rw e
 
-        pub got-refused : (g : Got) (status : ℕ) (next : Next) → g ≡ got.Refused status → next ≡ endedOf status run → progress next area ≡ gotOf way run g area
-        unfolding gotOf
-        got-refused g status next e q = rw (q, e)
+      pub got-last : says ≡ got.Last byte → progress next after ≡ gotCharacter way run 0x03 byte area → progress next after ≡ gotOf way run says area
+      unfolding gotOf
+      got-last e q = q ∙ rw e
+
+      pub got-refused : (status : ℕ) → says ≡ got.Refused status → next ≡ endedOf status run → progress next area ≡ gotOf way run says area
+      unfolding gotOf
+      got-refused status e q = rw (q, e)
 
     -- a byte sent
     pub sent-record-end : (next : Next) → run .left ≡ 0 → next ≡ endedOf 0x01 run → next ≡ sentRecord run byte
     unfolding sentRecord
     sent-record-end next h q = q ∙ rw (eq-eqb (run .left) 0 h)
 
-    pub sent-record-on : (more : Run) (c : Carried) → (run .left ≡ 0 → ⊥) → more ≡ furtherOf run → nextOf more c ≡ recordOf more byte → nextOf run c ≡ sentRecord run byte
+    pub sent-record-on : (more : Run) (c : Carried) → (run .left ≡ 0 → ⊥) → more ≡ furtherOf run → nextOf more c ≡ recordOf more 0x01 byte → nextOf run c ≡ sentRecord run byte
     unfolding sentRecord
-    sent-record-on more c h q r = let moved : nextOf run c ≡ recordOf (furtherOf run) byte = rw q at r in moved ∙ rw (ne-eqb (run .left) 0 h)
+    sent-record-on more c h q r = let moved : nextOf run c ≡ recordOf (furtherOf run) 0x01 byte = rw q at r in moved ∙ rw (ne-eqb (run .left) 0 h)
 
-    pub sent-characters : (way : Way) (more : Run) (c : Carried) → way ≡ Characters → more ≡ furtherOf run → nextOf more c ≡ onwardOf more → nextOf run c ≡ sentNext way run byte
+    pub sent-characters : (way : Way) (more : Run) (c : Carried) → way ≡ Characters → more ≡ furtherOf run → nextOf more c ≡ onwardOf more 0x01 → nextOf run c ≡ sentNext way run byte
     unfolding sentNext
-    sent-characters way more c e q r = let moved : nextOf run c ≡ onwardOf (furtherOf run) = rw q at r in moved ∙ rw e
+    sent-characters way more c e q r = let moved : nextOf run c ≡ onwardOf (furtherOf run) 0x01 = rw q at r in moved ∙ rw e
 
     module _ (way : Way) (next : Next) where
       pub sent-one : way ≡ One → next ≡ endedOf 0x01 run → next ≡ sentNext way run byte

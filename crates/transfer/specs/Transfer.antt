@@ -1,5 +1,6 @@
 -- Document 01, Transfers: what one character makes of a running request. "Count is bytes stored into or taken from the area. A
--- handler status from $80 ends the request; its character is neither stored nor counted."
+-- handler status from $80 ends the request; its character is neither stored nor counted." Document 02, Ask 7: "It is below $80, so the
+-- character is stored and counted, and given in A when the length is 0."
 -- Assumes nothing.
 use mathlib.Core.List.{List}
 use Prim.Native.Nat.{ℕ, _+_, _-_}
@@ -57,30 +58,32 @@ furtherOf run = record {
 abbrev pub endedOf : ℕ → Run → Next
 endedOf status run = Off status (run .count) (run .a)
 
--- "n characters": with none left it ends
-unfoldable pub onwardOf : Run → Next
-onwardOf run = pick (eqb (run .left) 0) (endedOf 0x01 run) (On run)
+-- "n characters": with none left it ends; "A request that no refusal ends, its last character with $03, ends with $03"
+unfoldable pub onwardOf : Run → (status : ℕ) → Next
+onwardOf run status = pick (eqb (run .left) 0) (endedOf status run) (On run)
 
 -- "EOL ($9B)"
 abbrev pub eol : ℕ
 eol = 0x9B
 
--- a record's character, stored or taken: the EOL ends it
-unfoldable pub recordOf : Run → ℕ → Next
-recordOf run byte = pick (eqb byte eol) (endedOf 0x01 run) (On run)
+-- a record's character, stored or taken: the EOL ends it, with its status
+unfoldable pub recordOf : Run → (status byte : ℕ) → Next
+recordOf run status byte = pick (eqb byte eol) (endedOf status run) (On run)
 
--- One: "one character by A": "The reply's A is the request's except after a successful read of length 0." GET CHARACTERS: "n characters". GET RECORD: "up to and with EOL. With n stored and no EOL,
--- characters are dropped through the EOL, then $89, count n."
-unfoldable pub gotCharacter : Way → Run → ℕ → List ℕ → Progress
-gotCharacter One run byte area = progress (Off 0x01 (run .count) byte) area
-gotCharacter Characters run byte area = progress (onwardOf (furtherOf run)) (set area (run .place) byte)
-gotCharacter Record run byte area =
+-- a character that comes with this status. One: "one character by A": "The reply's A is the request's except after a successful read of
+-- length 0." GET CHARACTERS: "n characters". GET RECORD: "up to and with EOL. With n stored and no EOL, characters are dropped through
+-- the EOL, then $89, count n."; "a cut record still ends with $89"
+unfoldable pub gotCharacter : Way → Run → (status byte : ℕ) → List ℕ → Progress
+gotCharacter One run status byte area = progress (Off status (run .count) byte) area
+gotCharacter Characters run status byte area = progress (onwardOf (furtherOf run) status) (set area (run .place) byte)
+gotCharacter Record run status byte area =
     choose (eqb (run .left) 0)
     (λ u. progress (pick (eqb byte eol) (endedOf 0x89 run) (On run)) area)
-    (λ u. progress (recordOf (furtherOf run) byte) (set area (run .place) byte))
+    (λ u. progress (recordOf (furtherOf run) status byte) (set area (run .place) byte))
 
 unfoldable pub gotOf : Way → Run → Got → List ℕ → Progress
-gotOf way run (got.Character byte) area = gotCharacter way run byte area
+gotOf way run (got.Character byte) area = gotCharacter way run (gotStatus (got.Character byte)) byte area
+gotOf way run (got.Last byte) area = gotCharacter way run (gotStatus (got.Last byte)) byte area
 gotOf way run (got.Refused status) area = progress (endedOf (gotStatus (got.Refused status)) run) area
 
 -- what is sent next: A; the area's next byte; of a record with none left "one EOL more"
@@ -91,11 +94,11 @@ sentByte Record run area = pick (eqb (run .left) 0) eol (getD area (run .place) 
 
 -- "PUT RECORD: until an EOL is sent; after n without one, one EOL more, not counted."
 unfoldable pub sentRecord : Run → ℕ → Next
-sentRecord run byte = choose (eqb (run .left) 0) (λ u. endedOf 0x01 run) (λ u. recordOf (furtherOf run) byte)
+sentRecord run byte = choose (eqb (run .left) 0) (λ u. endedOf 0x01 run) (λ u. recordOf (furtherOf run) 0x01 byte)
 
 unfoldable pub sentNext : Way → Run → ℕ → Next
 sentNext One run byte = endedOf 0x01 run
-sentNext Characters run byte = onwardOf (furtherOf run)
+sentNext Characters run byte = onwardOf (furtherOf run) 0x01
 sentNext Record run byte = sentRecord run byte
 
 unfoldable pub sentOf : Way → Run → ℕ → Done → Next

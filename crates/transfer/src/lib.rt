@@ -45,39 +45,39 @@ fn goes_on(run: Run) -> Carried
     Carried::On(run.left, run.place, run.count, run.a)
 }
 
-// With no character left the request ends.
-fn onward(run: Run) -> Carried
-    ensures { λ r. ⌜ nextOf run r ≡ onwardOf run ⌝ }
+// With no character left the request ends, with the status of its last one.
+fn onward(run: Run, status: u8) -> Carried
+    ensures { λ r. ⌜ nextOf run r ≡ onwardOf run status ⌝ }
 {
     if run.left == 0 {
-        return ended(0x01, run);
+        return ended(status, run);
     }
     goes_on(run)
 }
 
-// A record's character that is stored or taken: the EOL ends it.
-fn record_next(run: Run, byte: u8) -> Carried
-    ensures { λ r. ⌜ nextOf run r ≡ recordOf run byte ⌝ }
+// A record's character that is stored or taken: the EOL ends it, with its status.
+fn record_next(run: Run, status: u8, byte: u8) -> Carried
+    ensures { λ r. ⌜ nextOf run r ≡ recordOf run status byte ⌝ }
 {
     if byte == 0x9B {
-        return ended(0x01, run);
+        return ended(status, run);
     }
     goes_on(run)
 }
 
 // A character got by GET CHARACTERS.
-fn get_characters(run: Run, byte: u8, half: &mut [u8]) -> Carried
+fn get_characters(run: Run, status: u8, byte: u8, half: &mut [u8]) -> Carried
     requires { ⌜ Further run ⌝ }
-    ensures { λ r. ⌜ progress (nextOf run r) (now (half .exit)) ≡ gotCharacter Way.Characters run byte (now (half .entry)) ⌝ }
+    ensures { λ r. ⌜ progress (nextOf run r) (now (half .exit)) ≡ gotCharacter Way.Characters run status byte (now (half .entry)) ⌝ }
 {
     base::set_byte(half, run.place as usize, byte);
-    onward(further(run))
+    onward(further(run), status)
 }
 
 // A character got by GET RECORD: with none left it is dropped, through the EOL.
-fn get_record(run: Run, byte: u8, half: &mut [u8]) -> Carried
+fn get_record(run: Run, status: u8, byte: u8, half: &mut [u8]) -> Carried
     requires { ⌜ Spans Way.Record run ⌝ }
-    ensures { λ r. ⌜ progress (nextOf run r) (now (half .exit)) ≡ gotCharacter Way.Record run byte (now (half .entry)) ⌝ }
+    ensures { λ r. ⌜ progress (nextOf run r) (now (half .exit)) ≡ gotCharacter Way.Record run status byte (now (half .entry)) ⌝ }
 {
     if run.left == 0 {
         if byte == 0x9B {
@@ -86,17 +86,17 @@ fn get_record(run: Run, byte: u8, half: &mut [u8]) -> Carried
         return goes_on(run);
     }
     base::set_byte(half, run.place as usize, byte);
-    record_next(further(run), byte)
+    record_next(further(run), status, byte)
 }
 
-fn get_character(way: Way, run: Run, byte: u8, half: &mut [u8]) -> Carried
+fn get_character(way: Way, run: Run, status: u8, byte: u8, half: &mut [u8]) -> Carried
     requires { ⌜ Spans way run ⌝ }
-    ensures { λ r. ⌜ progress (nextOf run r) (now (half .exit)) ≡ gotCharacter way run byte (now (half .entry)) ⌝ }
+    ensures { λ r. ⌜ progress (nextOf run r) (now (half .exit)) ≡ gotCharacter way run status byte (now (half .entry)) ⌝ }
 {
     match way {
-        Way::One => Carried::Off(0x01, run.count, byte),
-        Way::Characters => get_characters(run, byte, half),
-        Way::Record => get_record(run, byte, half),
+        Way::One => Carried::Off(status, run.count, byte),
+        Way::Characters => get_characters(run, status, byte, half),
+        Way::Record => get_record(run, status, byte, half),
     }
 }
 
@@ -106,7 +106,8 @@ pub fn after_get(way: Way, run: Run, got: Got, half: &mut [u8]) -> Carried
     ensures { λ r. ⌜ progress (nextOf run r) (now (half .exit)) ≡ gotOf way run got (now (half .entry)) ⌝ }
 {
     match got {
-        Got::Character(byte) => get_character(way, run, byte, half),
+        Got::Character(byte) => get_character(way, run, 0x01, byte, half),
+        Got::Last(byte) => get_character(way, run, 0x03, byte, half),
         Got::Refused(status) => ended(status, run),
     }
 }
@@ -135,7 +136,7 @@ fn put_record(run: Run, byte: u8) -> Carried
     if run.left == 0 {
         return ended(0x01, run);
     }
-    record_next(further(run), byte)
+    record_next(further(run), 0x01, byte)
 }
 
 fn put_character(way: Way, run: Run, byte: u8) -> Carried
@@ -144,7 +145,7 @@ fn put_character(way: Way, run: Run, byte: u8) -> Carried
 {
     match way {
         Way::One => ended(0x01, run),
-        Way::Characters => onward(further(run)),
+        Way::Characters => onward(further(run), 0x01),
         Way::Record => put_record(run, byte),
     }
 }

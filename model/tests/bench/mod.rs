@@ -2,6 +2,7 @@
 #![allow(dead_code)]
 
 pub mod examples;
+pub mod tapes;
 
 use model::random::{call, fetch, load};
 use model::stick::*;

@@ -1,6 +1,6 @@
--- `after_get` meets its contract, by `got-character` and `got-refused`.
+-- `after_get` meets its contract, by `got-character`, `got-last` and `got-refused`.
 -- Assumes nothing.
-use Rattle.transfer.proofs.Transfers.{got-character, got-refused}
+use Rattle.transfer.proofs.Transfers.{got-character, got-last, got-refused}
 use borrow.Author.Needs.{needs}
 use Rattle.transfer.proofs.after_get.Statement.{statement}
 use Rattle.transfer.proofs.after_get.Tie as tie
@@ -12,7 +12,11 @@ after-get-spec =
     (λ c. search needs)  -- enum-known-got
     (λ c κs. search needs)  -- get-character-requires
     (λ c. search needs)  -- enum-known-got-2
+    (λ c κs. search needs)  -- get-character-requires-2
+    (λ c. search needs)  -- enum-known-got-3
     (λ c κs. search needs)  -- ended-requires
     (λ c. search needs)  -- same-length
     (λ c. search got-character)  -- returns
-    (λ c. search got-refused))  -- returns-2
+    (λ c. search needs)  -- same-length-2
+    (λ c. search got-last)  -- returns-2
+    (λ c. search got-refused))  -- returns-3

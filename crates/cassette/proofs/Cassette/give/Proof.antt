@@ -1,6 +1,6 @@
--- `give` meets its contract, by `found-in`, `give-bad`, `give-end` and `give-character`.
+-- `give` meets its contract, by `found-in`, `found-holds`, `give-bad`, `give-end` and `give-character`.
 -- Assumes nothing.
-use Rattle.cassette.proofs.Laws.{found-in, give-bad, give-end, give-character}
+use Rattle.cassette.proofs.Laws.{found-in, found-holds, give-bad, give-end, give-character}
 use borrow.Author.Needs.{needs}
 use Rattle.cassette.proofs.Cassette.give.Statement.{statement}
 use Rattle.cassette.proofs.Cassette.give.Tie as tie
@@ -19,6 +19,7 @@ give-spec =
     (λ c. search needs)  -- add-at-2
     (λ c κs. search needs)  -- byte-at-requires
     (λ c κs. search found-in)  -- next-requires
+    (λ c κs. search found-holds)  -- character-requires
     (λ c. search give-bad)  -- returns
     (λ c. search give-end)  -- returns-2
     (λ c. search give-character))  -- returns-3
