@@ -22,16 +22,21 @@ enum {
 enum { R = FIXLOMAND_AUX1_READ, W = FIXLOMAND_AUX1_WRITE, FORCED = FIXLOMAND_AUX1_FORCED };
 enum { SUCCESS = FIXLOMAND_STATUS_SUCCESS, REPLY_LEN = FIXLOMAND_ROOM_LEN };
 /* where the specifications are in each port's area; buffers may lie over them once the blocks are open */
-enum { AT_E = 0, AT_S = 2, AT_K = 4, AT_P = 6, AT_C = 8 };
-/* the blocks: port 0 has E, S and K open, port 1 P and C */
-enum { BLOCK_E = 0, BLOCK_S = 1, BLOCK_K = 2, BLOCK_P = 0, BLOCK_C = 1 };
+enum { AT_E = 0, AT_S = 2, AT_K = 4, AT_P = 6, AT_C = 8, AT_D = 10 };
+/* the blocks: port 0 has E, S and K open, port 1 P, C and D */
+enum { BLOCK_E = 0, BLOCK_S = 1, BLOCK_K = 2, BLOCK_P = 0, BLOCK_C = 1, BLOCK_D = 2 };
 /* a tape's records, the bytes of each and its characters */
 enum { RECORDS = 250, RECORD_LEN = FIXLOMAND_TAPE_LEN / RECORDS, CHARACTERS = FIXLOMAND_PENDING_LEN };
+/* the sectors that a file of a diskette may have, and the characters of each */
+enum { SECTORS = FIXLOMAND_SECTORS - 1, SECTOR_CHARACTERS = 125 };
 
 static uint8_t state[FIXLOMAND_STATE_LEN], area[FIXLOMAND_AREA_LEN];
 static uint8_t screen[FIXLOMAND_SCREEN_LEN], paper[FIXLOMAND_PAPER_LEN], tape[FIXLOMAND_TAPE_LEN];
+static uint8_t images[FIXLOMAND_IMAGES_LEN];
 
-#define LENT state, sizeof state, area, sizeof area, screen, sizeof screen, paper, sizeof paper, tape, sizeof tape
+#define LENT                                                                                                           \
+    state, sizeof state, area, sizeof area, screen, sizeof screen, paper, sizeof paper, tape, sizeof tape, images,     \
+        sizeof images
 
 static void want(int right, const char *what)
 {
@@ -113,8 +118,9 @@ static unsigned long call(uint8_t port, unsigned block, unsigned command, unsign
 
 static void specifications(void)
 {
-    memcpy(area, "E:S:K:P:C:", 10);
-    memcpy(area + FIXLOMAND_PORT_AREA_LEN, "E:S:K:P:C:", 10);
+    static const char all[] = "E:S:K:P:C:D:?\x9B";
+    memcpy(area, all, sizeof all - 1);
+    memcpy(area + FIXLOMAND_PORT_AREA_LEN, all, sizeof all - 1);
 }
 
 static void open_screen(unsigned mode)
@@ -147,6 +153,30 @@ static void open_tape(unsigned aux1)
     call(1, BLOCK_C, OPEN, AT_C, 0, aux1, 0, SUCCESS);
 }
 
+/* A diskette with one file, of so many characters in each sector but the last, which is full. It has all sectors that a
+ * chain may have, those of the directory too: so its entry, of the name A, is among its characters. */
+static void fill_diskette(unsigned characters)
+{
+    static const uint8_t entry[] = {0x42, 0xCF, 2, 1, 0, 'A', ' ', ' ', ' ', ' ', ' ', ' ', ' ', ' ', ' ', ' ', 0};
+    memset(images, 'A', FIXLOMAND_IMAGE_LEN);
+    for (unsigned sector = 1; sector <= SECTORS; sector++) {
+        uint8_t *bytes = images + FIXLOMAND_SECTOR(1, sector);
+        unsigned next = sector < SECTORS ? sector + 1 : 0;
+        bytes[125] = (uint8_t)(next / 256);
+        bytes[126] = (uint8_t)next;
+        bytes[127] = (uint8_t)(sector < SECTORS ? characters : SECTOR_CHARACTERS);
+    }
+    memcpy(images + FIXLOMAND_SECTOR(1, 361), entry, sizeof entry);
+}
+
+static void open_diskette(unsigned characters)
+{
+    specifications();
+    call(1, BLOCK_D, CLOSE, 0, 0, 0, 0, SUCCESS);
+    fill_diskette(characters);
+    call(1, BLOCK_D, OPEN, AT_D, 0, R, 0, SUCCESS);
+}
+
 static void start(void)
 {
     want(fixlomand_fresh(LENT) == FIXLOMAND_DONE, "fresh start");
@@ -156,8 +186,8 @@ static void start(void)
     call(1, BLOCK_P, OPEN, AT_P, 0, W, 0, SUCCESS);
 }
 
-/* A new paper, the cursor home, and a tape at its beginning: no message does one of them alone, so the state is written
- * between two calls, by its layout. */
+/* A new paper, the cursor home, a tape at its beginning and a file at its own: no message does one of them alone, so the
+ * state is written between two calls, by its layout. */
 static void new_paper(void)
 {
     state[FIXLOMAND_USED] = state[FIXLOMAND_USED + 1] = 0;
@@ -171,6 +201,13 @@ static void home(void)
 static void rewind_tape(void)
 {
     state[FIXLOMAND_RECORD] = state[FIXLOMAND_PLACE] = 0;
+}
+
+static void rewind_diskette(void)
+{
+    uint8_t *place = state + FIXLOMAND_PLACES + FIXLOMAND_PLACE_LEN * (FIXLOMAND_BLOCK_COUNT + BLOCK_D);
+    memset(place + FIXLOMAND_PLACE_AT, 0, FIXLOMAND_PLACE_PASSED + 2 - FIXLOMAND_PLACE_AT);
+    place[FIXLOMAND_PLACE_SECTOR] = 1;
 }
 
 /* ---- calls a second ---- */
@@ -292,6 +329,21 @@ static unsigned long record_tape(void)
     return 12 + ticks + 8;
 }
 
+static unsigned long get_diskette(void)
+{
+    rewind_diskette();
+    return 12 + call(1, BLOCK_D, GET_CHARACTERS, 0, length_now, 0, 0, SUCCESS) + 8;
+}
+
+static unsigned long record_diskette(void)
+{
+    unsigned long ticks;
+    rewind_diskette();
+    ticks = call(1, BLOCK_D, GET_RECORD, 64, 1, 0, 0, FIXLOMAND_STATUS_END_OF_FILE);
+    want(ticks == SECTORS * SECTOR_CHARACTERS + 2, "GET RECORD of a diskette (89,876 ticks after its start)");
+    return 12 + ticks + 8;
+}
+
 static unsigned long record_screen(void)
 {
     unsigned long ticks;
@@ -363,6 +415,14 @@ static void prepare_tape(unsigned aux1, unsigned length)
     length_now = length;
 }
 
+static void prepare_diskette(unsigned characters, unsigned length)
+{
+    start();
+    open_diskette(characters);
+    memset(area, 'A', sizeof area);
+    length_now = length;
+}
+
 static void say_kinds(void)
 {
     printf("%-48s%12s%16s\n", "kind of call", "ns a call", "calls a second");
@@ -400,11 +460,18 @@ static void say_requests(void)
     say_request("GET CHARACTERS of 16,384 from C", get_tape);
     prepare_tape(R, 1);
     say_request("GET RECORD of a tape, 32,001 ticks", record_tape);
+    prepare_diskette(SECTOR_CHARACTERS, 16384);
+    say_request("GET CHARACTERS of 16,384 from D", get_diskette);
+    prepare_diskette(SECTOR_CHARACTERS, 1);
+    say_request("GET RECORD of a diskette, 89,876 ticks", record_diskette);
+    prepare_diskette(0, 1);
+    say_request("GET from D over 718 empty sectors", get_diskette);
     prepare(8, 0);
     say_request("CLOSE of S and OPEN in mode 8", open_once);
 }
 
-/* ns a tick for requests of four lengths, the longest last. The first number is what is prepared: the mode, or AUX1. */
+/* ns a tick for requests of four lengths, the longest last. The first number is what is prepared: the mode, AUX1, or the
+ * characters of a sector. */
 static void say_growth(const char *what, void (*prepared)(unsigned, unsigned), unsigned with, unsigned longest,
                        unsigned long (*work)(void))
 {
@@ -426,6 +493,7 @@ static void say_lengths(void)
     say_growth("PUT CHARACTERS to P", prepare, 0, 4096, put_printer);
     say_growth("PUT CHARACTERS to C", prepare_tape, W, 16384, put_tape);
     say_growth("GET CHARACTERS from C", prepare_tape, R, 16384, get_tape);
+    say_growth("GET CHARACTERS from D", prepare_diskette, SECTOR_CHARACTERS, 16384, get_diskette);
 }
 
 /* ---- stack ---- */
@@ -512,7 +580,7 @@ static void say_call(const char *what, uint8_t port, unsigned block, unsigned co
                      unsigned aux2)
 {
     char text[64];
-    send_call(port, block, command, command == OPEN ? AT_S : 0, length, aux1, aux2);
+    send_call(port, block, command, command != OPEN ? 0 : port == 0 ? AT_S : AT_D, length, aux1, aux2);
     snprintf(text, sizeof text, "tick, %s, start", what);
     say_depth(text, port == 0 ? work_tick0 : work_tick1);
     if (length > 0) {
@@ -555,6 +623,15 @@ static void say_stack(void)
     state[FIXLOMAND_PLACE] = CHARACTERS - 1; /* the next one makes a full record */
     say_call("PUT to C, a full record", 1, BLOCK_C, PUT_CHARACTERS, 2, 0, 0);
     say_call("CLOSE of C, two records", 1, BLOCK_C, CLOSE, 0, 0, 0);
+    specifications();
+    fill_diskette(0);
+    say_call("OPEN of D", 1, BLOCK_D, OPEN, 0, R, 0);
+    say_call("GET from D, empty sectors", 1, BLOCK_D, GET_CHARACTERS, 2, 0, 0);
+    say_call("GET STATUS of D", 1, BLOCK_D, FIXLOMAND_COMMAND_GET_STATUS, 0, 0, 0);
+    say_call("CLOSE of D", 1, BLOCK_D, CLOSE, 0, 0, 0);
+    specifications();
+    say_call("OPEN of D, a directory", 1, BLOCK_D, OPEN, 0, FIXLOMAND_AUX1_DIRECTORY, 0);
+    say_call("GET from D, a directory", 1, BLOCK_D, GET_CHARACTERS, 2, 0, 0);
     specifications();
     say_call("OPEN of S, mode 8", 0, BLOCK_S, OPEN, 0, R | W, 8);
     say_call("PUT to S", 0, BLOCK_S, PUT_CHARACTERS, 2, 0, 0);

@@ -6,12 +6,13 @@
 
 enum { PORTS = FIXLOMAND_PORTS };
 
-/* In memory that starts as zeros. The fresh start below needs not even that; but it leaves the tape as it is. */
+/* In memory that starts as zeros. The fresh start below needs not even that; but it leaves the tape and the diskettes as
+ * they are. */
 struct board board;
 
 #define LENT                                                                                                           \
     board.state, sizeof board.state, board.area, sizeof board.area, board.screen, sizeof board.screen, board.paper,   \
-        sizeof board.paper, board.tape, sizeof board.tape
+        sizeof board.paper, board.tape, sizeof board.tape, board.images, sizeof board.images
 
 /* ---- when something is wrong ---- */
 

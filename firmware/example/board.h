@@ -13,13 +13,18 @@
  * writes those that differ, while board.state[FIXLOMAND_MARK] is not FIXLOMAND_TAPE_WRITING: until the host's CLOSE the
  * tape has no end. The mark alone does not tell that there is something new: a request that opens and closes the tape in
  * one tick writes an end too. Another cassette is put in, by writing board.tape between two calls, while the mark is
- * FIXLOMAND_TAPE_CLOSED. A tape of zeros, as here, reads as bad until a host has written it. */
+ * FIXLOMAND_TAPE_CLOSED. A tape of zeros, as here, reads as bad until a host has written it.
+ *
+ * The diskettes are what the board puts into board.images, before the first call (in board_begin) or between two, as
+ * from a card; the core only reads them, so that nothing is to be copied back. Zeros, as here, are drives without a
+ * diskette: no file is found there, and the directory tells of no free sector. */
 struct board {
     uint8_t state[FIXLOMAND_STATE_LEN];
     uint8_t area[FIXLOMAND_AREA_LEN];
     uint8_t screen[FIXLOMAND_SCREEN_LEN];
     uint8_t paper[FIXLOMAND_PAPER_LEN];
     uint8_t tape[FIXLOMAND_TAPE_LEN];
+    uint8_t images[FIXLOMAND_IMAGES_LEN];
 };
 
 extern struct board board;

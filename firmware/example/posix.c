@@ -7,7 +7,7 @@
  *     show       writes the text screen, and what is on the paper
  *     damage     spoils a byte of the core's state, as a brown-out might
  *
- * The tape is in memory, and kept as long as the program runs. It ends with its input. */
+ * The tape is in memory, and kept as long as the program runs; the drives have no diskettes. It ends with its input. */
 #define _XOPEN_SOURCE 700 /* posix_openpt */
 #include "board.h"
 

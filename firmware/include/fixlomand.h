@@ -1,11 +1,11 @@
 /* fixlomand.h: the core of the Fixlomand stick, for the firmware of a board.
  *
  * The stick has two plugs, port 0 and port 1. At each a host sends messages and reads replies, byte by byte; the core
- * does what they ask with an area of memory for each port, and with a screen, a keyboard, a printer and a cassette that
- * both ports share. The core is a library of six functions. It has no memory of its own, starts no thread, waits for
- * nothing and calls no function of your firmware, which lends it five buffers in every call, moves the bytes of the two
- * links, scans the keys, shows the screen and the paper and keeps the tape. What the bytes of the links mean is in
- * docs/HOSTS.md; the firmware need not know it.
+ * does what they ask with an area of memory for each port, and with a screen, a keyboard, a printer, a cassette and
+ * diskettes in four drives that both ports share. The core is a library of six functions. It has no memory of its own,
+ * starts no thread, waits for nothing and calls no function of your firmware, which lends it six buffers in every call,
+ * moves the bytes of the two links, scans the keys, shows the screen and the paper, keeps the tape and puts in the
+ * diskettes. What the bytes of the links mean is in docs/HOSTS.md; the firmware need not know it.
  *
  * The answers, and every byte that a call leaves, are proved for every value of every argument; what is said of whole
  * requests is proved for calls after a fresh start; as long as the last section holds, "What the core cannot test". Times
@@ -34,13 +34,13 @@ extern "C" {
 
 /* The version of this header, and of the library that it was installed with; as a number it is 10,000 times the first
  * part, plus 100 times the second, plus the third. */
-#define FIXLOMAND_VERSION "2.1.0"
-#define FIXLOMAND_VERSION_NUMBER 20100
+#define FIXLOMAND_VERSION "3.0.0"
+#define FIXLOMAND_VERSION_NUMBER 30000
 
 /* ---- What you lend -------------------------------------------------------------------------------------------------
  *
- * Five buffers, the same ones in every call, with exactly these lengths. None needs an alignment. They stay yours: the
- * core keeps no pointer after it has returned. Several sticks, each with its own five buffers, are independent.
+ * Six buffers, the same ones in every call, with exactly these lengths. None needs an alignment. They stay yours: the
+ * core keeps no pointer after it has returned. Several sticks, each with its own six buffers, are independent.
  *
  *   state    what the core remembers between two calls. Its layout is at the end of this header; most firmware never
  *            looks into it.
@@ -60,14 +60,28 @@ extern "C" {
  *            that is in. You may read it between two calls, to keep it where a power-down does not reach; while
  *            FIXLOMAND_MARK in the state is FIXLOMAND_TAPE_WRITING it has no end yet. While the mark is
  *            FIXLOMAND_TAPE_CLOSED no block of either port has it open, and you may put in another between two calls.
+ *   images   what is on the diskettes in the drives D1 to D4, one image after the other, each of 720 sectors of 128
+ *            bytes as DOS 2.0S writes them: sector s, 1 to 720, of drive n lies at FIXLOMAND_SECTOR(n, s), which is
+ *            92,160 x (n - 1) + 128 x (s - 1). An ATR file of single density is such an image behind a header of 16
+ *            bytes. Hosts read them; no call changes an image, a fresh start neither. Any bytes are a diskette: a chain
+ *            of sectors that is none is told to the host that reads it. An image of zeros, as for an empty drive, has no
+ *            file and no free sector. You may put in another between two calls, best while no block of either port has
+ *            that drive open (device FIXLOMAND_D and the drive's number): a block that has goes on from its place in
+ *            what lies there then.
  */
-#define FIXLOMAND_STATE_LEN 733
+#define FIXLOMAND_STATE_LEN 973
 #define FIXLOMAND_AREA_LEN 32768
 #define FIXLOMAND_SCREEN_LEN 61440
 #define FIXLOMAND_PAPER_LEN 4096
 #define FIXLOMAND_TAPE_LEN 33000
+#define FIXLOMAND_IMAGES_LEN 368640
 
 enum { FIXLOMAND_PORTS = 2, FIXLOMAND_PORT_AREA_LEN = 16384 };
+enum { FIXLOMAND_DRIVES = 4, FIXLOMAND_IMAGE_LEN = 92160, FIXLOMAND_SECTORS = 720, FIXLOMAND_SECTOR_LEN = 128 };
+
+/* Where the image of a drive, 1 to 4, begins in the images, and where one of its sectors, 1 to 720. */
+#define FIXLOMAND_IMAGE(drive) (FIXLOMAND_IMAGE_LEN * ((drive) - 1))
+#define FIXLOMAND_SECTOR(drive, sector) (FIXLOMAND_IMAGE(drive) + FIXLOMAND_SECTOR_LEN * ((sector) - 1))
 
 /* The columns, rows and colours of a mode; 0 of a number that is no mode. */
 #define FIXLOMAND_COLUMNS(mode)                                                                                        \
@@ -128,29 +142,29 @@ enum {
  * that it sends when it is back are taken as the rest of that message (docs/HOSTS.md says how a host finds its place).
  *
  * Of the state a take changes the port's first 11 bytes and its room, a give these 11 bytes, a press the key code, a
- * tick the port's 35 bytes and room, and the console, the printer or the cassette; a tick also the port's own half of the
- * area, and screen, paper or tape.
+ * tick the port's 35 bytes and room, and the console, the printer, the cassette or the place of the request's block; a
+ * tick also the port's own half of the area, and screen, paper or tape.
  *
  * FIXLOMAND_BAD_LENGTH and FIXLOMAND_BAD_PORT tell of a mistake in the firmware, FIXLOMAND_DAMAGED of memory that lost
  * what it held, as in a brown-out: make a fresh start, drop the bytes and keys that you hold, and reset both links (on
- * USB: detach and attach), so that the hosts know. The test sees the state alone: area, screen, paper and tape may be
- * lost without it. So after a reset that the hardware reports as a brown-out make a fresh start without asking. A
+ * USB: detach and attach), so that the hosts know. The test sees the state alone: area, screen, paper, tape and images
+ * may be lost without it. So after a reset that the hardware reports as a brown-out make a fresh start without asking. A
  * forgotten fresh start is found: a state of zeros is damaged.
  */
 #define FIXLOMAND_LENT                                                                                                 \
     uint8_t *state, size_t state_len, uint8_t *area, size_t area_len, uint8_t *screen, size_t screen_len,             \
-        uint8_t *paper, size_t paper_len, uint8_t *tape, size_t tape_len
+        uint8_t *paper, size_t paper_len, uint8_t *tape, size_t tape_len, uint8_t *images, size_t images_len
 
 /* Fresh start. Answers 0 or 2 only: what the state held before does not matter. Writes every byte of the state and the
- * area (both areas are zero then) and of the screen (960 cells $20, the rest zero), and none of the paper and the tape:
- * characters that were pending for it are lost. The state is then all zero but cursor column 2, read column and key code
- * 255, and lock 1 (shift). */
+ * area (both areas are zero then) and of the screen (960 cells $20, the rest zero), and none of the paper, the tape and
+ * the images: characters that were pending for the tape are lost. The state is then all zero but cursor column 2, read
+ * column and key code 255, and lock 1 (shift). */
 uint8_t fixlomand_fresh(FIXLOMAND_LENT);
 
 /* Takes a byte that the port's host sent. Answers 0, 1, 2, 3 or 4. */
 uint8_t fixlomand_take(FIXLOMAND_LENT, uint8_t port, uint8_t byte);
 
-/* Moves the port's request on by one step. Answers 0, 1, 2, 3, 7 or 8. A request ends at most 61,441 ticks after the one
+/* Moves the port's request on by one step. Answers 0, 1, 2, 3, 7 or 8. A request ends at most 89,876 ticks after the one
  * that started it. */
 uint8_t fixlomand_tick(FIXLOMAND_LENT, uint8_t port);
 
@@ -225,7 +239,7 @@ enum {
 /* The end of a record. */
 enum { FIXLOMAND_EOL = 0x9B };
 
-/* AUX1 is a sum. */
+/* AUX1 is a sum; but D opens a directory where it is exactly FIXLOMAND_AUX1_DIRECTORY, which has READ in it. */
 enum {
     FIXLOMAND_AUX1_FORCED = 0x01, /* E: forced read, needed with READ */
     FIXLOMAND_AUX1_READ = 0x04,   /* R */
@@ -233,25 +247,30 @@ enum {
     FIXLOMAND_AUX1_SPLIT = 0x10,  /* S: split screen, refused with FIXLOMAND_STATUS_SCREEN_MODE */
     FIXLOMAND_AUX1_KEEP = 0x20    /* S: the cells are kept, each modulo the colours; else they are cleared */
 };
+enum { FIXLOMAND_AUX1_DIRECTORY = 0x06 };
 
 /* From $80 on a status is a refusal; a read with one below it has moved all that it was asked for, or a whole record. */
 enum {
     FIXLOMAND_STATUS_SUCCESS = 0x01,
-    FIXLOMAND_STATUS_LAST_CHARACTER = 0x03,       /* from C, a success too: the next read would be END_OF_FILE */
+    FIXLOMAND_STATUS_LAST_CHARACTER = 0x03,       /* from C or D, a success too: the next read would be END_OF_FILE */
     FIXLOMAND_STATUS_ALREADY_OPEN = 0x81,         /* OPEN on an open block, or of C while any block has it open */
-    FIXLOMAND_STATUS_UNKNOWN_DEVICE = 0x82,       /* or malformed specification */
+    FIXLOMAND_STATUS_UNKNOWN_DEVICE = 0x82,       /* or malformed specification; a drive above 4 too */
     FIXLOMAND_STATUS_NOT_READABLE = 0x83,         /* reading without R */
     FIXLOMAND_STATUS_BAD_COMMAND = 0x84,          /* SPECIAL, AUX1 not offered, FETCH count, field length too */
     FIXLOMAND_STATUS_NOT_OPEN = 0x85,             /* transfer on a closed block */
     FIXLOMAND_STATUS_BAD_IOCB = 0x86,             /* control block above 7 */
     FIXLOMAND_STATUS_NOT_WRITABLE = 0x87,         /* writing without W */
-    FIXLOMAND_STATUS_END_OF_FILE = 0x88,          /* from K: no key, or one that is no character; from C: the end */
+    FIXLOMAND_STATUS_END_OF_FILE = 0x88,          /* from K: no key, or one that is no character; from C or D: the end */
     FIXLOMAND_STATUS_RECORD_CUT = 0x89,           /* the buffer was full before the EOL */
     FIXLOMAND_STATUS_CURSOR_PAST_LAST_ROW = 0x8D, /* of S */
     FIXLOMAND_STATUS_CHECKSUM = 0x8F,             /* from C: a bad record; its checksum, control byte or count */
     FIXLOMAND_STATUS_PAPER_FULL = 0x90,           /* or, of C, the tape: 249 full records are written */
     FIXLOMAND_STATUS_SCREEN_MODE = 0x91,          /* no mode of S, split screen, or the editor has the screen */
     FIXLOMAND_STATUS_UNKNOWN_TAG = 0x92,
+    FIXLOMAND_STATUS_BAD_CHAIN = 0xA4,            /* from D: a bad link, file number or data count, or a 720th sector */
+    FIXLOMAND_STATUS_BAD_FILE_NAME = 0xA5,        /* of D: a byte that no name has, or a second dot */
+    FIXLOMAND_STATUS_FILE_LOCKED = 0xA7,          /* from D, GET STATUS alone: a locked file, which may be read */
+    FIXLOMAND_STATUS_FILE_NOT_FOUND = 0xAA,       /* of D: no match for the name; GET STATUS: the file is deleted */
     FIXLOMAND_STATUS_PAST_AREA = 0xB0             /* buffer or specification past the area */
 };
 
@@ -263,8 +282,9 @@ enum {
  *     70      10    the console: screen, editor and keyboard
  *     80       2    the printer
  *     82     131    the cassette
- *    213     260    port 0's room
- *    473     260    port 1's room
+ *    213     240    the diskettes: 16 places
+ *    453     260    port 0's room
+ *    713     260    port 1's room
  *
  * A port's 35 bytes, from its own offset:
  *
@@ -279,7 +299,7 @@ enum {
  *                                  4 to 10 are 0
  *                     running      1 kind: 0 GET of one character, 1 GET CHARACTERS, 2 GET RECORD,
  *                                          3 PUT of one character, 4 PUT CHARACTERS, 5 PUT RECORD
- *                                  2 device: 1 E, 2 S, 3 K, 4 P, 5 C
+ *                                  2 device: 1 E, 2 S, 3 K, 4 P, 5 C, 6 D
  *                                  3 control block, 0 to 7
  *                                  4 left (2): characters still to store or take, 0 to 16,384
  *                                  6 place (2): address of the next one, 0 to 16,384; of one character any number
@@ -289,8 +309,9 @@ enum {
  *                                  3 given (2): bytes given so far, 0 to 259
  *                                  5 to 10 are 0
  *     11      24    eight control blocks of three bytes:
- *                     0 device: 0 closed, 1 E (editor), 2 S (graphics), 3 K (keyboard), 4 P (printer), 5 C (cassette)
- *                     1 number: 1 to 8; of a closed block 0
+ *                     0 device: 0 closed, 1 E (editor), 2 S (graphics), 3 K (keyboard), 4 P (printer), 5 C (cassette),
+ *                               6 D (diskettes)
+ *                     1 number: 1 to 8, of D 1 to 4; of a closed block 0
  *                     2 AUX1: 0 to 255; of a closed block 0
  *
  * The console's, from offset 70:
@@ -317,6 +338,23 @@ enum {
  *      2       1    place: reading that of the next character in its record, writing the number of pending characters;
  *                   0 to 127, but writing at record 249 only 0; else 0
  *      3     128    the pending characters from the first on, any bytes; the others mean nothing, and may be any too
+ *
+ * The places, from offset 213, have 15 bytes each; that of port p's control block i is number 8 x p + i. It tells where
+ * a block that has D open reads on. The place of any other block means nothing and may be any bytes: CLOSE leaves it.
+ *
+ *      0       1    unit: the drive's number less 1, 0 to 3
+ *      1       1    kind: 0 a file, 1 the directory
+ *                   of a file:
+ *      2       1    entry: the file's number, 0 to 63
+ *      3       1    place: how many characters of its sector are read, 0 to 125
+ *      4       2    sector, any number; 0 is the file's end
+ *      6       2    passed: how many sectors of the file come before this one, 0 to 718
+ *      8       7    mean nothing: 0 after the OPEN, and may be any
+ *                   of the directory:
+ *      2       1    entry whose record is read, 0 to 63, or 64 for the record of free sectors, or 65 at the end; before
+ *                   a record's first character the entry from which on a match is looked for
+ *      3       1    place of the next character in the record: 0 to 17, but at entry 64 0 to 16, and at 65 only 0
+ *      4      11    the name that is asked for, eight bytes and three, any bytes; a ? matches every byte
  *
  * A room has the value of the message that its port gathers, or its reply: any bytes. So the rooms are never damaged, and
  * neither are the pending characters.
@@ -346,13 +384,24 @@ enum {
     FIXLOMAND_PLACE = 84,
     FIXLOMAND_PENDING = 85,
     FIXLOMAND_PENDING_LEN = 128,
+    FIXLOMAND_PLACES = 213, /* port 0's eight, then port 1's */
+    FIXLOMAND_PLACE_LEN = 15,
+    FIXLOMAND_PLACES_LEN = 240,
 
-    FIXLOMAND_ROOMS = 213, /* port 0's room, then port 1's */
+    FIXLOMAND_ROOMS = 453, /* port 0's room, then port 1's */
     FIXLOMAND_ROOM_LEN = 260
 };
 
 enum { FIXLOMAND_GATHERING = 0, FIXLOMAND_READY = 1, FIXLOMAND_RUNNING = 2, FIXLOMAND_REPLYING = 3 };
-enum { FIXLOMAND_CLOSED = 0, FIXLOMAND_E = 1, FIXLOMAND_S = 2, FIXLOMAND_K = 3, FIXLOMAND_P = 4, FIXLOMAND_C = 5 };
+enum {
+    FIXLOMAND_CLOSED = 0,
+    FIXLOMAND_E = 1,
+    FIXLOMAND_S = 2,
+    FIXLOMAND_K = 3,
+    FIXLOMAND_P = 4,
+    FIXLOMAND_C = 5,
+    FIXLOMAND_D = 6
+};
 enum {
     FIXLOMAND_TAPE_CLOSED = 0,
     FIXLOMAND_TAPE_READING = 1,
@@ -361,13 +410,28 @@ enum {
 };
 enum { FIXLOMAND_NO_COLUMN = 255, FIXLOMAND_NO_KEY = 255 };
 
+/* Where a byte of a block's place is, from the place's own offset. */
+enum {
+    FIXLOMAND_PLACE_UNIT = 0,
+    FIXLOMAND_PLACE_KIND = 1,
+    FIXLOMAND_PLACE_ENTRY = 2,
+    FIXLOMAND_PLACE_AT = 3,
+    FIXLOMAND_PLACE_SECTOR = 4,
+    FIXLOMAND_PLACE_PASSED = 6,
+    FIXLOMAND_PLACE_NAME = 4
+};
+enum { FIXLOMAND_PLACE_FILE = 0, FIXLOMAND_PLACE_DIRECTORY = 1 };
+enum { FIXLOMAND_ENTRIES = 64, FIXLOMAND_FREE_RECORD = 64, FIXLOMAND_LISTING_END = 65, FIXLOMAND_NAME_LEN = 11 };
+
 /* ---- Damage --------------------------------------------------------------------------------------------------------
  *
  * Every call but the fresh start looks, after the lengths, whether the state is damaged, and answers 3 if it is. It is
  * damaged if a byte or number is outside its range above, or if one of these holds:
  *
- * - An open block is one that no OPEN makes. In AUX1, 4 is R (reading), 8 is W (writing). K is never open with W, P never
- *   with R, C never with both; E with R always has 1 (forced read), and S never has 16 (split screen).
+ * - An open block is one that no OPEN makes. In AUX1, 4 is R (reading), 8 is W (writing). K and D are never open with W,
+ *   P never with R, C never with both; E with R always has 1 (forced read), and S never has 16 (split screen).
+ * - A block that has D open is at odds with its place: the unit is not the block's number less 1; or AUX1 is exactly 6
+ *   and the kind is not 1; or AUX1 is another and the kind is not 0. Only the places of such blocks are looked at.
  * - The blocks and the cassette's mark are at odds. Where it is 0 no block has C open. Where it is not, one block of the
  *   two ports has, and no second one: with R for 1, with W for 2, with neither for 3.
  * - A port gathers as many bytes as its message has, or more: taken is 3 + length or more, and 3 at least. Or a number of
@@ -376,13 +440,15 @@ enum { FIXLOMAND_NO_COLUMN = 255, FIXLOMAND_NO_KEY = 255 };
  * - A port replies, and given is not below length.
  * - A running request does not fit
  *     its block: that is open, on the request's device, with R for a GET and W for a PUT;
- *     the mode: E runs in mode 0 alone, S in every other mode, K, P and C in any;
+ *     the mode: E runs in mode 0 alone, S in every other mode, K, P, C and D in any;
  *     its buffer: of one character left and count are 0. Otherwise place + left is at most 16,384 and count at most
  *     place; of CHARACTERS left is not 0; of a RECORD left and count are not both 0.
- * - Both ports run requests at one group. E, S and K are one group, the console; P is the second, C the third.
+ * - Both ports run requests at one group. E, S and K are one group, the console; P is the second, C the third; D, with
+ *   all four drives, is the fourth.
  *
  * So two states that are not answered 3 and differ in some byte before the pending characters are two different sticks.
- * Cells, paper, tape, area, pending characters and rooms are never damaged: all their values are in range.
+ * Cells, paper, tape, images, area, pending characters, rooms and the places of blocks that do not have D open are never
+ * damaged: all their values are in range.
  *
  * Every state that the calls leave after a fresh start passes the test. Some others pass too, such as a graphics cursor
  * below the last row in a column other than 0, and the core works on with them. It is no checksum: a damaged byte may
@@ -391,13 +457,13 @@ enum { FIXLOMAND_NO_COLUMN = 255, FIXLOMAND_NO_KEY = 255 };
  * ---- What the core cannot test -------------------------------------------------------------------------------------
  *
  * - Each pointer is good for reading and writing as many bytes as its length says. (With length 0 it may be NULL.)
- * - The five buffers do not overlap, and none overlaps the core's own code, or the stack below the caller's frame, which
+ * - The six buffers do not overlap, and none overlaps the core's own code, or the stack below the caller's frame, which
  *   the call uses (firmware/measure prints how much). Nothing writes into that stack during the call.
  * - Nobody else writes them during a call; no interrupt and no other thread calls the core with them meanwhile. Who reads
  *   them during a call, as a display's DMA, may see half a change.
- * - Between two calls nobody writes them either, but for a tape that is not open. If somebody does, the core still
- *   answers, and still reads and writes nothing outside them; but then it works on with what it finds, and what it finds
- *   may be another host's bytes.
+ * - Between two calls nobody writes them either, but for a tape that is not open, and images. If somebody does, the core
+ *   still answers, and still reads and writes nothing outside them; but then it works on with what it finds, and what it
+ *   finds may be another host's bytes.
  */
 
 #ifdef __cplusplus

@@ -24,14 +24,37 @@ static int unused(const uint8_t *port, unsigned from)
     return 1;
 }
 
-static const char *block_damage(const uint8_t *block)
+/* The place of a block that has D open: "Only the places of such blocks are looked at." */
+static const char *place_damage(const uint8_t *block, const uint8_t *place)
+{
+    unsigned entry = place[FIXLOMAND_PLACE_ENTRY], at = place[FIXLOMAND_PLACE_AT];
+    unsigned kind = block[2] == FIXLOMAND_AUX1_DIRECTORY ? FIXLOMAND_PLACE_DIRECTORY : FIXLOMAND_PLACE_FILE;
+    if (place[FIXLOMAND_PLACE_UNIT] != block[1] - 1)
+        return "a place in another drive than its block's";
+    if (place[FIXLOMAND_PLACE_KIND] != kind)
+        return "a file's place in a directory, or a directory's in a file";
+    if (kind == FIXLOMAND_PLACE_FILE) {
+        if (entry >= FIXLOMAND_ENTRIES)
+            return "a file's entry";
+        if (at > 125)
+            return "a place in a sector";
+        return number(place + FIXLOMAND_PLACE_PASSED, 2) > 718 ? "passed sectors" : NULL;
+    }
+    if (entry > FIXLOMAND_LISTING_END)
+        return "a directory's entry";
+    if (at > (entry < FIXLOMAND_FREE_RECORD ? 17u : entry == FIXLOMAND_FREE_RECORD ? 16u : 0u))
+        return "a place in a directory's record";
+    return NULL;
+}
+
+static const char *block_damage(const uint8_t *block, const uint8_t *place)
 {
     uint8_t device = block[0], number_of = block[1], aux1 = block[2];
-    if (device > FIXLOMAND_C)
+    if (device > FIXLOMAND_D)
         return "a block's device";
     if (device == FIXLOMAND_CLOSED)
         return number_of != 0 || aux1 != 0 ? "a closed block with numbers" : NULL;
-    if (number_of < 1 || number_of > 8)
+    if (number_of < 1 || number_of > (device == FIXLOMAND_D ? FIXLOMAND_DRIVES : 8))
         return "a block's number";
     if (device == FIXLOMAND_E && (aux1 & R) != 0 && (aux1 & FIXLOMAND_AUX1_FORCED) == 0)
         return "E with R and without forced read";
@@ -43,7 +66,9 @@ static const char *block_damage(const uint8_t *block)
         return "P with R";
     if (device == FIXLOMAND_C && (aux1 & R) != 0 && (aux1 & W) != 0)
         return "C with R and W";
-    return NULL;
+    if (device == FIXLOMAND_D && (aux1 & W) != 0)
+        return "D with W";
+    return device == FIXLOMAND_D ? place_damage(block, place) : NULL;
 }
 
 static const char *gathering_damage(const uint8_t *port)
@@ -67,7 +92,7 @@ static const char *running_damage(const uint8_t *port, uint8_t mode)
     const uint8_t *its = port + FIXLOMAND_BLOCKS + FIXLOMAND_BLOCK_LEN * block;
     if (kind > 5)
         return "a request's kind";
-    if (device < FIXLOMAND_E || device > FIXLOMAND_C)
+    if (device < FIXLOMAND_E || device > FIXLOMAND_D)
         return "a request's device";
     if (block >= FIXLOMAND_BLOCK_COUNT)
         return "a request's block";
@@ -88,10 +113,11 @@ static const char *running_damage(const uint8_t *port, uint8_t mode)
     return NULL;
 }
 
-static const char *port_damage(const uint8_t *port, uint8_t mode)
+static const char *port_damage(const uint8_t *port, const uint8_t *places, uint8_t mode)
 {
     for (unsigned i = 0; i < FIXLOMAND_BLOCK_COUNT; i++) {
-        const char *why = block_damage(port + FIXLOMAND_BLOCKS + FIXLOMAND_BLOCK_LEN * i);
+        const char *why =
+            block_damage(port + FIXLOMAND_BLOCKS + FIXLOMAND_BLOCK_LEN * i, places + FIXLOMAND_PLACE_LEN * i);
         if (why != NULL)
             return why;
     }
@@ -185,7 +211,9 @@ const char *damage(const uint8_t *state)
 {
     const char *why = console_damage(state);
     for (unsigned port = 0; port < FIXLOMAND_PORTS && why == NULL; port++)
-        why = port_damage(state + port * FIXLOMAND_PORT_LEN, state[FIXLOMAND_MODE]);
+        why = port_damage(state + port * FIXLOMAND_PORT_LEN,
+                          state + FIXLOMAND_PLACES + port * FIXLOMAND_BLOCK_COUNT * FIXLOMAND_PLACE_LEN,
+                          state[FIXLOMAND_MODE]);
     if (why == NULL && number(state + FIXLOMAND_USED, 2) > FIXLOMAND_PAPER_LEN)
         why = "the paper's used length";
     if (why == NULL)

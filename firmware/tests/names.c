@@ -11,10 +11,13 @@ enum { SPECIFICATION = 0, BUFFER = 16, STATUS = FIXLOMAND_HEADER_LEN, COUNT, A =
 
 static uint8_t state[FIXLOMAND_STATE_LEN], area[FIXLOMAND_AREA_LEN];
 static uint8_t screen[FIXLOMAND_SCREEN_LEN], paper[FIXLOMAND_PAPER_LEN], tape[FIXLOMAND_TAPE_LEN];
+static uint8_t images[FIXLOMAND_IMAGES_LEN];
 static uint8_t reply[FIXLOMAND_ROOM_LEN];
 static unsigned checks;
 
-#define LENT state, sizeof state, area, sizeof area, screen, sizeof screen, paper, sizeof paper, tape, sizeof tape
+#define LENT                                                                                                           \
+    state, sizeof state, area, sizeof area, screen, sizeof screen, paper, sizeof paper, tape, sizeof tape, images,     \
+        sizeof images
 
 static void want(unsigned got, unsigned right, const char *what)
 {
@@ -200,6 +203,51 @@ static void check_cassette(void)
     want(state[FIXLOMAND_MARK], FIXLOMAND_TAPE_CLOSED, "the mark of a closed tape");
 }
 
+/* A file of one character, the directory, and what D refuses; where they stand in the images and in the state. */
+static void check_diskettes(void)
+{
+    static const uint8_t entry[] = {0x42, 1, 0, 4, 0, 'A', ' ', ' ', ' ', ' ', ' ', ' ', ' ', 'B', ' ', ' '};
+    uint8_t *sector = images + FIXLOMAND_SECTOR(FIXLOMAND_DRIVES, 4);
+    const uint8_t *place = state + FIXLOMAND_PLACES;
+    want(FIXLOMAND_DRIVES * FIXLOMAND_IMAGE_LEN, FIXLOMAND_IMAGES_LEN, "the images");
+    want(FIXLOMAND_SECTORS * FIXLOMAND_SECTOR_LEN, FIXLOMAND_IMAGE_LEN, "an image");
+    want(FIXLOMAND_SECTOR(2, 1), FIXLOMAND_IMAGE(2), "the first sector of an image");
+    want(FIXLOMAND_PORTS * FIXLOMAND_BLOCK_COUNT * FIXLOMAND_PLACE_LEN, FIXLOMAND_PLACES_LEN, "the places");
+    want(FIXLOMAND_PLACES + FIXLOMAND_PLACES_LEN, FIXLOMAND_ROOMS, "the end of the places");
+    want(opened("D4:A.B\x9B", R, 0), FIXLOMAND_STATUS_FILE_NOT_FOUND, "OPEN at an empty drive");
+    memcpy(images + FIXLOMAND_SECTOR(FIXLOMAND_DRIVES, 361), entry, sizeof entry);
+    sector[0] = 'a';
+    sector[127] = 1;
+    want(opened("D4:A.B\x9B", W, 0), FIXLOMAND_STATUS_BAD_COMMAND, "OPEN of D with W");
+    want(opened("D4:A-B\x9B", R, 0), FIXLOMAND_STATUS_BAD_FILE_NAME, "OPEN of a bad name");
+    want(opened("D5:A.B\x9B", R, 0), FIXLOMAND_STATUS_UNKNOWN_DEVICE, "OPEN of D5");
+    want(opened("D4:A.B\x9B", R, 0), FIXLOMAND_STATUS_SUCCESS, "OPEN of D4");
+    want(state[FIXLOMAND_BLOCKS], FIXLOMAND_D, "the block after it");
+    want(place[FIXLOMAND_PLACE_UNIT], FIXLOMAND_DRIVES - 1, "the unit after it");
+    want(place[FIXLOMAND_PLACE_KIND], FIXLOMAND_PLACE_FILE, "the kind after it");
+    want(place[FIXLOMAND_PLACE_SECTOR], 4, "the sector after it");
+    area[BUFFER] = 0;
+    want(call(0, FIXLOMAND_COMMAND_GET_CHARACTERS, BUFFER, 1, 0, 0), FIXLOMAND_STATUS_LAST_CHARACTER, "GET from D4");
+    want(area[BUFFER], 'a', "its character");
+    want(place[FIXLOMAND_PLACE_AT], 1, "the place after it");
+    want(call(0, FIXLOMAND_COMMAND_GET_CHARACTERS, BUFFER, 1, 0, 0), FIXLOMAND_STATUS_END_OF_FILE, "GET behind it");
+    images[FIXLOMAND_SECTOR(FIXLOMAND_DRIVES, 361)] = 0x62;
+    want(call(0, FIXLOMAND_COMMAND_GET_STATUS, 0, 0, 0, 0), FIXLOMAND_STATUS_FILE_LOCKED, "GET STATUS, a locked file");
+    sector[127] = 126;
+    want(call(0, FIXLOMAND_COMMAND_GET_CHARACTERS, BUFFER, 1, 0, 0), FIXLOMAND_STATUS_BAD_CHAIN, "GET of a bad sector");
+    want(opened("D4:?.B\x9B", FIXLOMAND_AUX1_DIRECTORY, 0), FIXLOMAND_STATUS_SUCCESS, "OPEN of a directory");
+    want(place[FIXLOMAND_PLACE_KIND], FIXLOMAND_PLACE_DIRECTORY, "the kind after it");
+    want(place[FIXLOMAND_PLACE_NAME], '?', "the name after it");
+    want(place[FIXLOMAND_PLACE_NAME + FIXLOMAND_NAME_LEN - 3], 'B', "the extension after it");
+    want(call(0, FIXLOMAND_COMMAND_GET_RECORD, BUFFER, 18, 0, 0), FIXLOMAND_STATUS_SUCCESS, "GET of a file's record");
+    want(area[BUFFER + 17], FIXLOMAND_EOL, "its last character");
+    want(call(0, FIXLOMAND_COMMAND_GET_CHARACTERS, BUFFER, 16, 0, 0), FIXLOMAND_STATUS_SUCCESS, "the last record");
+    want(place[FIXLOMAND_PLACE_ENTRY], FIXLOMAND_FREE_RECORD, "its entry");
+    want(call(0, FIXLOMAND_COMMAND_GET_CHARACTERS, BUFFER, 1, 0, 0), FIXLOMAND_STATUS_LAST_CHARACTER, "its EOL");
+    want(place[FIXLOMAND_PLACE_ENTRY], FIXLOMAND_LISTING_END, "the entry behind it");
+    want(call(0, FIXLOMAND_COMMAND_CLOSE, 0, 0, 0, 0), FIXLOMAND_STATUS_SUCCESS, "CLOSE of a directory");
+}
+
 static void check_editor(void)
 {
     want(opened("E:", R | W, 0), FIXLOMAND_STATUS_BAD_COMMAND, "OPEN of E: without forced read");
@@ -290,6 +338,7 @@ int main(void)
     check_blocks();
     check_printer();
     check_cassette();
+    check_diskettes();
     check_editor();
     check_keys();
     check_modes();

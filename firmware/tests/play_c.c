@@ -7,9 +7,12 @@
  *     G PORT               give: the answer, the byte
  *     P CODE               press: the answer
  *     X PORT N(2)          ticks while the port runs on, at most N: how many (2), the last answer
- *     L BUFFER LENGTH(3)   from now on lend so much of 0 area, 1 screen, 2 paper, 3 state, 4 tape: nothing is written
- *     W BUFFER AT(3) N(2)  the N bytes behind it into the area, screen, paper or tape, from AT to its end: nothing is written
- *     D                    area, screen, paper, and the state but for the cassette, as the header lays it out
+ *     L BUFFER LENGTH(3)   from now on lend so much of 0 area, 1 screen, 2 paper, 3 state, 4 tape, 6 images: nothing is
+ *                          written
+ *     W BUFFER AT(3) N(2)  the N bytes behind it into the area, screen, paper, tape or images, from AT to its end:
+ *                          nothing is written
+ *     D                    area, screen, paper, and the state but for the cassette and the diskettes' places, as the
+ *                          header lays it out
  *     C                    tape, mark, record (2), place, and the pending characters with zeros behind them
  *
  * Each op is answered before the next is read. The buffers stand between guard pages. */
@@ -20,14 +23,18 @@
 #include <string.h>
 #include <unistd.h>
 
-enum { AREA, SCREEN, PAPER, STATE, TAPE, BUFFERS };
+/* The buffers by their numbers in a script; 5 is none. */
+enum { AREA, SCREEN, PAPER, STATE, TAPE, IMAGES = 6, BUFFERS };
 
-static const size_t whole[BUFFERS] = {FIXLOMAND_AREA_LEN, FIXLOMAND_SCREEN_LEN, FIXLOMAND_PAPER_LEN,
-                                      FIXLOMAND_STATE_LEN, FIXLOMAND_TAPE_LEN};
+static const size_t whole[BUFFERS] = {[AREA] = FIXLOMAND_AREA_LEN,   [SCREEN] = FIXLOMAND_SCREEN_LEN,
+                                      [PAPER] = FIXLOMAND_PAPER_LEN, [STATE] = FIXLOMAND_STATE_LEN,
+                                      [TAPE] = FIXLOMAND_TAPE_LEN,   [IMAGES] = FIXLOMAND_IMAGES_LEN};
 static size_t lent[BUFFERS];
-static uint8_t *state, *area, *screen, *paper, *tape;
+static uint8_t *state, *area, *screen, *paper, *tape, *images;
 
-#define LENT state, lent[STATE], area, lent[AREA], screen, lent[SCREEN], paper, lent[PAPER], tape, lent[TAPE]
+#define LENT                                                                                                           \
+    state, lent[STATE], area, lent[AREA], screen, lent[SCREEN], paper, lent[PAPER], tape, lent[TAPE], images,          \
+        lent[IMAGES]
 
 static void say(const uint8_t *bytes, size_t length)
 {
@@ -58,7 +65,7 @@ static int next(void)
 
 static void say_block(const uint8_t *block)
 {
-    static const uint8_t letters[] = {0, 'E', 'S', 'K', 'P', 'C'};
+    static const uint8_t letters[] = {0, 'E', 'S', 'K', 'P', 'C', 'D'};
     uint8_t device = block[0];
     if (device >= sizeof letters)
         fail("dump: %u is no device", device);
@@ -108,7 +115,8 @@ static void dump_tape(void)
 static int write_into(unsigned buffer, size_t at, unsigned length)
 {
     static uint8_t some[65535];
-    uint8_t *const buffers[BUFFERS] = {area, screen, paper, NULL, tape};
+    uint8_t *const buffers[BUFFERS] = {
+        [AREA] = area, [SCREEN] = screen, [PAPER] = paper, [TAPE] = tape, [IMAGES] = images};
     for (unsigned i = 0; i < length; i++) {
         int byte = next();
         if (byte < 0)
@@ -200,6 +208,7 @@ int main(int words, char **word)
     screen = guarded("screen", FIXLOMAND_SCREEN_LEN, side);
     paper = guarded("paper", FIXLOMAND_PAPER_LEN, side);
     tape = guarded("tape", FIXLOMAND_TAPE_LEN, side);
+    images = guarded("images", FIXLOMAND_IMAGES_LEN, side);
     memcpy(lent, whole, sizeof lent);
     guard_doing = "play_c";
     guard_watch();

@@ -5,7 +5,7 @@
  * call must end in an answer of its own row of the table, answer 3 exactly when damage.c, which is
  * written from the header alone, finds the state damaged, change nothing unless it answers 0, and leave a state in
  * order. The buffers stand between guard pages; what of area, screen, paper and tape a call may not write it is lent at
- * a place where it can only be read. */
+ * a place where it can only be read, and so are the images always. */
 #include "damage.h"
 #include "fixlomand.h"
 #include "guard.h"
@@ -16,12 +16,15 @@
 #include <string.h>
 
 enum { FRESH, TAKE, TICK, GIVE, PRESS, CALLS, ANSWERS = 9, HALF = FIXLOMAND_PORT_AREA_LEN };
-enum { R = FIXLOMAND_AUX1_READ, W = FIXLOMAND_AUX1_WRITE, FORCED = FIXLOMAND_AUX1_FORCED, SPECIFICATIONS = 10 };
+enum { R = FIXLOMAND_AUX1_READ, W = FIXLOMAND_AUX1_WRITE, FORCED = FIXLOMAND_AUX1_FORCED, SPECIFICATIONS = 16 };
+
+/* the control blocks of both ports, and how many numbers the files of the diskettes have */
+enum { BLOCKS = FIXLOMAND_PORTS * FIXLOMAND_BLOCK_COUNT, FILES = 2 };
 
 static const char *const names[CALLS] = {"fresh", "take", "tick", "give", "press"};
-static uint8_t *state, *area, *screen, *paper, *tape;
+static uint8_t *state, *area, *screen, *paper, *tape, *images;
 /* where nothing can be written, and where one port's half of the area can */
-static uint8_t *area_view, *screen_view, *paper_view, *tape_view, *half_view[2];
+static uint8_t *area_view, *screen_view, *paper_view, *tape_view, *images_view, *half_view[2];
 static uint8_t state_before[FIXLOMAND_STATE_LEN], area_before[FIXLOMAND_AREA_LEN];
 static uint8_t screen_before[FIXLOMAND_SCREEN_LEN], paper_before[FIXLOMAND_PAPER_LEN];
 static uint8_t tape_before[FIXLOMAND_TAPE_LEN];
@@ -83,7 +86,9 @@ static uint8_t random_aux1(uint8_t device)
         aux1 |= FORCED;
     if (device == FIXLOMAND_S)
         aux1 &= ~(unsigned)FIXLOMAND_AUX1_SPLIT;
-    if (device == FIXLOMAND_K)
+    if (device == FIXLOMAND_D && one_in(3))
+        aux1 = FIXLOMAND_AUX1_DIRECTORY;
+    if (device == FIXLOMAND_K || device == FIXLOMAND_D)
         aux1 &= ~(unsigned)W;
     if (device == FIXLOMAND_P || (device == FIXLOMAND_C && (aux1 & W) != 0))
         aux1 &= ~(unsigned)R;
@@ -93,7 +98,7 @@ static uint8_t random_aux1(uint8_t device)
 static void random_block(uint8_t *block, uint8_t device)
 {
     block[0] = device;
-    block[1] = device == FIXLOMAND_CLOSED ? 0 : (uint8_t)between(1, 8);
+    block[1] = device == FIXLOMAND_CLOSED ? 0 : (uint8_t)between(1, device == FIXLOMAND_D ? FIXLOMAND_DRIVES : 8);
     block[2] = device == FIXLOMAND_CLOSED ? 0 : random_aux1(device);
 }
 
@@ -117,7 +122,7 @@ static void random_ready(uint8_t *port, uint8_t *room)
         room[1] = commands[below(sizeof commands)];
         put(room + 2, one_in(16) ? between(0, 65535) : 8 * below(SPECIFICATIONS));
         put(room + 4, one_in(16) ? between(0, 65535) : between(0, 300));
-        room[6] = (uint8_t)below(64);
+        room[6] = one_in(8) ? FIXLOMAND_AUX1_DIRECTORY : (uint8_t)below(64);
         room[7] = (uint8_t)below(10);
         break;
     case FIXLOMAND_TAG_LOAD:
@@ -143,6 +148,8 @@ static void random_running(uint8_t *port, uint8_t mode, int tape_too)
     uint8_t kind = (uint8_t)below(6), *block;
     uint8_t device = kind < 3 ? (uint8_t)(1 + below(3)) : one_in(2) ? FIXLOMAND_P : (uint8_t)(1 + below(2));
     unsigned place = between(0, HALF), left = between(0, HALF - place);
+    if (kind < 3 && one_in(3))
+        device = FIXLOMAND_D;
     if (tape_too && one_in(2))
         device = FIXLOMAND_C;
     if (device == FIXLOMAND_E || device == FIXLOMAND_S)
@@ -169,12 +176,19 @@ static void random_running(uint8_t *port, uint8_t mode, int tape_too)
     port[10] = (uint8_t)below(256);
 }
 
+/* Any device but C, or none. */
+static uint8_t random_device(void)
+{
+    unsigned device = below(FIXLOMAND_D);
+    return (uint8_t)(device == FIXLOMAND_C ? FIXLOMAND_D : device);
+}
+
 static void random_port(uint8_t *port, uint8_t *room, uint8_t mode, int tape_too)
 {
     unsigned length, taken;
     memset(port, 0, FIXLOMAND_PORT_LEN);
     for (unsigned i = 0; i < FIXLOMAND_BLOCK_COUNT; i++)
-        random_block(port + FIXLOMAND_BLOCKS + FIXLOMAND_BLOCK_LEN * i, (uint8_t)below(FIXLOMAND_C));
+        random_block(port + FIXLOMAND_BLOCKS + FIXLOMAND_BLOCK_LEN * i, random_device());
     port[FIXLOMAND_PHASE] = (uint8_t)below(4);
     switch (port[FIXLOMAND_PHASE]) {
     case FIXLOMAND_GATHERING:
@@ -222,13 +236,24 @@ static void random_console(uint8_t *s)
     put(s + FIXLOMAND_USED, between(0, FIXLOMAND_PAPER_LEN));
 }
 
+/* A block of both ports, 0 to 15, and its place. */
+static const uint8_t *block_of(const uint8_t *s, unsigned number)
+{
+    return s + number / FIXLOMAND_BLOCK_COUNT * FIXLOMAND_PORT_LEN + FIXLOMAND_BLOCKS +
+           number % FIXLOMAND_BLOCK_COUNT * FIXLOMAND_BLOCK_LEN;
+}
+
+static size_t place_of(unsigned number)
+{
+    return FIXLOMAND_PLACES + number * FIXLOMAND_PLACE_LEN;
+}
+
 /* The cassette, as the blocks have it open. */
 static void random_cassette(uint8_t *s)
 {
     unsigned mark = FIXLOMAND_TAPE_CLOSED, record = 0, at = 0;
-    for (unsigned i = 0; i < FIXLOMAND_PORTS * FIXLOMAND_BLOCK_COUNT; i++) {
-        const uint8_t *block = s + i / FIXLOMAND_BLOCK_COUNT * FIXLOMAND_PORT_LEN + FIXLOMAND_BLOCKS +
-                               i % FIXLOMAND_BLOCK_COUNT * FIXLOMAND_BLOCK_LEN;
+    for (unsigned i = 0; i < BLOCKS; i++) {
+        const uint8_t *block = block_of(s, i);
         if (block[0] == FIXLOMAND_C)
             mark = (block[2] & R) != 0   ? FIXLOMAND_TAPE_READING
                    : (block[2] & W) != 0 ? FIXLOMAND_TAPE_WRITING
@@ -244,6 +269,36 @@ static void random_cassette(uint8_t *s)
     put_random(s + FIXLOMAND_PENDING, FIXLOMAND_PENDING_LEN);
 }
 
+/* The places, as the blocks have D open; the others may be any bytes. */
+static void random_places(uint8_t *s)
+{
+    put_random(s + FIXLOMAND_PLACES, FIXLOMAND_PLACES_LEN);
+    for (unsigned i = 0; i < BLOCKS; i++) {
+        const uint8_t *block = block_of(s, i);
+        uint8_t *place_in = s + place_of(i);
+        unsigned entry;
+        if (block[0] != FIXLOMAND_D)
+            continue;
+        place_in[FIXLOMAND_PLACE_UNIT] = (uint8_t)(block[1] - 1);
+        if (block[2] != FIXLOMAND_AUX1_DIRECTORY) {
+            place_in[FIXLOMAND_PLACE_KIND] = FIXLOMAND_PLACE_FILE;
+            place_in[FIXLOMAND_PLACE_ENTRY] = (uint8_t)(one_in(2) ? below(FILES) : between(0, FIXLOMAND_ENTRIES - 1));
+            place_in[FIXLOMAND_PLACE_AT] = (uint8_t)between(0, 125);
+            put(place_in + FIXLOMAND_PLACE_SECTOR, one_in(8) ? between(0, 65535) : between(0, 720));
+            put(place_in + FIXLOMAND_PLACE_PASSED, between(0, 718));
+            continue;
+        }
+        entry = between(0, FIXLOMAND_LISTING_END);
+        place_in[FIXLOMAND_PLACE_KIND] = FIXLOMAND_PLACE_DIRECTORY;
+        place_in[FIXLOMAND_PLACE_ENTRY] = (uint8_t)entry;
+        place_in[FIXLOMAND_PLACE_AT] = (uint8_t)(entry < FIXLOMAND_FREE_RECORD    ? between(0, 17)
+                                                 : entry == FIXLOMAND_FREE_RECORD ? between(0, 16)
+                                                                                  : 0);
+        if (one_in(2))
+            memset(place_in + FIXLOMAND_PLACE_NAME, '?', FIXLOMAND_NAME_LEN);
+    }
+}
+
 /* A state in which each part is in order. */
 static void random_parts(uint8_t *s)
 {
@@ -254,6 +309,7 @@ static void random_parts(uint8_t *s)
         random_port(s + side * FIXLOMAND_PORT_LEN, s + FIXLOMAND_ROOMS + side * FIXLOMAND_ROOM_LEN, s[FIXLOMAND_MODE],
                     side == with_tape);
     random_cassette(s);
+    random_places(s);
     if (damage(s) != NULL && strcmp(damage(s), "both ports at one group") != 0)
         fail("states: a state made to be in order is not: %s", damage(s));
 }
@@ -265,10 +321,13 @@ static void random_in_order(uint8_t *s)
     while (damage(s) != NULL);
 }
 
-/* One byte before the rooms becomes another; most are no pending characters, for these are never wrong. */
+/* One byte before the rooms becomes another; most are no pending characters, for these are never wrong, and not of a
+ * name in a place either. */
 static void one_wrong_byte(uint8_t *s)
 {
     uint8_t *byte = s + below(one_in(16) ? FIXLOMAND_ROOMS : FIXLOMAND_PENDING);
+    if (one_in(3))
+        byte = s + place_of(below(BLOCKS)) + below(FIXLOMAND_PLACE_PASSED + 2);
     uint8_t old = *byte;
     switch (below(4)) {
     case 0:
@@ -286,7 +345,9 @@ static void one_wrong_byte(uint8_t *s)
 /* Specifications where the random CALLs look for them. */
 static void prepare_area(void)
 {
-    static const char *const some[SPECIFICATIONS] = {"E:", "S:", "K:", "P:", "C:", "E1:", "S8:", "K9:", "C8:", "X:"};
+    static const char *const some[SPECIFICATIONS] = {
+        "E:",  "S:", "K:",        "P:",       "C:",  "E1:",         "S8:",    "K9:",
+        "C8:", "X:", "D:*.*\x9B", "D2:A\x9B", "D:-", "D4:?*.?\x9B", "D3:B?*", "D5:A\x9B"};
     put_random(area, FIXLOMAND_AREA_LEN);
     for (unsigned port = 0; port < 2; port++)
         for (unsigned i = 0; i < SPECIFICATIONS; i++)
@@ -310,17 +371,53 @@ static void prepare_tape(void)
     }
 }
 
+/* Diskettes with some files of short names, locked and deleted ones too, and sectors most of which may be of one chain:
+ * a file number, a link and a data count that are good. */
+static void prepare_images(void)
+{
+    static const uint8_t flags[] = {0x42, 0x42, 0x62, 0x80, 0x40, 0xC2};
+    put_random(images, FIXLOMAND_IMAGES_LEN);
+    for (unsigned drive = 1; drive <= FIXLOMAND_DRIVES; drive++) {
+        uint8_t *directory = images + FIXLOMAND_SECTOR(drive, 361);
+        for (unsigned sector = 1; sector <= FIXLOMAND_SECTORS; sector++) {
+            uint8_t *bytes = images + FIXLOMAND_SECTOR(drive, sector);
+            unsigned next = one_in(16) ? 0 : one_in(16) ? between(0, 1023) : between(1, 719);
+            if (one_in(8))
+                continue;
+            bytes[125] = (uint8_t)(4 * below(FILES) + next / 256);
+            bytes[126] = (uint8_t)next;
+            bytes[127] = (uint8_t)(one_in(3) ? 0 : between(0, 125));
+        }
+        for (unsigned i = 0; i < FIXLOMAND_ENTRIES; i++) {
+            uint8_t *entry = directory + 16 * i;
+            entry[0] = one_in(32) ? 0 : one_in(8) ? (uint8_t)below(256) : flags[below(sizeof flags)];
+            put(entry + 3, one_in(16) ? between(0, 65535) : between(1, 719));
+            memset(entry + 5, ' ', FIXLOMAND_NAME_LEN);
+            for (unsigned at = 0; at < 3; at++)
+                entry[5 + 4 * at] = (uint8_t)(one_in(2) ? ' ' : 'A' + below(3));
+        }
+    }
+}
+
 /* ---- one call ---- */
 
 static unsigned long place;
 static unsigned which, port;
 static uint8_t operand;
 
+/* Whether a part of the state begins at this byte, or a place. */
+static int begins_part(unsigned i)
+{
+    return i == 0 || i == FIXLOMAND_PORT_LEN || i == FIXLOMAND_CONSOLE || i == FIXLOMAND_USED ||
+           i == FIXLOMAND_CASSETTE || i == FIXLOMAND_PENDING ||
+           (i >= FIXLOMAND_PLACES && (i - FIXLOMAND_PLACES) % FIXLOMAND_PLACE_LEN == 0);
+}
+
 static void trouble(const char *what)
 {
     fprintf(stderr, "state before the call:");
     for (unsigned i = 0; i < FIXLOMAND_ROOMS; i++)
-        fprintf(stderr, "%s%02X", i == 0 || i == 35 || i == 70 || i == 80 || i == 82 || i == 85 ? "\n  " : " ", state_before[i]);
+        fprintf(stderr, "%s%02X", begins_part(i) ? "\n  " : " ", state_before[i]);
     fputc('\n', stderr);
     fail("states: call %lu, %s at port %u with %u: %s", place, names[which], port, operand, what);
 }
@@ -351,7 +448,7 @@ static int expected(void)
 
 #define LENT                                                                                                           \
     state, FIXLOMAND_STATE_LEN, its_area, FIXLOMAND_AREA_LEN, its_screen, FIXLOMAND_SCREEN_LEN, its_paper,            \
-        FIXLOMAND_PAPER_LEN, its_tape, FIXLOMAND_TAPE_LEN
+        FIXLOMAND_PAPER_LEN, its_tape, FIXLOMAND_TAPE_LEN, images_view, FIXLOMAND_IMAGES_LEN
 
 /* Makes the call; a call that is to be refused can write nothing but the state. */
 static unsigned call(int refused)
@@ -411,7 +508,17 @@ static void check_done(unsigned given)
         !same(state, state_before, other_room, other_room + FIXLOMAND_ROOM_LEN))
         trouble("changes the other port");
     if (which != TICK && !same(state, state_before, FIXLOMAND_CONSOLE, FIXLOMAND_ROOMS))
-        trouble("changes console, printer or cassette");
+        trouble("changes console, printer, cassette or a place");
+    if (which == TICK) {
+        const uint8_t *its = state_before + port * FIXLOMAND_PORT_LEN;
+        unsigned block = its[FIXLOMAND_PHASE] == FIXLOMAND_RUNNING
+                             ? its[3]
+                             : state_before[FIXLOMAND_ROOMS + port * FIXLOMAND_ROOM_LEN];
+        for (unsigned i = 0; i < BLOCKS; i++)
+            if (i != port * FIXLOMAND_BLOCK_COUNT + block &&
+                !same(state, state_before, place_of(i), place_of(i) + FIXLOMAND_PLACE_LEN))
+                trouble("changes the place of another block");
+    }
     if (which == GIVE) {
         const uint8_t *its = state_before + port * FIXLOMAND_PORT_LEN;
         if (given != state_before[FIXLOMAND_ROOMS + port * FIXLOMAND_ROOM_LEN + its[3] + 256u * its[4]])
@@ -481,6 +588,7 @@ static void make_call(void)
         check_fresh();
         prepare_area();
         prepare_tape();
+        prepare_images();
     }
 }
 
@@ -548,21 +656,32 @@ static void make_next_call(void)
     }
 }
 
-/* Every value of every byte before the pending characters, in turn, in a state that is in order else. The port is above
- * 1, so that the answer is 3 or 1 and nothing moves on. */
+/* Every value of a byte in a state that is in order else. The port is above 1, so that the answer is 3 or 1 and nothing
+ * moves on. */
+static void every_value(size_t at)
+{
+    uint8_t right = state[at];
+    for (unsigned value = 0; value < 256; value++) {
+        state[at] = (uint8_t)value;
+        which = TAKE + below(3);
+        port = 2 + below(254);
+        make_next_call();
+    }
+    state[at] = right;
+}
+
+/* Every byte before the pending characters, in turn, and every byte of the places of the blocks that have D open, and of
+ * one other. */
 static void every_byte(void)
 {
+    unsigned other = below(BLOCKS);
     random_in_order(state);
-    for (unsigned at = 0; at < FIXLOMAND_PENDING; at++) {
-        uint8_t right = state[at];
-        for (unsigned value = 0; value < 256; value++) {
-            state[at] = (uint8_t)value;
-            which = TAKE + below(3);
-            port = 2 + below(254);
-            make_next_call();
-        }
-        state[at] = right;
-    }
+    for (size_t at = 0; at < FIXLOMAND_PENDING; at++)
+        every_value(at);
+    for (unsigned i = 0; i < BLOCKS; i++)
+        if (i == other || block_of(state, i)[0] == FIXLOMAND_D)
+            for (size_t at = place_of(i); at < place_of(i + 1); at++)
+                every_value(at);
 }
 
 static void any_call(void)
@@ -577,7 +696,7 @@ static void run(void)
 {
     unsigned long damaged = 0;
     state = guarded("state", FIXLOMAND_STATE_LEN, seed % 2 == 0 ? LEFT : RIGHT);
-    while (place + 256 * FIXLOMAND_PENDING <= calls / 2)
+    while (place + 256 * (FIXLOMAND_PENDING + FIXLOMAND_PLACES_LEN) <= calls / 2)
         every_byte();
     random_in_order(state);
     while (place < calls)
@@ -604,11 +723,14 @@ int main(int words, char **word)
     paper_view = view_of_shared(0, 0);
     tape = shared("tape", FIXLOMAND_TAPE_LEN, RIGHT);
     tape_view = view_of_shared(0, 0);
+    images = shared("images", FIXLOMAND_IMAGES_LEN, RIGHT);
+    images_view = view_of_shared(0, 0);
     guard_watch();
     prepare_area();
     put_random(screen, FIXLOMAND_SCREEN_LEN);
     put_random(paper, FIXLOMAND_PAPER_LEN);
     prepare_tape();
+    prepare_images();
     run();
     guards_free();
     return 0;

@@ -8,9 +8,12 @@
 
 static uint8_t state[FIXLOMAND_STATE_LEN], area[FIXLOMAND_AREA_LEN];
 static uint8_t screen[FIXLOMAND_SCREEN_LEN], paper[FIXLOMAND_PAPER_LEN], tape[FIXLOMAND_TAPE_LEN];
+static uint8_t images[FIXLOMAND_IMAGES_LEN];
 static uint8_t reply[FIXLOMAND_HEADER_LEN + FIXLOMAND_CALL_REPLY_LEN];
 
-#define LENT state, sizeof state, area, sizeof area, screen, sizeof screen, paper, sizeof paper, tape, sizeof tape
+#define LENT                                                                                                           \
+    state, sizeof state, area, sizeof area, screen, sizeof screen, paper, sizeof paper, tape, sizeof tape, images,     \
+        sizeof images
 
 /* A whole CALL on block 0 of port 0, its address 0; the reply has status, count and A from byte 3 on. */
 static void call(uint8_t command, uint8_t aux1)

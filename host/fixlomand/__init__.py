@@ -7,6 +7,7 @@ bits of AUX1 and an exception for each status. It comes from:
 - ``errors``: an exception for each status from $80.
 - ``line``: a byte stream with time limits.
 - ``cio``: a ``Stick`` over any byte stream, and its files.
+- ``directory``: the records of a diskette's directory.
 
 For talking to ``play``:
 
@@ -23,22 +24,31 @@ For people:
 - ``command``: the words of ``./stick``, and one line for what goes wrong;
   ``words``, ``files``: what is behind a word, and files written whole.
 - ``demo``, ``live`` (drawn by ``view``, noted by ``log``), ``picture``,
-  ``cassette`` (the words of ``./stick tape``): what the words do; ``helps``:
-  what ``live``, ``play`` and ``tape`` say of themselves.
+  ``cassette`` and ``diskette`` (the words of ``./stick tape`` and ``./stick
+  disk``): what the words do; ``helps``: what ``live``, ``play``, ``tape`` and
+  ``disk`` say of themselves.
 - ``screen``, ``letters``, ``keys``: cells, letters and key codes.
 - ``tape``, ``cas``, ``deck``: a tape's records, the CAS format, and tapes in
   files.
+- ``disk``, ``atr``, ``drives``: a diskette's sectors, the ATR format, and
+  diskettes in files.
+- ``text``: what is told of characters and files.
 """
 
 from .cio import ByteStream, File, Stick
+from .directory import Directory, DirectoryEntry
 from .errors import (
     AlreadyOpen,
+    BadChain,
     BadCommand,
+    BadFileName,
     BadIocb,
     BadReply,
     Checksum,
     CursorPastLastRow,
     EndOfFile,
+    FileLocked,
+    FileNotFound,
     NotOpen,
     NotReadable,
     NotWritable,
@@ -55,6 +65,7 @@ from .errors import (
 )
 from .wire import (
     AREA,
+    DIRECTORY,
     EOL,
     FORCED,
     KEEP,
@@ -72,10 +83,11 @@ from .wire import (
     Tag,
 )
 
-__version__ = "2.1.0"
+__version__ = "3.0.0"
 
 __all__ = [
     "AREA",
+    "DIRECTORY",
     "EOL",
     "FORCED",
     "KEEP",
@@ -85,7 +97,9 @@ __all__ = [
     "SUCCESS",
     "WRITE",
     "AlreadyOpen",
+    "BadChain",
     "BadCommand",
+    "BadFileName",
     "BadIocb",
     "BadReply",
     "ByteStream",
@@ -93,9 +107,13 @@ __all__ = [
     "Checksum",
     "Command",
     "CursorPastLastRow",
+    "Directory",
+    "DirectoryEntry",
     "EndOfFile",
     "FetchReply",
     "File",
+    "FileLocked",
+    "FileNotFound",
     "LoadReply",
     "NotOpen",
     "NotReadable",

@@ -16,7 +16,7 @@ from .cio import BLOCKS, BUFFER, SPECIFICATION
 from .errors import BadReply
 from .play import GROUP_HELD, Player
 from .tape import CHARACTERS, END, FULL, PARTIAL, RECORD, RECORDS, checksum
-from .wire import AREA, EOL, FORCED, KEEP, PIECE, READ, WRITE, CallReply, Command, FetchReply, LoadReply
+from .wire import AREA, DIRECTORY, EOL, FORCED, KEEP, PIECE, READ, WRITE, CallReply, Command, FetchReply, LoadReply
 
 OK = wire.SUCCESS
 LAST_CHARACTER = wire.LAST_CHARACTER
@@ -91,7 +91,18 @@ class Bench:
     def lend_tape(self, data: bytes = b"") -> None:
         """From now on the tape is these bytes, and zeros: a fresh start leaves
         its bytes as they are."""
-        self._player.do(script.Write(script.BUFFERS.index("tape"), 0, data.ljust(script.TAPE, b"\0")))
+        self._player.do(script.Write(script.Buffer.TAPE, 0, data.ljust(script.TAPE, b"\0")))
+
+    def lend_diskette(self, data: bytes = b"", drive: int = 1) -> None:
+        """From now on the diskette in a drive is these bytes, and zeros: a
+        fresh start leaves its bytes as they are."""
+        half = script.IMAGE // 2
+        for at in (0, half):
+            self.write_diskette(at, data[at : at + half].ljust(half, b"\0"), drive)
+
+    def write_diskette(self, at: int, data: bytes, drive: int = 1) -> None:
+        """Writes bytes of the diskette in a drive, and leaves the others."""
+        self._player.do(script.Write(script.Buffer.IMAGES, (drive - 1) * script.IMAGE + at, data))
 
     def begin(self, data: bytes, port: int = 0) -> int:
         """Sends a message and ticks once; the tick's answer."""
@@ -109,10 +120,11 @@ class Bench:
         give = script.Give(port)
         self.ticks = 0
         answer, first = self._player.do(give)[0]
-        if answer:
-            ticked = self._player.do(script.Ticks(port, 0xFFFF))[0]
-            self.ticks = int.from_bytes(ticked[:2], "little")
-            answer, first = self._player.do(give)[0]
+        for _ in range(2):  # the longest request takes more ticks than one op makes
+            if answer:
+                ticked = self._player.do(script.Ticks(port, 0xFFFF))[0]
+                self.ticks += int.from_bytes(ticked[:2], "little")
+                answer, first = self._player.do(give)[0]
         self.same(0, answer)
         header = bytes([first]) + bytes(byte for _, byte in self._player.do(give, give))
         rest = self._player.do(*[give] * int.from_bytes(header[1:], "little"))
@@ -187,19 +199,22 @@ class Bench:
         *,
         command: int = Command.GET_CHARACTERS,
         ticks: int | None = None,
+        iocb: int = 0,
     ) -> None:
         """Reads with a buffer of the length: the bytes are to be stored, and none behind them; in so many ticks, the
         start's too, if that is said."""
         behind = b"\xa5"
         self.load(behind * (length + 1))
-        self.same(CallReply(status, len(expected), 0), self.call(command, length=length))
+        self.same(CallReply(status, len(expected), 0), self.call(command, length=length, iocb=iocb))
         if ticks is not None:
             self.same(f"{ticks} ticks", f"{1 + self.ticks} ticks")
         self.same(expected + behind, self.fetch(len(expected) + 1))
 
-    def get_record(self, length: int, expected: bytes, status: int = OK, *, ticks: int | None = None) -> None:
+    def get_record(
+        self, length: int, expected: bytes, status: int = OK, *, ticks: int | None = None, iocb: int = 0
+    ) -> None:
         """Reads a record."""
-        self.get(length, expected, status, command=Command.GET_RECORD, ticks=ticks)
+        self.get(length, expected, status, command=Command.GET_RECORD, ticks=ticks, iocb=iocb)
 
     def key(self, code: int, expected: int | None) -> None:
         """Presses a key and reads it by A: a character, or none and $88."""
@@ -789,23 +804,59 @@ def _(bench: Bench) -> None:
         bench.open(malformed, WRITE, iocb=1, status=0x82)
 
 
-@case("manual, Device/Filename Specification", "of its examples K: and C: open; D2:BDAT and D:HOLD are not built, $82")
-def _(bench: Bench) -> None:
-    bench.open(b"K:\x9b", READ)
-    bench.open(b"C:\x9b", READ, iocb=1)
-    for specification in (b"D2:BDAT\x9b", b"D:HOLD\x9b"):
-        bench.open(specification, READ, iocb=2, status=0x82)
+# diskettes: one with a file, and what is on it
+
+NAME = b"HELLO   TXT"
+HELLO_PLACE, ENTRY_PLACE, FREE_PLACE = 3 * 128, 360 * 128, 359 * 128 + 3
+"""Where on a diskette sector 4 is, entry 0 and the free count."""
+LINK_PLACE = HELLO_PLACE + 125
+"""Where the file number, the link and the data count of sector 4 are."""
 
 
-@case("manual, I/O Example (Figure 5-3)", "its steps on IOCB #3, K: for D1:TESTER: records until end of file, CLOSE")
+def _entry(name: bytes, first: int, *, count: int = 1, flag: int = 0x42) -> bytes:
+    """An entry of a directory."""
+    return bytes([flag]) + wire.word(count) + wire.word(first) + name
+
+
+def _sector(file: int, link: int, data: bytes, count: int | None = None) -> bytes:
+    """A sector of a file: its characters, its file's number, the next sector, and how many characters it says."""
+    return data.ljust(125, b"\0") + bytes([file << 2 | link >> 8, link & 0xFF, len(data) if count is None else count])
+
+
+def _diskette(entries: Sequence[bytes], sectors: dict[int, bytes], free: int = 706) -> bytes:
+    """A diskette with these entries and sectors; the map says that sector 4 alone has a file."""
+    bits = b"\x07" + b"\xff" * 44 + b"\x00\x7f" + b"\xff" * 43
+    whole = {360: (b"\x02\xc3\x02" + wire.word(free)).ljust(10, b"\0") + bits}
+    listed = b"".join(entries)
+    whole |= {361 + place: listed[128 * place : 128 * (place + 1)] for place in range(8)}
+    whole |= sectors
+    return b"".join(whole.get(number, b"").ljust(128, b"\0") for number in range(1, 721))
+
+
+HELLO = _diskette([_entry(NAME, 4)], {4: _sector(0, 0, b"HI\x9b")})
+"""A diskette with one file, HELLO.TXT, of three characters in sector 4."""
+
+
+@case("manual, Device/Filename Specification", "its examples C:, D2:BDAT, D:HOLD and K: open, each its device and number")
 def _(bench: Bench) -> None:
-    bench.open(b"K:\x9b", READ, iocb=3)
-    for _ in range(3):
-        bench.press(keys.RETURN)
-        bench.same(CallReply(OK, 1, 0), bench.call(Command.GET_RECORD, length=80, iocb=3))
-        bench.same(b"\x9b", bench.fetch(1))
-    bench.press(0x9A)
-    bench.same(CallReply(0x88, 0, 0), bench.call(Command.GET_RECORD, length=80, iocb=3))
+    bench.lend_diskette(_diskette([_entry(b"HOLD       ", 4)], {}))
+    bench.lend_diskette(_diskette([_entry(b"BDAT       ", 4)], {}), 2)
+    for iocb, (specification, device, number) in enumerate(
+        ((b"C:\x9b", "C", 1), (b"D2:BDAT\x9b", "D", 2), (b"D:HOLD\x9b", "D", 1), (b"K:\x9b", "K", 1))
+    ):
+        bench.open(specification, READ, iocb=iocb)
+        block = bench.state.blocks[0][iocb]
+        bench.same((True, device, number, READ), (block.is_open, block.device, block.number, block.aux1))
+
+
+@case("manual, I/O Example (Figure 5-3)", "its steps: D1:TESTER on IOCB #3, records of at most 80 to the end, CLOSE")
+def _(bench: Bench) -> None:
+    lines = [b"FIRST\x9b", b"x" * 79 + b"\x9b", b"LAST\x9b"]
+    bench.lend_diskette(_diskette([_entry(b"TESTER     ", 4)], {4: _sector(0, 0, b"".join(lines))}))
+    bench.open(b"D1:TESTER\x9b", READ, iocb=3)
+    for line, status in zip(lines, (OK, OK, LAST_CHARACTER)):
+        bench.get_record(80, line, status, iocb=3)
+    bench.get_record(80, b"", 0x88, iocb=3)
     bench.same(CallReply(OK, 0, 0), bench.call(Command.CLOSE, iocb=3))
     bench.same(False, bench.state.blocks[0][3].is_open)
 
@@ -1779,3 +1830,659 @@ def _(bench: Bench) -> None:
     bench.open(b"S:", READ, 3, iocb=1)
     for status, count in ((OK, 960), (0x8D, 0)):
         bench.same(CallReply(status, count, 0), bench.call(Command.GET_CHARACTERS, length=960, iocb=1))
+
+
+# 02-change-requests, Ask 12, and the manual: disk file manager
+
+DISK = "02-change-requests, Ask 12"
+FILE_MANAGER = "manual, Disk File Manager"
+GET_TEN = "10 09 00 {:02X} 05 20 00 0A 00 00 00 00"
+"""GET RECORD of at most ten to 32, on a block."""
+ALL = b"*.*\x9b"
+
+
+def _specify(bench: Bench, port: int, iocb: int, aux1: int, specification: bytes) -> None:
+    """LOAD of a specification at 0 and OPEN, both $01."""
+    bench.same(bytes.fromhex("91 01 00 01"), bench.message(wire.load(SPECIFICATION, specification), port))
+    opening = wire.call(iocb, Command.OPEN, SPECIFICATION, aux1=aux1)
+    bench.same((specification, bytes.fromhex("90 04 00 01 00 00 00")), (specification, bench.message(opening, port)))
+
+
+def _file(bench: Bench, *sectors: bytes, first: int = 4) -> None:
+    """A new OPEN of HELLO.TXT, which has these sectors from 4 on."""
+    bench.fresh()
+    bench.lend_diskette(_diskette([_entry(NAME, first)], dict(enumerate(sectors, 4))))
+    bench.open(b"D:HELLO.TXT\x9b", READ)
+
+
+def _listed(bench: Bench, pattern: bytes, *names: bytes, iocb: int = 7) -> None:
+    """The names of the directory that a pattern lists, each of one sector and not locked; 706 sectors are free."""
+    bench.open(b"D:" + pattern + b"\x9b", DIRECTORY, iocb=iocb)
+    expected = b"".join(b"  " + name + b" 001\x9b" for name in names) + b"706 FREE SECTORS\x9b"
+    bench.get(len(expected), expected, LAST_CHARACTER, iocb=iocb)
+    bench.same(CallReply(OK, 0, 0), bench.call(Command.CLOSE, iocb=iocb))
+
+
+@case(DISK, "HELLO.TXT of three characters: GET RECORD n 10 is $03, count 3, 4 ticks; then $88, 2 ticks")
+def _(bench: Bench) -> None:
+    bench.lend_diskette(HELLO)
+    _specify(bench, 0, 0, READ, b"D:HELLO.TXT\x9b")
+    _ask(bench, 0, GET_TEN.format(0), "90 04 00 03 03 00 00", 4)
+    _ask(bench, 0, "12 04 00 20 00 03 00", "92 04 00 01 48 49 9B")
+    _ask(bench, 0, GET_TEN.format(0), "90 04 00 88 00 00 00", 2)
+
+
+@case(DISK, "its directory: a record of 18 characters, $01; the free sectors, 17 with $03; then $88")
+def _(bench: Bench) -> None:
+    bench.lend_diskette(HELLO)
+    _specify(bench, 0, 1, DIRECTORY, b"D1:*.*\x9b")
+    _ask(bench, 0, "10 09 00 01 05 20 00 28 00 00 00 00", "90 04 00 01 12 00 00", 19)
+    listed = "20 20 48 45 4C 4C 4F 20 20 20 54 58 54 20 30 30 31 9B"
+    _ask(bench, 0, "12 04 00 20 00 12 00", f"92 13 00 01 {listed}")
+    _ask(bench, 0, "10 09 00 01 05 20 00 28 00 00 00 00", "90 04 00 03 11 00 00", 18)
+    _ask(bench, 0, "12 04 00 20 00 11 00", "92 12 00 01 37 30 36 20 46 52 45 45 20 53 45 43 54 4F 52 53 9B")
+    _ask(bench, 0, "10 09 00 01 07 20 00 01 00 00 00 00", "90 04 00 88 00 00 00", 2)
+
+
+@case(DISK, "GET STATUS of a file: $01, and $A7 once its entry is locked, on a closed block and on an open one")
+def _(bench: Bench) -> None:
+    bench.lend_diskette(HELLO)
+    _specify(bench, 0, 0, READ, b"D:HELLO.TXT\x9b")
+    _ask(bench, 0, "10 09 00 02 0D 00 00 00 00 04 00 00", "90 04 00 01 00 00 00")
+    bench.write_diskette(ENTRY_PLACE, b"\x62")
+    _ask(bench, 0, "10 09 00 02 0D 00 00 00 00 04 00 00", "90 04 00 A7 00 00 00")
+    _ask(bench, 0, "10 09 00 00 0D 00 00 00 00 00 00 00", "90 04 00 A7 00 00 00")
+    bench.get(3, b"HI\x9b", LAST_CHARACTER)
+
+
+@case(DISK, "a full sector linked to itself: GET RECORD n 1 is $A4, count 1, 89,876 ticks after the start")
+def _(bench: Bench) -> None:
+    bench.lend_diskette(HELLO)
+    bench.write_diskette(LINK_PLACE, bytes.fromhex("00 04 7D"))
+    bench.write_diskette(HELLO_PLACE + 2, b"\x4c")
+    _specify(bench, 0, 2, READ, b"D:*.*\x9b")
+    _ask(bench, 0, "10 09 00 02 05 20 00 01 00 00 00 00", "90 04 00 A4 01 00 00", 89_877)
+
+
+@case(DISK, "OPEN with R: H*.T?T and HELLO.TXTY open; HELLO and * are $AA; a dot more, small letters and - $A5; D5 is $82")
+def _(bench: Bench) -> None:
+    bench.lend_diskette(HELLO)
+    bench.lend_diskette(drive=2)
+    for specification, status in (
+        (b"D:H*.T?T", OK),
+        (b"D:HELLO", 0xAA),
+        (b"D:*", 0xAA),
+        (b"D:HELLO.TXTY", OK),
+        (b"D:HELLO.TXT.", 0xA5),
+        (b"D:hello.txt", 0xA5),
+        (b"D:ABCDEFGHIJ-", 0xA5),
+        (b"D2:*.*", 0xAA),
+        (b"D5:*.*", 0x82),
+    ):
+        bench.fresh()
+        bench.open(specification + b"\x9b", READ, status=status)
+        bench.same(status == OK, bench.state.blocks[0][0].is_open)
+    bench.open(b"D:-", WRITE, status=0x84)
+
+
+@case(DISK, "the area's last bytes: D:A and D4 are $B0, D5 is $82, D:- is $A5; a name whose end is the last byte opens")
+def _(bench: Bench) -> None:
+    bench.lend_diskette(HELLO)
+    for specification, status in (
+        (b"D", 0xB0),
+        (b"D4", 0xB0),
+        (b"D5", 0x82),
+        (b"D:", 0xB0),
+        (b"D:A", 0xB0),
+        (b"D:HELLO.TXT", 0xB0),
+        (b"D:HELLO.TXTANDMORE", 0xB0),
+        (b"D:-", 0xA5),
+        (b"D:HELLO.TXT.", 0xA5),
+        (b"D:NONE\x9b", 0xAA),
+        (b"D:HELLO.TXT\x9b", OK),
+    ):
+        bench.load(specification, AREA - len(specification))
+        reply = bench.call(Command.OPEN, AREA - len(specification), aux1=READ)
+        bench.same((specification, CallReply(status, 0, 0)), (specification, reply))
+
+
+@case(DISK, "every byte in a name: only A to Z, 0 to 9, *, ? and one dot are none of $A5; EOL and a blank end it")
+def _(bench: Bench) -> None:
+    bench.lend_diskette(HELLO)
+    good = b"ABCDEFGHIJKLMNOPQRSTUVWXYZ0123456789*?."
+    for byte in range(256):
+        # In the name, behind its eighth place, and behind the third of the extension.
+        for name in (b"Q%cQ", b"QQQQQQQQQ%c", b"Q.QQQQ%c"):
+            is_dot = byte == 0x2E and b"." in name
+            status = 0xA5 if byte not in good + b"\x9b " or is_dot else 0xAA
+            bench.open(b"D:" + name % byte + b"\x9b", READ, status=status)
+    for end in (b"\x9b", b" "):
+        bench.open(b"D:HELLO.TXT" + end + b"-.-", READ)
+        bench.same(CallReply(OK, 0, 0), bench.call(Command.CLOSE))
+
+
+@case(DISK, "a link above 719 is $A4 to the read that meets it: count 3, 5 ticks, and again; OPEN does not look")
+def _(bench: Bench) -> None:
+    for link in (720, 721, 1_023):
+        _file(bench, _sector(0, link, b"HI\x9b"))
+        bench.get(4, b"HI\x9b", 0xA4, ticks=5)
+        for _ in range(2):
+            bench.get(1, b"", 0xA4, ticks=2)
+    for first in (720, 1_024, 65_535):
+        _file(bench, first=first)
+        bench.same(CallReply(0xA4, 0, 0x5A), bench.call(Command.GET_CHARACTERS, a=0x5A))
+
+
+@case(DISK, "a wrong file number or a data count above 125 is $A4 to the read that meets it; 125 is good")
+def _(bench: Bench) -> None:
+    for bad in (_sector(1, 0, b"C"), _sector(63, 0, b"C"), _sector(0, 0, b"C", 126), _sector(0, 0, b"C", 255)):
+        _file(bench, _sector(0, 5, b"AB"), bad)
+        bench.get(2, b"AB", ticks=3)
+        bench.get(1, b"", 0xA4, ticks=2)
+        _file(bench, bad)
+        bench.get(1, b"", 0xA4, ticks=2)
+    _file(bench, _sector(0, 5, b"A" * 125), _sector(0, 0, b"B" * 125))
+    bench.get(250, b"A" * 125 + b"B" * 125, LAST_CHARACTER, ticks=251)
+
+
+@case(DISK, "the last entry's file has number 63, in byte 125 with the link's two high bits")
+def _(bench: Bench) -> None:
+    entries = [_entry(b"GONE       ", 4, flag=0x80)] * 63 + [_entry(NAME, 719)]
+    bench.lend_diskette(_diskette(entries, {719: _sector(63, 4, b"A"), 4: _sector(63, 515, b"B"), 515: _sector(63, 0, b"C")}))
+    bench.open(b"D:HELLO.TXT\x9b", READ)
+    bench.get(3, b"ABC", LAST_CHARACTER, ticks=4)
+
+
+@case(DISK, "a ring of one sector: with count 0 $A4 in 2 ticks; with count 1 GET CHARACTERS n 720 is $A4, count 719")
+def _(bench: Bench) -> None:
+    _file(bench, _sector(0, 4, b""))
+    bench.get(1, b"", 0xA4, ticks=2)
+    _file(bench, _sector(0, 4, b"A"))
+    bench.get(720, b"A" * 719, 0xA4, ticks=721)
+    bench.get(1, b"", 0xA4, ticks=2)
+
+
+def _longest(bench: Bench, last: int) -> None:
+    """A file of all sectors, 1 to 719, the map and the directory too, without an EOL; the last has this link."""
+    sectors = {number: _sector(0, number + 1, b"A" * 125) for number in range(1, 719)}
+    sectors[361] = _sector(0, 362, _entry(NAME, 1), 125)
+    sectors[719] = _sector(0, last, b"A" * 125)
+    bench.fresh()
+    bench.lend_diskette(_diskette([], sectors))
+    bench.open(b"D:HELLO.TXT\x9b", READ)
+
+
+@case(DISK, "719 full sectors: GET RECORD n 1 is $88, count 1, 89,876 ticks after the start; in a ring $A4")
+def _(bench: Bench) -> None:
+    for last, status in ((0, 0x88), (1, 0xA4), (719, 0xA4)):
+        _longest(bench, last)
+        reply = bench.call(Command.GET_RECORD, length=1)
+        bench.same((CallReply(status, 1, 0), 89_876), (reply, bench.ticks))
+
+
+@case(DISK, "719 full sectors: the 89,875th character has $03, the one before it has not; in a ring none has")
+def _(bench: Bench) -> None:
+    for last, status, after in ((0, LAST_CHARACTER, 0x88), (1, OK, 0xA4)):
+        _longest(bench, last)
+        for length in (*[15_000] * 5, 14_873):
+            bench.same(CallReply(OK, length, 0), bench.call(Command.GET_CHARACTERS, length=length))
+        for expected in (OK, status):
+            bench.same(CallReply(expected, 0, 0x41), bench.call(Command.GET_CHARACTERS))
+        bench.same(CallReply(after, 0, 0x5A), bench.call(Command.GET_CHARACTERS, a=0x5A))
+
+
+@case(DISK, "empty sectors are passed in the same tick: between characters, before the first, and 718 in a row")
+def _(bench: Bench) -> None:
+    empty = _sector(0, 5, b"")
+    _file(bench, empty, _sector(0, 6, b"AB"), _sector(0, 7, b""), _sector(0, 8, b""), _sector(0, 0, b"C"))
+    bench.get(3, b"ABC", LAST_CHARACTER, ticks=4)
+    sectors = {number: _sector(0, number + 1, b"") for number in range(1, 719)}
+    sectors[361] = _sector(0, 362, _entry(NAME, 1), 0)
+    sectors[719] = _sector(0, 0, b"Z")
+    bench.fresh()
+    bench.lend_diskette(_diskette([], sectors))
+    bench.open(b"D:HELLO.TXT\x9b", READ)
+    bench.get(2, b"Z", 0x88, ticks=3)
+
+
+@case(DISK, "$03 also where only empty sectors follow; $01 where the next read gives $A4, behind empty sectors too")
+def _(bench: Bench) -> None:
+    for behind, status, after in (
+        ([_sector(0, 0, b"")], LAST_CHARACTER, 0x88),
+        ([_sector(0, 6, b""), _sector(0, 0, b"")], LAST_CHARACTER, 0x88),
+        ([_sector(0, 720, b"")], OK, 0xA4),
+        ([_sector(0, 5, b"")], OK, 0xA4),
+        ([_sector(0, 6, b""), _sector(1, 0, b"")], OK, 0xA4),
+        ([_sector(0, 0, b"", 126)], OK, 0xA4),
+    ):
+        _file(bench, _sector(0, 5, b"AB"), *behind)
+        bench.get(2, b"AB", status, ticks=3)
+        bench.get(1, b"", after, ticks=2)
+
+
+@case(DISK, "empty files: first sector 0, or sectors without characters: the first read is $88, again and again")
+def _(bench: Bench) -> None:
+    for sectors, first in (([], 0), ([_sector(0, 0, b"")], 4), ([_sector(0, 5, b""), _sector(0, 0, b"")], 4)):
+        _file(bench, *sectors, first=first)
+        for _ in range(2):
+            bench.get(1, b"", 0x88, ticks=2)
+
+
+@case(DISK, "length 0: the character in A, the last with $03; n 3 leaves A the request's; a cut record is $89")
+def _(bench: Bench) -> None:
+    _file(bench, _sector(0, 0, b"HI\x9b"))
+    for character, status in zip(b"HI\x9b", (OK, OK, LAST_CHARACTER)):
+        bench.same(CallReply(status, 0, character), bench.call(Command.GET_RECORD, AREA, a=0x5A))
+    bench.same(CallReply(0x88, 0, 0x5A), bench.call(Command.GET_RECORD, AREA, a=0x5A))
+    _file(bench, _sector(0, 0, b"HI\x9b"))
+    bench.same(CallReply(LAST_CHARACTER, 3, 0x5A), bench.call(Command.GET_CHARACTERS, length=3, a=0x5A))
+    _file(bench, _sector(0, 0, b"HI\x9b"))
+    bench.get_record(1, b"H", 0x89, ticks=4)
+
+
+@case(DISK, "flags: $40 without $80 is a file, whatever else; others are passed over; 0 ends the directory")
+def _(bench: Bench) -> None:
+    for flag in range(256):
+        bench.fresh()
+        second = _entry(b"SECOND     ", 5)
+        bench.lend_diskette(_diskette([_entry(NAME, 4, flag=flag), second], {4: _sector(0, 0, b"1"), 5: _sector(1, 0, b"2")}))
+        in_use = flag & 0xC0 == 0x40
+        bench.open(b"D:HELLO.TXT\x9b", READ, status=OK if in_use else 0xAA)
+        bench.open(b"D:*.*\x9b", READ, iocb=1, status=OK if flag else 0xAA)
+        if flag:
+            bench.get(1, b"1" if in_use else b"2", LAST_CHARACTER, iocb=1)
+        bench.open(b"D:*.*\x9b", DIRECTORY, iocb=2)
+        first = (b"* " if flag & 0x20 else b"  ") + NAME + b" 001\x9b" if in_use else b""
+        expected = first + (b"  SECOND      001\x9b" if flag else b"") + b"706 FREE SECTORS\x9b"
+        bench.get(len(expected), expected, LAST_CHARACTER, iocb=2)
+
+
+@case(DISK, "the directory lists every match once, in order, past deleted entries; all 64; without a match the free ones")
+def _(bench: Bench) -> None:
+    entries = [_entry(b"FILE%02d  DAT" % number, 4, flag=0x80 if number % 3 == 1 else 0x42) for number in range(64)]
+    bench.lend_diskette(_diskette(entries, {}))
+    there = [b"FILE%02d  DAT" % number for number in range(64) if number % 3 != 1]
+    _listed(bench, b"*.*", *there)
+    _listed(bench, b"FILE?2.D*", *(name for name in there if name[5:6] == b"2"))
+    _listed(bench, b"FILE63.DAT", b"FILE63  DAT")
+    _listed(bench, b"FILE61.DAT")
+    bench.lend_diskette(_diskette([_entry(b"FILE%02d  DAT" % number, 4) for number in range(64)], {}))
+    _listed(bench, b"*.DAT", *(b"FILE%02d  DAT" % number for number in range(64)))
+
+
+@case(DISK, "counts are three digits modulo 1,000; the free count is sector 360's, and not the map's")
+def _(bench: Bench) -> None:
+    for number, digits in ((0, b"000"), (7, b"007"), (999, b"999"), (1_000, b"000"), (1_707, b"707"), (65_535, b"535")):
+        bench.fresh()
+        bench.lend_diskette(_diskette([_entry(NAME, 4, count=number, flag=0x60)], {}, free=number))
+        bench.open(b"D:*.*\x9b", DIRECTORY)
+        bench.get_record(40, b"* " + NAME + b" " + digits + b"\x9b")
+        bench.get_record(40, digits + b" FREE SECTORS\x9b", LAST_CHARACTER)
+    bench.fresh()
+    bench.lend_diskette()
+    bench.open(b"D:*.*\x9b", DIRECTORY)
+    bench.get_record(40, b"000 FREE SECTORS\x9b", LAST_CHARACTER, ticks=18)
+
+
+@case(DISK, "bytes of a name stand as they lie, an EOL too; only ? and * match what no name may have")
+def _(bench: Bench) -> None:
+    strange = bytes.fromhex("00 9B FF 61 2A 3F 2E 20 C1 9B 7F")
+    bench.lend_diskette(_diskette([_entry(strange, 4)], {4: _sector(0, 0, b"A")}))
+    bench.open(b"D:????????.???\x9b", DIRECTORY)
+    expected = b"  " + strange + b" 001\x9b706 FREE SECTORS\x9b"
+    bench.get(len(expected), expected, LAST_CHARACTER, ticks=1 + len(expected))
+    bench.open(b"D:*.*\x9b", READ, iocb=1)
+    bench.get(1, b"A", LAST_CHARACTER, iocb=1)
+    bench.open(b"D:\x9b", READ, iocb=2, status=0xAA)
+
+
+@case(DISK, "a name is filled with blanks, and so is the extension; past eight or three it is ignored, behind * too")
+def _(bench: Bench) -> None:
+    names = (b"A          ", b"AB         ", b"ABCDEFGH   ", b"ABCDEFGHXYZ", b"           ", b"        XYZ", b"A       X  ")
+    bench.lend_diskette(_diskette([_entry(name, 4) for name in names], {}))
+    for pattern, expected in (
+        (b"A", [0]),
+        (b"A.", [0]),
+        (b"A?", [0, 1]),
+        (b"A*", [0, 1, 2]),
+        (b"A*ZZZ", [0, 1, 2]),
+        (b"*", [0, 1, 2, 4]),
+        (b"", [4]),
+        (b".", [4]),
+        (b".XYZ", [5]),
+        (b".*", [4, 5]),
+        (b"*.X", [6]),
+        (b"*.X*", [3, 5, 6]),
+        (b"*.??", [0, 1, 2, 4, 6]),
+        (b"????????.???", [0, 1, 2, 3, 4, 5, 6]),
+        (b"ABCDEFGH", [2]),
+        (b"ABCDEFGHI", [2]),
+        (b"ABCDEFGHIJKLMNOP.XYZABC", [3]),
+        (b"ABCDEFGH?", [2]),
+        (b"ABCDEFG*.*", [2, 3]),
+        (b"*.*Z", [0, 1, 2, 3, 4, 5, 6]),
+        (b"B*", []),
+    ):
+        _listed(bench, pattern, *(names[place] for place in expected))
+
+
+@case(DISK, "the first match opens, in the directory's order")
+def _(bench: Bench) -> None:
+    names = (b"STOCK   OLD", b"STOCK   DAT", b"STOCK   NEW")
+    entries = [_entry(name, 4 + number) for number, name in enumerate(names)]
+    bench.lend_diskette(_diskette(entries, {4 + number: _sector(number, 0, b"%d" % number) for number in range(3)}))
+    for specification, data in ((b"D:S*.*", b"0"), (b"D:STOCK.?A?", b"1"), (b"D:*.N*", b"2"), (b"D:STOCK.D*", b"1")):
+        bench.fresh()
+        bench.open(specification + b"\x9b", READ)
+        bench.get(1, data, LAST_CHARACTER)
+
+
+@case(DISK, "four drives, each its own diskette; D is D1; 5 to 8 are $82, and so is what is no digit and no colon")
+def _(bench: Bench) -> None:
+    for drive in range(1, 5):
+        entries = [_entry(NAME, 4, count=10 * drive)]
+        bench.lend_diskette(_diskette(entries, {4: _sector(0, 0, b"%d" % drive)}, free=drive), drive)
+    for iocb, (letter, data) in enumerate(((b"D", b"1"), (b"D1", b"1"), (b"D2", b"2"), (b"D3", b"3"), (b"D4", b"4"))):
+        bench.open(letter + b":HELLO.TXT\x9b", READ, iocb=iocb)
+        bench.get(1, data, LAST_CHARACTER, iocb=iocb)
+        number = int(letter[1:] or b"1")
+        bench.same(script.Block(True, "D", number, READ), bench.state.blocks[0][iocb])
+        bench.open(letter + b":*.*\x9b", DIRECTORY, iocb=7)
+        bench.get(35, b"  " + NAME + b" 0%d0\x9b00%d FREE SECTORS\x9b" % (number, number), LAST_CHARACTER, iocb=7)
+        bench.same(CallReply(OK, 0, 0), bench.call(Command.CLOSE, iocb=7))
+    for specification in (b"D0:", b"D5:", b"D6:", b"D7:", b"D8:", b"D9:", b"DD:", b"D12:", b"D-", b"D\x9b"):
+        bench.open(specification + ALL, READ, iocb=7, status=0x82)
+    for drive in range(2, 5):
+        bench.lend_diskette(drive=drive)
+
+
+@case(DISK, "AUX1, all 256 values: W is $84, exactly $06 the directory, the others a file; without R a read is $83")
+def _(bench: Bench) -> None:
+    bench.lend_diskette(HELLO)
+    for aux1 in range(256):
+        bench.open(b"D:HELLO.TXT\x9b", aux1, status=0x84 if aux1 & WRITE else OK)
+        if aux1 & WRITE:
+            bench.same(False, bench.state.blocks[0][0].is_open)
+            continue
+        bench.same(script.Block(True, "D", 1, aux1), bench.state.blocks[0][0])
+        if not aux1 & READ:
+            bench.get(1, b"", 0x83)
+        elif aux1 == DIRECTORY:
+            bench.get(4, b"  HE")
+        else:
+            bench.get(3, b"HI\x9b", LAST_CHARACTER)
+        bench.put(b"A", 0, 0x87)
+        bench.same(CallReply(OK, 0, 0), bench.call(Command.CLOSE))
+
+
+@case(DISK, "the order of an OPEN: $86, $81, $82 and $B0, then $84, $A5, $AA; a directory needs no match")
+def _(bench: Bench) -> None:
+    bench.lend_diskette(HELLO)
+    bench.open(b"D5:-\x9b", WRITE, iocb=8, status=0x86)
+    bench.open(b"D5:-\x9b", WRITE, status=0x82)
+    bench.open(b"D:-\x9b", WRITE, status=0x84)
+    bench.open(b"D:NONE-\x9b", READ, status=0xA5)
+    bench.open(b"D:NONE-\x9b", DIRECTORY, status=0xA5)
+    bench.open(b"D:NONE\x9b", READ, status=0xAA)
+    bench.open(b"D:NONE\x9b", 0, status=0xAA)
+    bench.open(b"D:NONE\x9b", DIRECTORY)
+    bench.open(b"D5:-\x9b", WRITE, status=0x81)
+    bench.get(17, b"706 FREE SECTORS\x9b", LAST_CHARACTER)
+    bench.load(b"D:NONE", AREA - 6)
+    bench.same(CallReply(0xB0, 0, 0), bench.call(Command.OPEN, AREA - 6, aux1=WRITE, iocb=1))
+
+
+@case(DISK, "GET STATUS and SPECIAL on a closed block: OPEN's refusals stand; else $01, of a locked file $A7; SPECIAL $84")
+def _(bench: Bench) -> None:
+    locked = _entry(b"LOCKED     ", 4, flag=0x62)
+    bench.lend_diskette(_diskette([_entry(NAME, 4), locked], {}))
+    for specification, aux1, status, special in (
+        (b"D:HELLO.TXT", READ, OK, 0x84),
+        (b"D:HELLO.TXT", 0, OK, 0x84),
+        (b"D:LOCKED", READ, 0xA7, 0x84),
+        (b"D:LOCKED", 0, 0xA7, 0x84),
+        (b"D:L*", READ, 0xA7, 0x84),
+        (b"D:LOCKED", DIRECTORY, OK, 0x84),
+        (b"D:NONE", DIRECTORY, OK, 0x84),
+        (b"D:NONE", READ, 0xAA, 0xAA),
+        (b"D:LOCKED", WRITE, 0x84, 0x84),
+        (b"D:-", READ, 0xA5, 0xA5),
+        (b"D:-", WRITE, 0x84, 0x84),
+        (b"D5:LOCKED", READ, 0x82, 0x82),
+    ):
+        for command, expected in ((Command.GET_STATUS, status), (0x0E, special), (0xFF, special)):
+            bench.open(specification + b"\x9b", aux1, status=expected, command=command)
+            bench.same(False, bench.state.blocks[0][0].is_open)
+
+
+@case(DISK, "GET STATUS on an open file: its entry as it lies, $01, $A7, or $AA where it is gone; a directory's is $01")
+def _(bench: Bench) -> None:
+    bench.lend_diskette(HELLO)
+    bench.open(b"D:HELLO.TXT\x9b", READ)
+    bench.open(b"D:*.*\x9b", DIRECTORY, iocb=1)
+    for flag, status in ((0x42, OK), (0x62, 0xA7), (0x60, 0xA7), (0x80, 0xAA), (0xE2, 0xAA), (0x00, 0xAA), (0x40, OK)):
+        bench.write_diskette(ENTRY_PLACE, bytes([flag]))
+        bench.same(CallReply(status, 0, 0), bench.call(Command.GET_STATUS))
+        bench.same(CallReply(0x84, 0, 0), bench.call(0x0E))
+        bench.same(CallReply(OK, 0, 0), bench.call(Command.GET_STATUS, iocb=1))
+        bench.same(CallReply(0x84, 0, 0), bench.call(0x0E, iocb=1))
+    bench.write_diskette(ENTRY_PLACE, b"\x80")
+    bench.get(3, b"HI\x9b", LAST_CHARACTER)
+    bench.same(CallReply(OK, 0, 0), bench.call(Command.CLOSE))
+
+
+@case(DISK, "each block has its own place: eight at one file and two directories, on both ports, none moves another")
+def _(bench: Bench) -> None:
+    bench.lend_diskette(_diskette([_entry(NAME, 4)], {4: _sector(0, 5, b"ABCD"), 5: _sector(0, 0, b"EFGH")}))
+    for iocb in range(6):
+        bench.open(b"D:HELLO.TXT\x9b", READ, iocb=iocb)
+    for iocb in (6, 7):
+        bench.open(b"D:*.*\x9b", DIRECTORY, iocb=iocb)
+    _specify(bench, 1, 0, READ, b"D:HELLO.TXT\x9b")
+    for iocb in range(1, 6):
+        bench.get(iocb, b"ABCDEFGH"[:iocb], iocb=iocb)
+    bench.get(7, b"  HELLO", iocb=6)
+    bench.get(2, b"  ", iocb=7)
+    for iocb in range(6):
+        bench.get(8 - iocb, b"ABCDEFGH"[iocb:], LAST_CHARACTER, iocb=iocb)
+    bench.get(11, b"   TXT 001\x9b", iocb=6)
+    bench.get(5, b"HELLO", iocb=7)
+    got = bench.message(wire.call(0, Command.GET_CHARACTERS, BUFFER, 8), 1)
+    bench.same(bytes.fromhex("90 04 00 03 08 00 00"), got)
+
+
+@case(DISK, "a CLOSE and another OPEN on the block begin anew; CLOSE changes no place of another block")
+def _(bench: Bench) -> None:
+    bench.lend_diskette(HELLO)
+    bench.open(b"D:HELLO.TXT\x9b", READ)
+    bench.open(b"D:HELLO.TXT\x9b", READ, iocb=1)
+    bench.get(1, b"H", iocb=1)
+    for length in (1, 2, 3):
+        bench.get(length, b"HI\x9b"[:length], LAST_CHARACTER if length == 3 else OK)
+        bench.same(CallReply(OK, 0, 0), bench.call(Command.CLOSE))
+        bench.open(b"D:HELLO.TXT\x9b", READ)
+    bench.get(2, b"I\x9b", LAST_CHARACTER, iocb=1)
+
+
+@case(DISK, "the pattern is kept: what becomes of the name in the area, and of the other files, changes no listing")
+def _(bench: Bench) -> None:
+    entries = [_entry(b"A       DAT", 4), _entry(b"B       DAT", 4), _entry(b"C       TXT", 4), _entry(b"D       DAT", 4)]
+    bench.lend_diskette(_diskette(entries, {}))
+    bench.open(b"D:*.DAT\x9b", DIRECTORY)
+    bench.get_record(40, b"  A       DAT 001\x9b")
+    bench.load(b"D:*.TXT\x9b", SPECIFICATION)
+    bench.open(b"D:C.TXT\x9b", READ, iocb=1)
+    bench.get_record(40, b"  B       DAT 001\x9b")
+    bench.get_record(40, b"  D       DAT 001\x9b")
+    bench.get_record(40, b"706 FREE SECTORS\x9b", LAST_CHARACTER)
+
+
+@case(DISK, "sectors, entries and links are read as they lie when they are needed: no copy of one is kept")
+def _(bench: Bench) -> None:
+    _file(bench, _sector(0, 0, b"HI\x9b"), _sector(0, 0, b"J"))
+    bench.get(1, b"H")
+    bench.write_diskette(HELLO_PLACE + 1, b"E")
+    bench.write_diskette(LINK_PLACE, bytes.fromhex("00 05 02"))
+    bench.get(2, b"EJ", LAST_CHARACTER, ticks=3)
+    # The place is at the end of sector 5; now it has more, and then a place behind its count.
+    bench.write_diskette(HELLO_PLACE + 128, b"JKLM")
+    bench.write_diskette(LINK_PLACE + 128, bytes.fromhex("00 00 04"))
+    bench.get(2, b"KL")
+    bench.write_diskette(LINK_PLACE + 128, bytes.fromhex("00 06 01"))
+    bench.write_diskette(HELLO_PLACE + 256, _sector(0, 0, b"N"))
+    bench.get(1, b"N", LAST_CHARACTER)
+    bench.open(b"D:*.*\x9b", DIRECTORY, iocb=1)
+    bench.get(4, b"  HE", iocb=1)
+    bench.write_diskette(ENTRY_PLACE + 7, b"NRY")
+    bench.write_diskette(FREE_PLACE, wire.word(5))
+    expected = b"NRY   TXT 001\x9b005 FREE SECTORS\x9b"
+    bench.get(len(expected), expected, LAST_CHARACTER, iocb=1)
+
+
+@case(DISK, "the disk is one group: port 1 on D1 waits while port 0 runs on D2, for OPEN, its $84 and $A5, GET and CLOSE")
+def _(bench: Bench) -> None:
+    ring = _diskette([_entry(NAME, 4)], {4: _sector(0, 4, b"A" * 125)})
+    for drive in (1, 2):
+        bench.lend_diskette(ring, drive)
+    for name, message, status in (
+        (b"HELLO.TXT", wire.call(1, Command.OPEN, SPECIFICATION, aux1=READ), OK),
+        (b"HELLO.TXT", wire.call(1, Command.OPEN, SPECIFICATION, aux1=WRITE), 0x84),
+        (b"-", wire.call(1, Command.OPEN, SPECIFICATION, aux1=READ), 0xA5),
+        (b"NONE", wire.call(1, Command.OPEN, SPECIFICATION, aux1=READ), 0xAA),
+        (b"NONE", wire.call(1, Command.GET_STATUS, SPECIFICATION, aux1=READ), 0xAA),
+        (b"", wire.call(0, Command.GET_STATUS), OK),
+        (b"", wire.call(0, 0x0E), 0x84),
+        (b"", wire.call(0, Command.GET_CHARACTERS), OK),
+        (b"", wire.call(0, Command.CLOSE), OK),
+    ):
+        bench.fresh()
+        _specify(bench, 1, 0, READ, b"D:HELLO.TXT\x9b")
+        loaded = bench.message(wire.load(SPECIFICATION, b"D:" + name + b"\x9b"), 1)
+        bench.same(bytes.fromhex("91 01 00 01"), loaded)
+        _specify(bench, 0, 0, READ, b"D2:HELLO.TXT\x9b")
+        bench.same(0, bench.begin(wire.call(0, Command.GET_CHARACTERS, BUFFER, 300), 0))
+        bench.same((message, GROUP_HELD), (message, bench.begin(message, 1)))
+        bench.same(bytes.fromhex("90 04 00 01 2C 01 00"), bench.reply(0))
+        bench.same(status, bench.reply(1)[3])
+    bench.lend_diskette(drive=2)
+
+
+@case(DISK, "what is refused before the group does not wait: D5 is $82, a closed block $85, without R $83, $B0")
+def _(bench: Bench) -> None:
+    bench.lend_diskette(_diskette([_entry(NAME, 4)], {4: _sector(0, 4, b"A" * 125)}))
+    _specify(bench, 0, 0, READ, b"D:HELLO.TXT\x9b")
+    _specify(bench, 1, 0, 0, b"D:HELLO.TXT\x9b")
+    _specify(bench, 1, 2, READ, b"D:HELLO.TXT\x9b")
+    bench.same(bytes.fromhex("91 01 00 01"), bench.message(wire.load(SPECIFICATION, b"D5:-"), 1))
+    bench.same(0, bench.begin(wire.call(0, Command.GET_CHARACTERS, BUFFER, 300), 0))
+    for message, status in (
+        (wire.call(1, Command.OPEN, SPECIFICATION, aux1=READ), 0x82),
+        (wire.call(1, Command.GET_CHARACTERS, BUFFER, 1), 0x85),
+        (wire.call(0, Command.GET_CHARACTERS, BUFFER, 1), 0x83),
+        (wire.call(2, Command.PUT_CHARACTERS, BUFFER, 1), 0x87),
+        (wire.call(2, Command.GET_CHARACTERS, AREA - 1, 2), 0xB0),
+        (wire.call(2, Command.OPEN, SPECIFICATION, aux1=READ), 0x81),
+        (wire.call(1, Command.CLOSE), OK),
+    ):
+        bench.same((message, status), (message, bench.message(message, 1)[3]))
+    bench.same(bytes.fromhex("90 04 00 01 2C 01 00"), bench.reply(0))
+
+
+@case(DISK, "disk and console, printer, tape are four groups: neither port waits, whichever is the first")
+def _(bench: Bench) -> None:
+    bench.lend_tape()
+    bench.lend_diskette(_diskette([_entry(NAME, 4)], {4: _sector(0, 4, b"A" * 125)}))
+    for other in (b"E:", b"P:", b"C:"):
+        reading = (b"D:HELLO.TXT\x9b", READ, Command.GET_CHARACTERS)
+        writing = (other, WRITE, Command.PUT_CHARACTERS)
+        for pair in ((reading, writing), (writing, reading)):
+            bench.fresh()
+            for port, (specification, aux1, _) in enumerate(pair):
+                _specify(bench, port, 0, aux1, specification)
+            bench.same(0, bench.begin(wire.call(0, pair[0][2], BUFFER, 300), 0))
+            moved = bench.message(wire.call(0, pair[1][2], BUFFER, 200), 1)
+            bench.same((bytes.fromhex("90 04 00 01 C8 00 00"), 200), (moved, bench.ticks))
+            bench.same((2, 0), bench.state.phases)
+            bench.same(bytes.fromhex("90 04 00 01 2C 01 00"), bench.reply(0))
+
+
+@case(DISK, "a name is read in the port's own area; a key is taken while a request is at the disk")
+def _(bench: Bench) -> None:
+    bench.lend_diskette(HELLO)
+    bench.same(bytes.fromhex("91 01 00 01"), bench.message(wire.load(SPECIFICATION, b"D:NONE\x9b"), 0))
+    _specify(bench, 1, 0, READ, b"D:HELLO.TXT\x9b")
+    opening = wire.call(0, Command.OPEN, SPECIFICATION, aux1=READ)
+    bench.same(0xAA, bench.message(opening, 0)[3])
+    bench.same(0, bench.begin(wire.call(0, Command.GET_CHARACTERS, BUFFER, 3), 1))
+    bench.press(0x3F)
+    bench.same(bytes.fromhex("90 04 00 03 03 00 00"), bench.reply(1))
+
+
+@case(DISK, "fresh start: blocks closed, the diskettes' bytes as they were")
+def _(bench: Bench) -> None:
+    bench.lend_diskette(HELLO)
+    bench.open(b"D:HELLO.TXT\x9b", READ)
+    bench.get(2, b"HI")
+    bench.fresh()
+    bench.same(False, bench.state.blocks[0][0].is_open)
+    bench.get(1, b"", 0x85)
+    bench.open(b"D:HELLO.TXT\x9b", READ)
+    bench.get(3, b"HI\x9b", LAST_CHARACTER)
+
+
+@case(FILE_MANAGER, "its valid names D1:GAME.SRC, D:MANUAL6, D:.WHY, D3:FILE. and D4:BRIDGE.002 open")
+def _(bench: Bench) -> None:
+    for drive, names in (
+        (1, (b"GAME    SRC", b"MANUAL6    ", b"        WHY")),
+        (3, (b"FILE       ",)),
+        (4, (b"BRIDGE  002",)),
+    ):
+        sectors = {4 + number: _sector(number, 0, name) for number, name in enumerate(names)}
+        bench.lend_diskette(_diskette([_entry(name, 4 + number) for number, name in enumerate(names)], sectors), drive)
+    for iocb, (specification, name) in enumerate(
+        (
+            (b"D1:GAME.SRC", b"GAME    SRC"),
+            (b"D:MANUAL6", b"MANUAL6    "),
+            (b"D:.WHY", b"        WHY"),
+            (b"D3:FILE.", b"FILE       "),
+            (b"D4:BRIDGE.002", b"BRIDGE  002"),
+        )
+    ):
+        bench.open(specification + b"\x9b", READ, iocb=iocb)
+        bench.get(11, name, LAST_CHARACTER, iocb=iocb)
+    for drive in (3, 4):
+        bench.lend_diskette(drive=drive)
+
+
+@case(FILE_MANAGER, "WH? matches WHO, WHY, WH4 and not WHAT; WH* these and WHATEVER; *.SRC, BASIC.*, *.*, H*.?")
+def _(bench: Bench) -> None:
+    names = (
+        b"WHO        ",
+        b"WHY        ",
+        b"WH4        ",
+        b"WHAT       ",
+        b"WHATEVER   ",
+        b"GAME    SRC",
+        b"BASIC   SRC",
+        b"BASIC      ",
+        b"HOLD    1  ",
+        b"H          ",
+        b"HOLD    12 ",
+    )
+    bench.lend_diskette(_diskette([_entry(name, 4) for name in names], {}))
+    for pattern, expected in (
+        (b"WH?", (0, 1, 2)),
+        (b"WH*", (0, 1, 2, 3, 4)),
+        (b"*.SRC", (5, 6)),
+        (b"BASIC.*", (6, 7)),
+        (b"*.*", range(11)),
+        (b"H*.?", (8, 9)),
+    ):
+        _listed(bench, pattern, *(names[place] for place in expected))
+
+
+@case(FILE_MANAGER, "no ATASCII control character has a special significance: all 256 bytes are read as they lie")
+def _(bench: Bench) -> None:
+    data = bytes(range(256))
+    _file(bench, _sector(0, 5, data[:125]), _sector(0, 6, data[125:250]), _sector(0, 0, data[250:]))
+    bench.get(256, data, LAST_CHARACTER, ticks=257)

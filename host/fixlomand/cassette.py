@@ -6,10 +6,11 @@ from __future__ import annotations
 from collections.abc import Callable, Sequence
 
 from . import cas, deck, files, script, tape, toolchain
-from .cio import EOL, READ, WRITE, Stick
+from .cio import READ, WRITE, Stick
 from .errors import Checksum, PaperFull, StickError
 from .play import Player, PlayPort
-from .tape import RECORDS, Record, counted
+from .tape import RECORDS, Record
+from .text import counted, named, newlines
 from .words import Usage, flag, operands, option
 
 Say = Callable[[str], None]
@@ -70,7 +71,7 @@ def _export(words: list[str], say: Say) -> int:
     elif len(written) < len(records):
         say(f"{source}: left out behind the last end record: {tape.span(len(written), len(records) - 1)}")
     files.write(target, cas.encode(written))
-    say(f"{_named(target)}: {tape.summary(written)}")
+    say(f"{named(target)}: {tape.summary(written)}")
     return 0
 
 
@@ -118,15 +119,15 @@ def _read(words: list[str], say: Say) -> int:
     with Player(toolchain.play_command(say)) as player:
         deck.lend(player, records)
         data, head = _characters(player)
-    files.write(target, _text(data, say) if is_text else data)
+    files.write(target, newlines(data, say) if is_text else data)
     came = counted(len(data), "character")
     if head is not None:
         why = records[head.record].fault if head.record < len(records) else "no end record"
         where = f"record {first + head.record}, place {head.place}"
-        raise StickError(f"{source}: $8F at {where} ({why}); {_named(target)} has the {came} before it")
+        raise StickError(f"{source}: $8F at {where} ({why}); {named(target)} has the {came} before it")
     if number is None:
         _hint_at_files(source, len(tape.files_of(records)), say)
-    say(f"{_named(target)}: {came}")
+    say(f"{named(target)}: {came}")
     return 0
 
 
@@ -162,16 +163,6 @@ def _make(words: list[str], say: Say) -> int:
     return 0
 
 
-def _text(data: bytes, say: Say) -> bytes:
-    """Characters with newlines for EOLs. What is above $7F is a character in
-    inverse video, and is written as the plain one."""
-    inverse = sum(byte >= 0x80 and byte != EOL for byte in data)
-    if inverse:
-        are = "byte above $7F is" if inverse == 1 else "bytes above $7F are"
-        say(f"{inverse} {are} written without the high bit, which is inverse video (EOL is a newline)")
-    return bytes(0x0A if byte == EOL else byte & 0x7F for byte in data)
-
-
 # words
 
 
@@ -195,10 +186,6 @@ def _chosen(file: str, recorded: deck.Recorded, number: int | None) -> tuple[int
         records, taken = records[first : last + 1], taken[first : last + 1]
     deck.check_room(file, taken)
     return first, records
-
-
-def _named(file: str) -> str:
-    return "standard output" if file == "-" else file
 
 
 def _hint_at_files(file: str, number: int, say: Say) -> None:

@@ -17,10 +17,13 @@ from collections.abc import Iterator
 from types import TracebackType
 
 from . import wire
+from .directory import Directory, DirectoryEntry
+from .directory import parse as directory_of
 from .errors import BadReply, EndOfFile, StatusError, StickError, StreamEnded, check
 from .line import ByteStream, Limit, Line
 from .wire import (
     AREA,
+    DIRECTORY,
     EOL,
     FORCED,
     KEEP,
@@ -35,7 +38,19 @@ from .wire import (
     Refusal,
 )
 
-__all__ = ["EOL", "FORCED", "KEEP", "READ", "WRITE", "ByteStream", "File", "Stick"]
+__all__ = [
+    "DIRECTORY",
+    "EOL",
+    "FORCED",
+    "KEEP",
+    "READ",
+    "WRITE",
+    "ByteStream",
+    "Directory",
+    "DirectoryEntry",
+    "File",
+    "Stick",
+]
 
 BLOCKS = 8
 SPECIFICATION = 0
@@ -181,11 +196,13 @@ class Stick:
     # files
 
     def open(self, specification: str | bytes, aux1: int, aux2: int = 0) -> File:
-        """Opens a device ("E:", "P2:", "C:") on the first block that is free here.
+        """Opens a device ("E:", "P2:", "C:") or a file of a diskette
+        ("D:STOCK.DAT", "D2:S*.*": the first that matches) on the first block
+        that is free here.
 
-        ``aux1`` is made of READ, WRITE, FORCED and KEEP; ``aux2`` is the mode
-        of S. A block that an earlier host left open raises ``AlreadyOpen``:
-        ``close_all`` frees them.
+        ``aux1`` is made of READ, WRITE, FORCED and KEEP, or is DIRECTORY;
+        ``aux2`` is the mode of S. A block that an earlier host left open
+        raises ``AlreadyOpen``: ``close_all`` frees them.
         """
         iocb = self._free_block()
         self._load_specification(specification)
@@ -202,10 +219,22 @@ class Stick:
     def status(self, specification: str | bytes, aux1: int = 0, aux2: int = 0) -> int:
         """GET STATUS of a device that is not open: it is opened for it, with
         all that an open does, and closed: of C with WRITE that overwrites the
-        tape's first record. The status is $01 or raised."""
+        tape's first record. The status is $01 or raised, of a locked file as
+        ``FileLocked``."""
         iocb = self._free_block()
         self._load_specification(specification)
         return self.call(iocb, Command.GET_STATUS, SPECIFICATION, 0, aux1, aux2).status
+
+    def directory(self, specification: str | bytes = "D:*.*") -> Directory:
+        """The files of a diskette whose names match, and how many sectors are
+        free; none may match."""
+        with self.open(specification, DIRECTORY) as file:
+            data = file.get_rest()
+        try:
+            return directory_of(data)
+        except ValueError as error:
+            self._in_step = False
+            raise BadReply(str(error)) from None
 
     def close_all(self) -> None:
         """Closes all blocks of the port, whoever opened them."""

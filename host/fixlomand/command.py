@@ -8,14 +8,15 @@ import sys
 from collections.abc import Callable
 from pathlib import Path
 
-from . import __version__, cases, cassette, demo, files, picture, screen, script, tape, toolchain
+from . import __version__, cases, cassette, demo, diskette, files, picture, screen, script, tape, toolchain
 from .deck import Deck
+from .drives import Drives
 from .errors import StickError
 from .helps import HELPS
 from .log import Log
 from .play import Player
 from .toolchain import Missing
-from .words import Usage, operands, option
+from .words import Usage, operands, option, options
 
 HELP = f"""\
 stick: the I/O half of an Atari 400/800 between a laptop and a phone
@@ -24,7 +25,8 @@ stick: the I/O half of an Atari 400/800 between a laptop and a phone
   stick live           the stick in this terminal, with a pseudo-terminal for
                        each host; --speed N ticks each port N times a second,
                        --log FILE writes what each port does, --tape FILE
-                       is the tape (stick live --help tells the keys)
+                       is the tape, --disk N=FILE the diskette in drive N
+                       (stick live --help tells the keys)
   stick play SCRIPT    plays a call script in readable form and shows the
                        answers; - is standard input
   stick picture FILE   writes the screen as a PNG: of a drawing, or after the
@@ -32,6 +34,8 @@ stick: the I/O half of an Atari 400/800 between a laptop and a phone
   stick cases          plays the papers' cases and compares each
   stick tape ..        tapes in files: import, export, list, check, read, make
                        (stick tape --help)
+  stick disk ..        diskettes in files: import, export, list, read, make
+                       (stick disk --help)
   stick --unproved ..  the same words without the wait for a proof: the sources
                        are compiled without it, and every screen says so
   stick --help         this text; stick --version
@@ -115,6 +119,7 @@ def _run(words: list[str]) -> int:
         "picture": _picture,
         "cases": _cases,
         "tape": _tape,
+        "disk": _disk,
     }
     if word not in commands:
         raise Usage(f"unknown word '{word}' (try ./stick --help)")
@@ -135,7 +140,9 @@ def _live(words: list[str]) -> int:
     words, speed = option(words, "--speed")
     words, log_name = option(words, "--log")
     words, tape_name = option(words, "--tape")
+    words, disks = options(words, "--disk")
     operands("live", words, 0)
+    chosen = _drives(disks)
     if speed is not None and not (speed.isascii() and speed.isdigit() and 0 < int(speed) <= 1_000_000):
         raise Usage(f"--speed takes a number from 1 to 1000000, not '{speed}'")
     if not (sys.stdin.isatty() and sys.stdout.isatty()):
@@ -148,15 +155,20 @@ def _live(words: list[str]) -> int:
         raise Missing(f"live needs Python's curses module: {error}") from error
     if tape_name is not None and tape_name.startswith("-"):
         raise Usage(f"--tape takes a file, not '{tape_name}'")
-    deck = Deck(tape_name)
+    deck, drives = Deck(tape_name), Drives(chosen)
     log = None if log_name is None else _open_log(log_name)
     with Player(toolchain.play_command(say)) as player:
         player.listener = log
         if deck.is_new:
             say(f"{tape_name} is new: the tape is blank")
+        if log is not None:
+            for line in drives.words():
+                log.note(line)
         try:
+            drives.put_in(player)
             deck.put_in(player)
-            saved = live.run(player, int(speed) if speed else live.SPEED, deck, lambda text: print(text, flush=True))
+            ticks = int(speed) if speed else live.SPEED
+            saved = live.run(player, ticks, deck, drives, lambda text: print(text, flush=True))
         except curses.error as error:
             raise Missing(f"live cannot use this terminal: {error}") from error
         finally:
@@ -224,7 +236,24 @@ def _tape(words: list[str]) -> int:
     return cassette.run(words, say)
 
 
+def _disk(words: list[str]) -> int:
+    return diskette.run(words, say)
+
+
 # files
+
+
+def _drives(disks: list[str]) -> dict[int, str]:
+    """The file of each drive, of words N=FILE."""
+    chosen: dict[int, str] = {}
+    for word in disks:
+        number, _, file = word.partition("=")
+        if number not in map(str, range(1, script.DRIVES + 1)) or not file or file.startswith("-"):
+            raise Usage(f"--disk takes N=FILE, N from 1 to {script.DRIVES}, not '{word}'")
+        if int(number) in chosen:
+            raise Usage(f"--disk {number}=.. is given twice: a drive has one diskette")
+        chosen[int(number)] = file
+    return chosen
 
 
 def _read_script(file: str) -> list[script.Op]:

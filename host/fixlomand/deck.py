@@ -14,6 +14,7 @@ from . import cas, files, script, tape
 from .errors import StickError
 from .play import Player
 from .tape import RECORD, Record
+from .text import counted
 
 CLOSED, WRITING = script.MARKS.index("closed"), script.MARKS.index("writing")
 
@@ -72,8 +73,8 @@ def write(file: str, data: bytes) -> None:
 
 def lend(player: Player, records: Sequence[Record]) -> None:
     """Puts records on the tape of a new ``play``, which is blank."""
-    buffer = script.BUFFERS.index("tape")
-    player.do(*(script.Write(buffer, RECORD * place, record.data) for place, record in enumerate(records)))
+    tape_buffer = script.Buffer.TAPE
+    player.do(*(script.Write(tape_buffer, RECORD * place, record.data) for place, record in enumerate(records)))
 
 
 class Deck:
@@ -133,7 +134,7 @@ class Deck:
         elif self.file is None and any(self.left.data):
             lines.append(f"the tape, {summary}, is gone with the stick (--tape FILE keeps one)")
         if self.left.mark == WRITING:
-            pending = tape.counted(self.left.place, "pending character")
+            pending = counted(self.left.place, "pending character")
             are = "is" if self.left.place == 1 else "are"
             lines.append(f"the tape is still open for writing: its end record is missing, {pending} {are} not on it")
         return lines

@@ -83,7 +83,7 @@ class NotWritable(StatusError):
 
 class EndOfFile(StatusError):
     number = 0x88
-    meaning = "end of file from K or C"
+    meaning = "end of file from K, C or D"
 
 
 class RecordCut(StatusError):
@@ -114,6 +114,26 @@ class ScreenMode(StatusError):
 class UnknownTag(StatusError):
     number = 0x92
     meaning = "unknown tag"
+
+
+class BadChain(StatusError):
+    number = 0xA4
+    meaning = "a bad link, file number or data count in a file's sectors, or a ring of them"
+
+
+class BadFileName(StatusError):
+    number = 0xA5
+    meaning = "a byte that a file name has not: only A to Z, 0 to 9, *, ? and one dot"
+
+
+class FileLocked(StatusError):
+    number = 0xA7
+    meaning = "GET STATUS of a locked file, which can be read all the same"
+
+
+class FileNotFound(StatusError):
+    number = 0xAA
+    meaning = "no file of this name on the diskette"
 
 
 class PastArea(StatusError):

@@ -1,12 +1,13 @@
-"""What the words ``live``, ``play`` and ``tape`` of the command say of
-themselves."""
+"""What the words ``live``, ``play``, ``tape`` and ``disk`` of the command say
+of themselves."""
 
 LIVE_HELP = """\
-stick live [--speed N] [--log FILE] [--tape FILE]: the stick in this terminal
+stick live [--speed N] [--log FILE] [--tape FILE] [--disk N=FILE]..: the stick
+in this terminal
 
 Each port has a pseudo-terminal, named in the first line: a host opens it as it
-would a serial port. Below are the screen, what each port does, the tape and
-the paper.
+would a serial port. Below are the screen, what each port does, the tape, the
+diskettes and the paper.
 
   --speed N    ticks of each port in a second, 1 to 1000000; 20000 if not given
   --log FILE   writes what each port does. A line that begins with # has the
@@ -17,6 +18,12 @@ the paper.
                wrote on the tape, and at the end, it is written as a new file
                that is then renamed. Without --tape the tape begins blank, and
                is not kept.
+  --disk N=FILE
+               the diskette in drive N, D1 to D4: an IMAGE of 92160 bytes or an
+               .atr file, as stick disk has them. It is read once, at the
+               beginning, and never written: the stick only reads diskettes.
+               Given several times it fills several drives; a drive without
+               one is blank.
 
 Keys are those of the stick's keyboard, with Shift and Ctrl as typed. The stick
 keeps one key: what is typed faster than a host reads waits here, in order.
@@ -49,8 +56,8 @@ SCRIPT is a file, or - for standard input: one op a line; # begins a comment.
 
 PORT is 0 or 1 (2 to 255 can be tried: the stick refuses them). BYTES and CODE
 are hexadecimal, 00 to FF. N is 0 to 65535, LENGTH and AT 0 to 16777215. BUFFER
-is 0 or area, 1 or screen, 2 or paper, 3 or state, 4 or tape; state cannot be
-written.
+is 0 or area, 1 or screen, 2 or paper, 3 or state, 4 or tape, 6 or images (the
+four diskettes, D1 first, 92160 bytes each); state cannot be written.
 
 To LOAD "E:" and an EOL at 0:
   take 0 11 05 00 00 00 45 3A 9B
@@ -145,6 +152,81 @@ written. For a text whose lines are to end with EOL:
   tr '\\n' '\\233' <FILE | stick tape make TAPE -
 """
 
+DISK_HELP = """\
+stick disk WORD ..: diskettes in files
+
+  stick disk import FILE.atr IMAGE          an ATR file becomes an image
+  stick disk export IMAGE FILE.atr          an image becomes an ATR file
+  stick disk list IMAGE [PATTERN]           the directory, as a host reads it
+  stick disk read IMAGE NAME OUT [--text]   a file, as a host reads it
+  stick disk make IMAGE FILE.. [--text]     a diskette of files
+
+An IMAGE is a file of 92160 bytes, 720 sectors of 128 as DOS 2.0S writes them
+(single density; others call such a file .xfd). Wherever an IMAGE is read it may
+be an .atr file. Diskettes of other sizes are refused, by their names. Files are
+written as new ones that are then renamed: an older one stays until then.
+Import, export and make look at the files alone; list and read are hosts at the
+stick, which is proved and built first.
+
+stick disk WORD --help tells more. stick live --disk N=FILE puts a diskette in.
+"""
+
+DISK_IMPORT_HELP = """\
+stick disk import FILE.atr IMAGE: an ATR file becomes an image
+
+FILE.atr has a header of 16 bytes (96 02, the number of paragraphs of 16 bytes,
+the bytes of a sector), then 720 sectors of 128 bytes. A file of the sectors
+alone (.xfd) is taken as it is. Refused are 1040 sectors (enhanced density),
+sectors of 256 bytes (double density), other sizes, a file that is cut short or
+too long, and what is no ATR file. A file on the diskette whose sectors do not
+hang together, so that it reads as $A4, is taken, and named. IMAGE may be -, for
+standard output.
+"""
+
+DISK_EXPORT_HELP = """\
+stick disk export IMAGE FILE.atr: an image becomes an ATR file
+
+The header says 720 sectors of 128 bytes, and no flags. FILE.atr may be -, for
+standard output. A file on the diskette that reads as $A4 is named.
+"""
+
+DISK_LIST_HELP = """\
+stick disk list IMAGE [PATTERN]: the directory, as a host reads it
+
+Opens the directory of D1 on the stick and writes its records: * if the file is
+locked, its name, its extension, how many sectors it has; last the free sectors.
+PATTERN is a file name in capitals in which ? is any character and * the rest of
+the name or of the extension; without one it is *.*, all files. Your shell
+takes * and ? for itself, unless they are in quotes:
+  stick disk list IMAGE '*.DAT'
+"""
+
+DISK_READ_HELP = """\
+stick disk read IMAGE NAME OUT [--text]: a file, as a host reads it
+
+Opens D1:NAME on the stick, reads to the end of the file, and writes what came
+to OUT, or - for standard output. NAME is in capitals, and may have * and ?: the
+first file that matches is read. Where the sectors of the file do not hang
+together ($A4) it ends: OUT has what was read before, the sector is told, and
+the end status is 1.
+
+  --text     EOLs become newlines; other bytes above $7F, which are characters
+             in inverse video, are written without the high bit, and you are
+             told how many; bytes up to $7F stay as they are
+"""
+
+DISK_MAKE_HELP = """\
+stick disk make IMAGE FILE.. [--text]: a diskette of files
+
+Each FILE goes on a new diskette by its own name, in capitals: up to 8 letters
+and digits, and maybe a dot and up to 3 more. Refused are other names, the same
+name twice, more than 64 files, and more than fit 707 sectors of 125 characters.
+Without a FILE the diskette is empty. It has no boot program. IMAGE is written
+as an ATR file if its name ends in .atr.
+
+  --text     newlines become EOLs
+"""
+
 HELPS = {
     "live": LIVE_HELP,
     "play": PLAY_HELP,
@@ -155,4 +237,10 @@ HELPS = {
     "tape check": CHECK_HELP,
     "tape read": READ_HELP,
     "tape make": MAKE_HELP,
+    "disk": DISK_HELP,
+    "disk import": DISK_IMPORT_HELP,
+    "disk export": DISK_EXPORT_HELP,
+    "disk list": DISK_LIST_HELP,
+    "disk read": DISK_READ_HELP,
+    "disk make": DISK_MAKE_HELP,
 }

@@ -18,6 +18,7 @@ from types import FrameType
 
 from . import keys, picture, screen, script
 from .deck import Deck
+from .drives import Drives
 from .errors import StickError
 from .play import CONSOLE_HELD, Player
 from .ports import Port
@@ -93,13 +94,14 @@ class Plug:
 
 
 class Live:
-    """What goes on between the terminal, the two plugs, the stick and its
-    tape."""
+    """What goes on between the terminal, the two plugs, the stick, its tape
+    and its diskettes."""
 
-    def __init__(self, player: Player, speed: int, deck: Deck) -> None:
+    def __init__(self, player: Player, speed: int, deck: Deck, drives: Drives) -> None:
         self._player = player
         self._speed = speed
         self._deck = deck
+        self._diskettes = drives.words()
         self.plugs = [Plug(Port(player, number)) for number in (0, 1)]
         self._typed: deque[int] = deque()
         """Keys that are not pressed yet, the oldest first."""
@@ -115,7 +117,7 @@ class Live:
     def run(self, window: curses.window) -> None:
         """Until somebody quits."""
         window.nodelay(True)
-        view = View(window, [plug.path for plug in self.plugs])
+        view = View(window, [plug.path for plug in self.plugs], self._diskettes)
         ports = [plug.port for plug in self.plugs]
         last = time.monotonic()
         drawn, cost, changed = 0.0, 0.0, True
@@ -256,10 +258,10 @@ class Live:
                 self.stop()
 
 
-def run(player: Player, speed: int, deck: Deck, say: Callable[[str], None]) -> list[str]:
+def run(player: Player, speed: int, deck: Deck, drives: Drives, say: Callable[[str], None]) -> list[str]:
     """Runs the stick in this terminal until somebody quits; the files that
     were saved meanwhile, beside the tape's."""
-    live = Live(player, speed, deck)
+    live = Live(player, speed, deck, drives)
 
     def stop(number: int, frame: FrameType | None) -> None:
         live.stop()

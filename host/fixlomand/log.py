@@ -66,6 +66,10 @@ class Log:
                 self._put(op)
                 self._flush(f"answered {script.describe(op, output)}")
 
+    def note(self, words: str) -> None:
+        """Writes a line of words between the calls."""
+        self._flush(words)
+
     def close(self) -> None:
         """Writes what is left, and dumps of all."""
         self._flush()
@@ -165,6 +169,8 @@ def _call_words(value: bytes) -> str:
     command, address, length = value[1], _word(value, 2), _word(value, 4)
     if command in OPENING or command > max(wire.Command):
         rights = "".join(f" {name}" for bit, name in RIGHTS if value[6] & bit)
+        if value[6] == wire.DIRECTORY:
+            rights += ", of D the directory"
         return f", specification at {address}, AUX1 ${value[6]:02X}{rights and f' ({rights[1:]})'}, AUX2 {value[7]}"
     if command not in TRANSFERS:
         return ""

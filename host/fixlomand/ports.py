@@ -102,4 +102,4 @@ def describe(port: Port, state: script.State) -> str:
 
 def group(device: str) -> str:
     """The group of a device."""
-    return {"P": "printer", "C": "tape"}.get(device, "console")
+    return {"P": "printer", "C": "tape", "D": "disk"}.get(device, "console")

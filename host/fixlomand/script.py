@@ -9,9 +9,10 @@ The readable form has one op a line; ``#`` begins a comment::
     give 0                   G
     give 0 x 4               G, four times
     press 3F                 P (hexadecimal)
-    lend area 100            L: area, screen, paper, state, tape, or 0 to 4
-    write tape 132 55 55     W: area, screen, paper, tape, from a place on
-                             (the bytes hexadecimal)
+    lend area 100            L: area, screen, paper, state, tape, images, or
+                             their numbers, 0 to 4 and 6
+    write tape 132 55 55     W: any of these but state, from a place on (the
+                             bytes hexadecimal)
     dump                     D
     dump tape                C: the tape, and where its head stands
     raw 54 00                bytes as they are (no op, or one that is cut)
@@ -21,6 +22,7 @@ from __future__ import annotations
 
 from collections.abc import Callable, Iterator, Sequence
 from dataclasses import dataclass
+from enum import IntEnum
 from itertools import groupby
 from typing import Union
 
@@ -30,8 +32,24 @@ PAPER = 4_096
 TAPE = 33_000
 PENDING = 128
 """The bytes of a tape's dump for pending characters."""
-BUFFERS = ("area", "screen", "paper", "state", "tape")
-WRITTEN = (0, 1, 2, 4)
+IMAGE = 92_160
+"""The bytes of a diskette: 720 sectors of 128."""
+DRIVES = 4
+IMAGES = DRIVES * IMAGE
+
+
+class Buffer(IntEnum):
+    """The lent buffers, by the number that a script has for each."""
+
+    AREA = 0
+    SCREEN = 1
+    PAPER = 2
+    STATE = 3
+    TAPE = 4
+    IMAGES = 6
+
+
+WRITTEN = tuple(buffer for buffer in Buffer if buffer is not Buffer.STATE)
 """The buffers that W writes into; into another it writes nothing."""
 MARKS = ("closed", "reading", "writing", "open with neither R nor W")
 """How the tape is open, by its mark."""
@@ -168,7 +186,7 @@ class Write:
 
 @dataclass(frozen=True)
 class Dump:
-    """Dump all but the tape."""
+    """Dump all but the tape and the diskettes."""
 
     output = DUMP
 
@@ -293,12 +311,16 @@ def _byte(field: str, word: str) -> int:
     return int(word, 16)
 
 
-def _buffer(word: str, among: Sequence[int] = range(len(BUFFERS))) -> int:
-    for number in among:
-        if word in (BUFFERS[number], str(number)):
-            return number
-    names = ", ".join(f"{number} {BUFFERS[number]}" for number in among)
+def _buffer(word: str, among: Sequence[Buffer] = tuple(Buffer)) -> Buffer:
+    for buffer in among:
+        if word in (_name(buffer), str(int(buffer))):
+            return buffer
+    names = ", ".join(f"{int(buffer)} {_name(buffer)}" for buffer in among)
     raise ScriptError(f"buffer {word}: there is none; the buffers are {names}")
+
+
+def _name(buffer: int) -> str:
+    return Buffer(buffer).name.lower()
 
 
 def _line_ops(words: list[str]) -> list[Op]:
@@ -377,10 +399,10 @@ def _line(op: Op) -> str:
         return f"press {op.code:02X}"
     if isinstance(op, Ticks):
         return f"tick {op.port} x {op.count}"
-    if isinstance(op, Lend) and op.buffer < len(BUFFERS):
-        return f"lend {BUFFERS[op.buffer]} {op.length}"
+    if isinstance(op, Lend) and op.buffer in tuple(Buffer):
+        return f"lend {_name(op.buffer)} {op.length}"
     if isinstance(op, Write) and op.buffer in WRITTEN:
-        return f"write {BUFFERS[op.buffer]} {op.at} {_hexadecimal(op.data)}".rstrip()
+        return f"write {_name(op.buffer)} {op.at} {_hexadecimal(op.data)}".rstrip()
     if isinstance(op, Dump):
         return "dump"
     if isinstance(op, DumpTape):

@@ -12,6 +12,7 @@ from dataclasses import dataclass
 
 from . import screen
 from .script import MARKS, TAPE, Tape
+from .text import counted
 
 RECORD = 132
 RECORDS = TAPE // RECORD
@@ -124,11 +125,6 @@ def files_of(records: Sequence[Record]) -> list[File]:
 
 
 # in words
-
-
-def counted(number: int, thing: str) -> str:
-    """A number of things."""
-    return f"{number} {thing}" if number == 1 else f"{number} {thing}s"
 
 
 def span(first: int, last: int) -> str:

@@ -1,4 +1,5 @@
-"""The console, the paper, the tape and the ports, drawn with curses."""
+"""The console, the paper, the tape, the diskettes and the ports, drawn with
+curses."""
 
 from __future__ import annotations
 
@@ -10,6 +11,7 @@ from collections.abc import Sequence
 from . import ports, screen, tape, toolchain
 from .keys import LOCKS
 from .script import State, Tape
+from .wire import DIRECTORY
 
 FOOT = (
     ("F1 inverse", "F1 inv"),
@@ -50,9 +52,10 @@ def foot(width: int) -> list[str]:
 class View:
     """Draws a dump into a window, cut to its size."""
 
-    def __init__(self, window: curses.window, paths: Sequence[str]) -> None:
+    def __init__(self, window: curses.window, paths: Sequence[str], diskettes: Sequence[str]) -> None:
         self._window = window
         self._paths = paths
+        self._diskettes = diskettes
         self._unicode = "UTF" in locale.nl_langinfo(locale.CODESET).upper()
         self._colours = self._make_colours()
         try:
@@ -133,8 +136,8 @@ class View:
     def _panel(
         self, state: State, reel: Tape, both: Sequence[ports.Port], waiting: int, column: int, height: int
     ) -> None:
-        """The ports, the keyboard, the tape and the end of the paper. What is
-        too long for a narrow window goes on in the next line."""
+        """The ports, the keyboard, the tape, the diskettes and the end of the
+        paper. What is too long for a narrow window goes on in the next line."""
         lines: list[tuple[str, int]] = []
         for port, name in zip(both, ("laptop", "phone")):
             lines.append((f"port {port.number}, {name}: {port.requests} requests", curses.A_BOLD))
@@ -148,6 +151,9 @@ class View:
             lines.append((f"  {waiting} more {'keys wait' if waiting > 1 else 'key waits'}", 0))
         lines.append((f"tape, {tape.summary(tape.records_of(reel.data))}", curses.A_BOLD))
         lines.append((f"  {tape.head_words(reel)}", 0))
+        if self._diskettes:
+            lines.append(("diskettes", curses.A_BOLD))
+            lines += [(f"  {each}", 0) for each in self._diskettes]
         lines.append((f"paper, {state.used} of 4096 bytes", curses.A_BOLD))
         width = max(MARGIN, self._window.getmaxyx()[1] - 1 - column)
         lines = [(part, attribute) for text, attribute in lines for part in _wrapped(text, width)]
@@ -164,10 +170,13 @@ def _wrapped(text: str, width: int) -> list[str]:
 
 
 def _blocks(state: State, port: int) -> str:
-    """The open blocks of a port: number, device, R and W."""
+    """The open blocks of a port: number, device, R and W, or that it is a
+    directory."""
     opened = []
     for place, block in enumerate(state.blocks[port]):
         if block.is_open:
             rights = ("R" if block.aux1 & 4 else "") + ("W" if block.aux1 & 8 else "")
+            if block.device == "D" and block.aux1 == DIRECTORY:
+                rights = "directory"
             opened.append(f"{place} {block.device}{block.number}:{rights}")
     return ", ".join(opened) or "nothing"

@@ -52,12 +52,14 @@ FORCED = 0x01
 """AUX1 of E: forced read, needed with R."""
 KEEP = 0x20
 """AUX1 of S: the cells are kept, each modulo the colours."""
+DIRECTORY = 0x06
+"""AUX1 of D, the whole of it: the directory is opened, and no file."""
 
 SUCCESS = 0x01
 """The status of success."""
 LAST_CHARACTER = 0x03
-"""The status of a read from C whose last character is the last of all: the
-next read would give $88. It is below $80, and refuses nothing."""
+"""The status of a read from C or D whose last character is the last of all:
+the next read would give $88. It is below $80, and refuses nothing."""
 
 
 def word(number: int) -> bytes:

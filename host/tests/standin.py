@@ -2,7 +2,8 @@
 
 Its printer takes 276 bytes, its editor gives back what is put, its keyboard
 has one key pressed, an A, and its tape gives what a test has put on it, the
-last of it with $03.
+last of it with $03. So does each file of its one diskette, and its directory;
+names are not matched.
 """
 
 from __future__ import annotations
@@ -23,6 +24,12 @@ class StandIn:
         self.text = bytearray()
         self.keys = bytearray(b"A")
         self.tape = bytearray()
+        self.files: dict[str, tuple[bytes, int]] = {}
+        """Of each file its characters, and the status behind them."""
+        self.locked: set[str] = set()
+        self.listing = b""
+        self._reads: dict[int, tuple[bytearray, int]] = {}
+        """What a block that has D open has still to give."""
         self.requests: list[bytes] = []
         self._taken = bytearray()
         self._replies = bytearray()
@@ -72,11 +79,12 @@ class StandIn:
             if iocb in self.blocks:
                 return 0x81, 0, a
             device = chr(self.area[address])
-            if device not in "EKPC" or b":" not in self.area[address + 1 : address + 3]:
+            if device not in "EKPCD" or b":" not in self.area[address + 1 : address + 3]:
                 return 0x82, 0, a
-            if command == 0x03:
+            status = self._find(iocb, address, aux1, command == 0x0D) if device == "D" else 1
+            if command == 0x03 and status == 1:
                 self.blocks[iocb] = (device, aux1)
-            return 1, 0, a
+            return status, 0, a
         if iocb not in self.blocks:
             return 0x85, 0, a
         if command == 0x0D:
@@ -84,6 +92,22 @@ class StandIn:
         if command in (0x09, 0x0B):
             return self._put(iocb, command, address, n, a)
         return self._get(iocb, command, address, n, a)
+
+    def _find(self, iocb: int, address: int, aux1: int, asked: bool) -> int:
+        """The status of an OPEN of D, or of GET STATUS."""
+        name = self.area[address:].split(bytes([EOL]))[0].split(b":")[1].decode()
+        if aux1 & 8:
+            return 0x84
+        if name != name.upper():
+            return 0xA5
+        if aux1 == 6:
+            self._reads[iocb] = (bytearray(self.listing), 0x88)
+            return 1
+        if name not in self.files:
+            return 0xAA
+        data, end = self.files[name]
+        self._reads[iocb] = (bytearray(data), end)
+        return 0xA7 if asked and name in self.locked else 1
 
     def _put(self, iocb: int, command: int, address: int, n: int, a: int) -> tuple[int, int, int]:
         data = bytes(self.area[address : address + n]) if n else bytes([a])
@@ -103,27 +127,27 @@ class StandIn:
         device, aux1 = self.blocks[iocb]
         if not aux1 & 4:
             return 0x83, 0, a
-        source = {"K": self.keys, "C": self.tape}.get(device, self.text)
+        source, end = {"K": self.keys, "C": self.tape}.get(device, self.text), 0x88
+        if device == "D":
+            source, end = self._reads[iocb]
+        warns = device in "CD" and end == 0x88
         if n == 0:
             if not source:
-                return 0x88, 0, a
+                return end, 0, a
             a = source.pop(0)
-            return self._good(device), 0, a
+            return 3 if warns and not source else 1, 0, a
         count = 0
         while count < n:
             if not source:
-                return 0x88, count, a
+                return end, count, a
             self.area[address + count] = source.pop(0)
             count += 1
             if command == 0x05 and self.area[address + count - 1] == EOL:
-                return self._good(device), count, a
-        if command == 0x07:
-            return self._good(device), count, a
-        while source:
-            if source.pop(0) == EOL:
-                return 0x89, count, a
-        return 0x88, count, a
-
-    def _good(self, device: str) -> int:
-        """The status of a read that did what it was asked."""
-        return 3 if device == "C" and not self.tape else 1
+                break
+        else:
+            if command == 0x05:
+                while source:
+                    if source.pop(0) == EOL:
+                        return 0x89, count, a
+                return end, count, a
+        return 3 if warns and not source else 1, count, a

@@ -12,7 +12,7 @@ import unittest
 from types import FrameType
 
 from fixlomand import cio, errors, wire
-from fixlomand.cio import EOL, FORCED, READ, WRITE, Stick
+from fixlomand.cio import EOL, FORCED, READ, WRITE, Directory, DirectoryEntry, Stick
 from fixlomand.line import Limit, Line
 
 from .standin import StandIn
@@ -104,7 +104,7 @@ class Files(unittest.TestCase):
 
     def test_status_without_a_file(self) -> None:
         self.assertEqual(self.stick.status("P:"), 1)
-        self.assertRaises(errors.UnknownDevice, self.stick.status, "D:")
+        self.assertRaises(errors.UnknownDevice, self.stick.status, "R:")
 
     def test_pieces(self) -> None:
         self.stick.load(16_000, bytes(384))
@@ -240,6 +240,116 @@ class Ends(unittest.TestCase):
                 next(records)
             self.assertEqual(caught.exception.data, b"BC")
         self.assertRaises(ValueError, next, self.open(b"A").records(0))
+
+
+class Diskettes(unittest.TestCase):
+    """Files of a diskette, and its directory."""
+
+    LISTING = b"  STOCK   DAT 012\x9b* README      001\x9b  A\x9bB     C   000\x9b694 FREE SECTORS\x9b"
+
+    def setUp(self) -> None:
+        self.stand_in = StandIn()
+        self.stick = Stick(self.stand_in)
+
+    def test_the_directory(self) -> None:
+        """With a name that has an EOL in it; one GET is enough for all."""
+        self.stand_in.listing = self.LISTING
+        listed = self.stick.directory("D1:*.*")
+        self.assertEqual(
+            listed.entries,
+            (
+                DirectoryEntry(False, "STOCK", "DAT", 12),
+                DirectoryEntry(True, "README", "", 1),
+                DirectoryEntry(False, "A\x9bB", "C", 0),
+            ),
+        )
+        self.assertEqual((listed.free, len(listed), list(listed)), (694, 3, list(listed.entries)))
+        self.assertEqual([entry.filename for entry in listed], ["STOCK.DAT", "README", "A\x9bB.C"])
+        gets = [request for request in self.stand_in.requests if request[0] == wire.Tag.CALL and request[4] == 0x07]
+        self.assertEqual((len(gets), self.stand_in.blocks), (1, {}))
+        self.assertIn(wire.load(0, b"D1:*.*\x9b"), self.stand_in.requests)
+        self.assertEqual(self.stick.directory(), listed)
+        self.assertIn(wire.load(0, b"D:*.*\x9b"), self.stand_in.requests)
+
+    def test_a_directory_without_a_match(self) -> None:
+        self.stand_in.listing = b"707 FREE SECTORS\x9b"
+        self.assertEqual(self.stick.directory("D:NONE"), Directory((), 707))
+
+    def test_what_is_no_directory(self) -> None:
+        """Bytes that a line has spoiled: the place is found before the next message."""
+        last = b"694 FREE SECTORS\x9b"
+        for listing in (
+            b"",
+            last[:-1],
+            b"6g4 FREE SECTORS\x9b",
+            b"694 FREE SECTORZ\x9b",
+            b"  STOCK   DAT 012\x9b",
+            b"  STOCK   DAT 01x\x9b" + last,
+            b"x STOCK   DAT 012\x9b" + last,
+            b" xSTOCK   DAT 012\x9b" + last,
+            b"  STOCK   DATx012\x9b" + last,
+            b"  STOCK   DAT 012x" + last,
+            b"  STOCK   DAT 12\x9b" + last,
+        ):
+            with self.subTest(listing=listing):
+                self.stand_in.listing = listing
+                self.assertRaises(errors.BadReply, self.stick.directory)
+                self.assertEqual(self.stand_in.blocks, {})
+                self.stand_in.requests.clear()
+                self.stick.load(16, b"right")
+                self.assertIn(wire.BOUNDARY[8:11], b"".join(self.stand_in.requests))
+
+    def test_a_file(self) -> None:
+        self.stand_in.files["STOCK.DAT"] = (b"ONE\x9bTWO\x9b", 0x88)
+        for specification in ("D:STOCK.DAT", b"D1:STOCK.DAT"):
+            with self.stick.open(specification, READ) as file:
+                self.assertEqual((file.get_record(), file.at_end), (b"ONE\x9b", False))
+                self.assertEqual((list(file.records()), file.at_end), ([b"TWO\x9b"], True))
+        self.stand_in.requests.clear()
+        with self.stick.open("D:STOCK.DAT", READ) as file:
+            self.assertEqual((bytes(file), file.at_end), (b"ONE\x9bTWO\x9b", True))
+        gets = [request for request in self.stand_in.requests if request[0] == wire.Tag.CALL and request[4] == 0x07]
+        self.assertEqual(len(gets), 8)
+
+    def test_two_at_once(self) -> None:
+        self.stand_in.files.update({"A": (b"1234", 0x88), "B": (b"5678", 0x88)})
+        with self.stick.open("D:A", READ) as one, self.stick.open("D2:B", READ) as two:
+            self.assertEqual([*zip(one, two)], [*zip(b"1234", b"5678")])
+
+    def test_a_bad_chain(self) -> None:
+        """What was read before it comes with the error, however it was read; no $03 warns of it."""
+        self.stand_in.files["BAD"] = (b"AB\x9bC", 0xA4)
+        for read, data in (
+            (lambda file: file.get_rest(), b"AB\x9bC"),
+            (lambda file: file.get_characters(5), b"AB\x9bC"),
+            (lambda file: list(file.records()), b"C"),
+            (lambda file: list(file), b""),
+        ):
+            with self.stick.open("D:BAD", READ) as file, self.assertRaises(errors.BadChain) as caught:
+                read(file)
+            self.assertEqual((caught.exception.status, caught.exception.data), (0xA4, data))
+            self.assertFalse(file.at_end)
+
+    def test_refusals(self) -> None:
+        self.stand_in.files.update({"A": (b"1", 0x88), "LOCKED": (b"2", 0x88)})
+        self.stand_in.locked.add("LOCKED")
+        self.assertRaises(errors.FileNotFound, self.stick.open, "D:NONE", READ)
+        self.assertRaises(errors.BadFileName, self.stick.open, "D:a", READ)
+        self.assertRaises(errors.BadFileName, self.stick.directory, "D:a")
+        self.assertRaises(errors.BadCommand, self.stick.open, "D:A", WRITE)
+        self.assertEqual((self.stick.status("D:A", READ), self.stand_in.blocks), (1, {}))
+        self.assertRaises(errors.FileLocked, self.stick.status, "D:LOCKED", READ)
+        self.assertRaises(errors.FileNotFound, self.stick.status, "D:NONE")
+        with self.stick.open("D:LOCKED", READ) as file:
+            self.assertEqual(file.get_rest(), b"2")
+        self.assertEqual(str(errors.FileNotFound(0xAA)), "$AA: no file of this name on the diskette")
+
+    def test_the_longest_name(self) -> None:
+        """It fits before the buffer, with its EOL."""
+        self.stand_in.files["ABCDEFGH.XYZ"] = (b"1", 0x88)
+        with self.stick.open("D4:ABCDEFGH.XYZ", READ) as file:
+            self.assertEqual(file.get_rest(), b"1")
+        self.assertRaises(ValueError, self.stick.open, "D4:ABCDEFGHI.XYZ", READ)
 
 
 class Faulty(StandIn):

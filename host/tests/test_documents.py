@@ -8,12 +8,13 @@ import unittest
 from pathlib import Path
 
 import fixlomand
-from fixlomand import cases, errors, script, wire
+from fixlomand import cases, drives, errors, script, wire
 from fixlomand.cio import WRITE, File, Stick
 from fixlomand.play import Player, PlayPort
 from fixlomand.ports import Port
 from fixlomand.wire import Command
 
+from .disks import HELLO
 from .running import NO_PLAY, PLAY
 
 REPOSITORY = Path(__file__).resolve().parents[2]
@@ -38,11 +39,12 @@ class Hosts(unittest.TestCase):
 
     @unittest.skipUnless(PLAY, NO_PLAY)
     def test_the_examples(self) -> None:
-        for document, length in ((HOSTS, 20), (README, 4)):
+        for document, length in ((HOSTS, 33), (README, 4)):
             text = document.read_text(encoding="utf-8")
             rows = re.findall(r"^\| `([0-9A-F ]+)` \| `([0-9A-F ]+)` \|", text, re.MULTILINE)
             self.assertEqual(len(rows), length)
             with Player(shlex.split(PLAY)) as player:
+                drives.lend(player, HELLO)
                 port = PlayPort(player, 0)
                 for sent, expected in rows:
                     port.write(bytes.fromhex(sent))
@@ -177,7 +179,7 @@ class Crates(unittest.TestCase):
 
 class Changing(unittest.TestCase):
     def test_all_is_there(self) -> None:
-        """Each path, and each name but those of the diskette drive, which is an example."""
+        """Each path, and each name."""
         files = [
             file
             for folder in ("crates", "host", "model/src", "model/tests", "firmware", "docs")
@@ -188,8 +190,6 @@ class Changing(unittest.TestCase):
         for file in files:
             names |= set(re.findall(r"[\w-]+", file.read_text(encoding="utf-8")))
         for word in re.findall(r"`([^`]+)`", CHANGING.read_text(encoding="utf-8")):
-            if "disk" in word.lower():
-                continue
             if "/" in word or word.endswith(".txt"):
                 self.assertTrue((REPOSITORY / "crates" / word).exists() or (REPOSITORY / word).exists(), word)
             else:

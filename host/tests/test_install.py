@@ -39,8 +39,10 @@ PROGRAM = r"""
 
 static uint8_t state[FIXLOMAND_STATE_LEN], area[FIXLOMAND_AREA_LEN];
 static uint8_t screen[FIXLOMAND_SCREEN_LEN], paper[FIXLOMAND_PAPER_LEN], tape[FIXLOMAND_TAPE_LEN];
+static uint8_t images[FIXLOMAND_IMAGES_LEN];
 
-#define LENT state, sizeof state, area, sizeof area, screen, sizeof screen, paper, sizeof paper, tape, sizeof tape
+#define LENT state, sizeof state, area, sizeof area, screen, sizeof screen, paper, sizeof paper, tape, sizeof tape, \
+    images, sizeof images
 
 static void request(const uint8_t *message, size_t length)
 {
@@ -111,7 +113,7 @@ class Header(unittest.TestCase):
 
     def test_aux1(self) -> None:
         bits = {"READ": wire.READ, "WRITE": wire.WRITE, "FORCED": wire.FORCED, "KEEP": wire.KEEP}
-        self.assertEqual(self.named("AUX1"), {**bits, "SPLIT": 0x10})
+        self.assertEqual(self.named("AUX1"), {**bits, "SPLIT": 0x10, "DIRECTORY": wire.DIRECTORY})
 
     def test_version(self) -> None:
         text = (FIRMWARE / "include" / "fixlomand.h").read_text(encoding="utf-8")

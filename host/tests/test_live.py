@@ -164,7 +164,7 @@ class Live(Living):
             'port 0: LOAD 21 bytes at 16: "ten boxes # 9 of lint"',
             "port 0: PUT RECORD replied $01 success, count 21",
             'key $3F: "a"',
-            "port 1: GET CHARACTERS replied $88 EndOfFile, end of file from K or C",
+            "port 1: GET CHARACTERS replied $88 EndOfFile, end of file from K, C or D",
         ):
             self.assertRegex(text, rf"\n# \d+\.\d\d\d {re.escape(words)}\n")
         again = run("play", str(self.folder / "a log"))

@@ -102,13 +102,13 @@ class Logged(unittest.TestCase):
                 "port 0: OPEN block 2, specification at 0, AUX1 $04 (R), AUX2 0",
                 "port 0: OPEN replied $01 success",
                 "port 0: GET CHARACTERS block 2, one by A",
-                "port 0: GET CHARACTERS replied $88 EndOfFile, end of file from K or C",
+                "port 0: GET CHARACTERS replied $88 EndOfFile, end of file from K, C or D",
                 'key $3F: "a"',
                 "key $0C: return",
                 "port 0: GET CHARACTERS block 2, one by A",
                 "port 0: GET CHARACTERS replied $01 success, A EOL",
                 "port 0: GET CHARACTERS block 2, 5 bytes at 0",
-                "port 0: GET CHARACTERS replied $88 EndOfFile, end of file from K or C, count 0",
+                "port 0: GET CHARACTERS replied $88 EndOfFile, end of file from K, C or D, count 0",
                 "port 0: FETCH 1 byte at 0",
                 'port 0: FETCH replied $01 success: "K"',
                 "port 0: CLOSE block 2",
@@ -128,7 +128,7 @@ class Logged(unittest.TestCase):
 
     def test_the_last_character(self) -> None:
         """A tape's: its status by name, and the character where it is in A."""
-        self.player.do(script.Write(script.BUFFERS.index("tape"), 0, AB + LAST))
+        self.player.do(script.Write(script.Buffer.TAPE, 0, AB + LAST))
         self.ask(1, wire.load(0, b"C:"), wire.call(0, 0x03, aux1=0x04), wire.call(0, 0x07, 16, 2), wire.call(0, 0x07))
         self.ask(1, wire.call(0, 0x07), wire.call(0, 0x0C), wire.call(0, 0x03, aux1=0x04), wire.call(0, 0x05, 16, 9))
         self.assertEqual(
@@ -136,7 +136,7 @@ class Logged(unittest.TestCase):
             [
                 "port 1: GET CHARACTERS replied $01 success, count 2",
                 "port 1: GET CHARACTERS replied $03 last character, A EOL",
-                "port 1: GET CHARACTERS replied $88 EndOfFile, end of file from K or C",
+                "port 1: GET CHARACTERS replied $88 EndOfFile, end of file from K, C or D",
                 "port 1: GET RECORD replied $03 last character, count 3",
             ],
         )
@@ -176,7 +176,7 @@ class Logged(unittest.TestCase):
 
 class Help(unittest.TestCase):
     def test_of_the_words(self) -> None:
-        for word, parts in (("play", [*script.FORMS.values()]), ("live", ["--speed N", "--log FILE", "--tape FILE", "F7", "F8"])):
+        for word, parts in (("play", [*script.FORMS.values()]), ("live", ["--speed N", "--log FILE", "--tape FILE", "--disk N=FILE", "F7", "F8"])):
             for words in ((word, "--help"), (word, "-h")):
                 done = run(*words, FIXLOMAND_PLAY="/nowhere")
                 self.assertEqual((done.returncode, done.stderr), (0, b""))

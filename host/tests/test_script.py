@@ -21,7 +21,9 @@ lend area 100
 lend state 602
 raw 4C 07 70 11 01
 lend tape 33000
+lend images 368640
 write tape 132 55 55 FA
+write images 45952 02
 raw 57 09 FF FF FF 00 00
 dump
 dump tape
@@ -29,7 +31,8 @@ raw 54 00
 """
 BYTES = bytes.fromhex(
     "46 540011 540005 540000 540000 540000 540045 54003A 54009B 4B00 4700 4700 4700 4700 4700"
-    "540110 54FFFF 58012C01 503F 4C00640000 4C035A0200 4C07701101 4C04E88000 57048400000300 5555FA 5709FFFFFF0000"
+    "540110 54FFFF 58012C01 503F 4C00640000 4C035A0200 4C07701101 4C04E88000 4C0600A005"
+    "57048400000300 5555FA 570680B300010002 5709FFFFFF0000"
     "44 43 5400"
 )
 
@@ -67,6 +70,8 @@ class Forms(unittest.TestCase):
             for cut in (1, 6, 6 + len(data)):
                 self.assertEqual(script.from_bytes(written[:cut]), [Raw(written[:cut])])
         self.assertEqual(script.parse("write 4 7 41"), [Write(4, 7, b"A")])
+        self.assertEqual(script.parse("write 6 368639 41\nlend 6 9"), [Write(6, 368_639, b"A"), Lend(6, 9)])
+        self.assertEqual(script.to_text([Write(6, 0, b"A"), Lend(6, 9)]), "write images 0 41\nlend images 9\n")
         self.assertEqual(script.parse("write tape 16777215 " + "00 " * 65_535), [Write(4, 0xFFFFFF, bytes(65_535))])
 
     def test_long_takes_are_split(self) -> None:
@@ -91,9 +96,9 @@ class Forms(unittest.TestCase):
             "press 1FF": "code 1FF: at most FF",
             "lend area": "lend area: not of the form lend BUFFER LENGTH",
             "lend area 16777216": "length 16777216: at most 16777215",
-            "lend 5 0": "buffer 5: there is none; the buffers are 0 area, 1 screen, 2 paper, 3 state, 4 tape",
-            "lend disk 0": "buffer disk: there is none; the buffers are 0 area, 1 screen, 2 paper, 3 state, 4 tape",
-            "write state 0 00": "buffer state: there is none; the buffers are 0 area, 1 screen, 2 paper, 4 tape",
+            "lend 5 0": "buffer 5: there is none; the buffers are 0 area, 1 screen, 2 paper, 3 state, 4 tape, 6 images",
+            "lend disk 0": "buffer disk: there is none; the buffers are 0 area, 1 screen, 2 paper, 3 state, 4 tape, 6 images",
+            "write state 0 00": "buffer state: there is none; the buffers are 0 area, 1 screen, 2 paper, 4 tape, 6 images",
             "write tape": "write tape: not of the form write BUFFER AT BYTES",
             "write tape 16777216 00": "place 16777216: at most 16777215",
             "write tape 0 100": "byte 100: at most FF",
@@ -208,11 +213,14 @@ class Gate(unittest.TestCase):
                 given = b"".join(bytes([0, byte]) for byte in bytes.fromhex(note))
                 self.assertEqual(self.output[at - len(given) : at], given, line)
         self.assertEqual(at, len(self.output))
-        record, cell, ends = dumps
+        record, cell, ends, disks = dumps
         self.assertEqual((record.screen[2:4], record.row, record.column), (b"\x41\x42", 1, 2))
         self.assertEqual(cell.screen[0], 1)
         self.assertEqual((ends.areas[1][-1], ends.screen[-1], ends.paper[-1]), (0x7A, 0x7B, 0x7C))
         self.assertEqual(ends.blocks[1][2], script.Block(True, "C", 1, 0x04))
+        first = (script.Block(True, "D", 1, 0x04), script.Block(True, "D", 1, 0x06), script.Block(False, "", 0, 0))
+        self.assertEqual(disks.blocks[0][:3], first)
+        self.assertEqual(disks.blocks[1][7], script.Block(True, "D", 1, 0x04))
         pending, reading, closed = tapes
         self.assertEqual(pending, Tape(bytes(33_000), 2, 0, 3, b"AB\x9b"))
         partial = bytes.fromhex("55 55 FA 41 42 9B") + bytes(124) + bytes.fromhex("15 D9")

@@ -628,7 +628,7 @@ class Hosts(unittest.TestCase):
         self.laptop, self.phone = (Noting(PlayPort(self.player, port)) for port in (0, 1))
 
     def lend(self, *records: bytes) -> None:
-        self.player.do(script.Write(script.BUFFERS.index("tape"), 0, tape_file(*records)))
+        self.player.do(script.Write(script.Buffer.TAPE, 0, tape_file(*records)))
 
     def test_character_by_character(self) -> None:
         """To the end without the request that would give $88."""

@@ -3,7 +3,7 @@
 
 use model::compare::{compare, shorten, Budget, Difference, Itself, Program, Real};
 use model::random::conversation;
-use model::script::{bytes_of, from_text, ops_of, to_text, Figures, Op, Player, TAPE_STATUSES};
+use model::script::{bytes_of, from_text, ops_of, to_text, Figures, Op, Player, DISK_STATUSES, TAPE_STATUSES};
 use std::io::{IsTerminal, Read, Write};
 use std::process::ExitCode;
 use std::sync::atomic::{AtomicBool, AtomicU64, Ordering};
@@ -358,12 +358,18 @@ fn in_figures(figures: &Figures) -> String {
         text.push_str(&format!(" {tag:02X}/{status:02X}: {},", commas(*count)));
     }
     text.pop();
-    text.push_str("\nof C:");
-    for status in TAPE_STATUSES {
-        let count = figures.tape.get(&status).copied().unwrap_or(0);
-        text.push_str(&format!(" {status:02X}: {},", commas(count)));
+    for (device, statuses, counts, waits) in [
+        ("C", &TAPE_STATUSES[..], &figures.tape, figures.tape_waits),
+        ("D", &DISK_STATUSES, &figures.disk, figures.disk_waits),
+    ] {
+        text.push_str(&format!("\nof {device}:"));
+        for status in statuses {
+            let count = counts.get(status).copied().unwrap_or(0);
+            text.push_str(&format!(" {status:02X}: {},", commas(count)));
+        }
+        text.push_str(&format!(" answered 8: {}", commas(waits)));
     }
-    text.push_str(&format!(" answered 8: {}\n", commas(figures.tape_waits)));
+    text.push('\n');
     text
 }
 

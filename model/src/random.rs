@@ -8,8 +8,10 @@
 //! drawn to the paper's boundaries: `tests/reach.rs` says which are reached.
 //! Tapes are laid by `W`, record by record with right checksums, and then a
 //! few bytes of them are damaged: bytes at random would be no records at all.
+//! So are diskettes, file by file; of an image only the sectors that files have.
 
-use crate::script::{Op, Player};
+use crate::diskette::{chain_of_all, entry_at, link, sector_at, Diskette};
+use crate::script::{Op, Player, BUFFERS};
 use crate::stick::*;
 use std::collections::VecDeque;
 
@@ -62,8 +64,8 @@ impl Random {
 
 /// One end of the stick: what it likes to do, and what it is about to send.
 struct Host {
-    /// Weights of E, S, K, P and C.
-    taste: [usize; 5],
+    /// Weights of E, S, K, P, C and D.
+    taste: [usize; 6],
     messages: VecDeque<Vec<u8>>,
     sending: VecDeque<u8>,
 }
@@ -78,7 +80,7 @@ struct Maker {
 }
 
 /// The devices in the order of a taste.
-const DEVICES: [Device; 5] = [Device::E, Device::S, Device::K, Device::P, Device::C];
+const DEVICES: [Device; 6] = [Device::E, Device::S, Device::K, Device::P, Device::C, Device::D];
 /// The commands that are no SPECIAL and not bad.
 const COMMANDS: [u8; 7] = [OPEN, GET_RECORD, GET_CHARACTERS, PUT_RECORD, PUT_CHARACTERS, CLOSE, GET_STATUS];
 /// The sixteen control codes of E.
@@ -90,6 +92,18 @@ const KEYS: [u8; 16] = [0x3C, 0x7C, 0xBC, 0x27, 0x67, 0xA7, 0x9A, 0x0C, 0xFF, 0x
 
 /// SPECIAL commands, DRAW and FILL among them.
 const SPECIALS: [u8; 9] = [0x0E, 0x0F, 0x11, 0x12, 0x20, 0x26, 0x7F, 0x80, 0xFF];
+
+/// Names of files, of eight characters or fewer, and extensions: alike, so that a pattern has several matches or just misses.
+const NAMES: [&[u8]; 12] =
+    [b"A", b"B", b"AB", b"ABC", b"HELLO", b"HELP", b"GAME", b"DOS", b"ABCDEFG", b"ABCDEFGH", b"ABCDEFGI", b"12345678"];
+const EXTENSIONS: [&[u8]; 8] = [b"", b"", b"T", b"TX", b"TXT", b"TXU", b"BAS", b"SYS"];
+/// Flags of entries: in use, locked, open for output; deleted, whatever else; neither.
+const FLAGS: [u8; 20] = [
+    0x42, 0x42, 0x42, 0x42, 0x42, 0x42, 0x42, 0x40, 0x62, 0x62, 0x60, 0x43, 0x7F, 0x80, 0x80, 0x82, 0xC2, 0xE2, 0x22,
+    0x01,
+];
+/// Bytes that no name has, the neighbours of those that it may have among them.
+const NO_NAME: [u8; 16] = [b'-', b'/', b':', b';', b'@', b'[', b'>', b'a', b'z', b'_', b'!', b')', b'+', b',', 0, 0xC1];
 
 /// Lengths around those of a piece, a full reply and a full LOAD.
 const PIECES: [usize; 5] = [255, 256, 257, 258, 259];
@@ -125,10 +139,12 @@ impl Maker {
         let screen = random.pick(&[[1, 0], [1, 0], [0, 1], [1, 1]]);
         // There is one tape: mostly both like it, or neither.
         let tape = random.pick(&[0, 0, 0, 1, 40, 40]);
+        // The same of the diskettes.
+        let disk = random.pick(&[0, 0, 0, 1, 40, 40]);
         let mut host = || {
             let taste = random.pick(&[[6, 6, 2, 2], [20, 1, 1, 1], [1, 20, 1, 0], [2, 2, 20, 1], [1, 1, 1, 20]]);
             let [e, s, k, p] = taste;
-            let taste = [e * screen[0], s * screen[1], k, p, tape];
+            let taste = [e * screen[0], s * screen[1], k, p, tape, disk];
             Host { taste, messages: VecDeque::new(), sending: VecDeque::new() }
         };
         let hosts = [host(), host()];
@@ -175,6 +191,17 @@ impl Maker {
             let end = self.player.stick.tape.chunks(RECORD).nth(record).map(characters) == Some(Err(END_OF_FILE));
             if self.random.chance(if end { 500 } else { 150 }) {
                 self.meddle_with_record();
+            }
+        }
+        if let Some((drive, place)) = self.running_on_disk(port) {
+            // The same where a file or the directory ends.
+            let end = self.player.stick.next_on_disk(drive, place) == Err(END_OF_FILE);
+            if self.random.chance(if end { 500 } else { 150 }) {
+                self.meddle_at(drive, place);
+            } else if !end && self.random.chance(200) {
+                // Up to the last character.
+                let count = self.left(drive, place, 300) as u16;
+                return self.play(Op::Ticks { port, count });
             }
         }
         if self.random.chance(400) {
@@ -293,12 +320,13 @@ impl Maker {
 
     /// Calls while a buffer is lent cut, then whole again.
     fn cut(&mut self) {
-        let buffer = self.random.below(WHOLE.len());
-        let whole = WHOLE[buffer];
+        let place = self.random.below(WHOLE.len());
+        let (whole, (buffer, _)) = (WHOLE[place], BUFFERS[place]);
         let length = self.random.pick(&[0, 1, whole / 2, whole - 1, whole - 1, whole]) as u32;
-        self.play(Op::Lend { buffer: buffer as u8, length });
+        self.play(Op::Lend { buffer, length });
         if self.random.chance(100) {
-            self.play(Op::Lend { buffer: self.ops.len() as u8 | 8, length: 0 });
+            let buffer = self.random.pick(&[5, 7, 8, self.ops.len() as u8 | 8]);
+            self.play(Op::Lend { buffer, length: 0 });
         }
         if self.random.chance(100) {
             self.meddle();
@@ -318,7 +346,7 @@ impl Maker {
             }
         }
         let length = if self.random.chance(500) { whole as u32 } else { 0xFF_FFFF };
-        self.play(Op::Lend { buffer: buffer as u8, length });
+        self.play(Op::Lend { buffer, length });
     }
 
     fn dump(&mut self) {
@@ -329,14 +357,18 @@ impl Maker {
         }
     }
 
-    /// Bytes of a lent buffer written from outside: mostly of the tape, at
-    /// times past its end or into no buffer at all.
+    /// Bytes of a lent buffer written from outside: mostly of tape or images,
+    /// at times past its end or into no buffer at all.
     fn meddle(&mut self) {
         if self.player.stick.cassette.mark != Mark::Closed && self.random.chance(700) {
             return self.meddle_with_record();
         }
-        let buffer = self.random.pick(&[0, 1, 2, 3, 4, 4, 4, 9, 255]);
-        let end = *WHOLE.get(usize::from(buffer)).unwrap_or(&AREA);
+        if !self.open_places().is_empty() && self.random.chance(700) {
+            return self.meddle_with_disk();
+        }
+        let buffer = self.random.pick(&[0, 1, 2, 3, 4, 4, 4, 6, 6, 5, 9, 255]);
+        let place = BUFFERS.iter().position(|(number, _)| *number == buffer);
+        let end = place.map_or(AREA, |place| WHOLE[place]);
         let length = self.random.pick(&[0, 1, 1, 1, 2, 3, 40]);
         let any = self.random.below(end);
         let at = self.random.pick(&[0, any, any, end - length, end - length / 2, end, 0xFF_FFFF]) as u32;
@@ -395,7 +427,7 @@ impl Maker {
                 b"X\0\0",
                 b"L\0\0\0",
                 b"W\x04\0\0\0\0",
-                b"W\x04\0\0\0\x04\0CCC",
+                b"W\x06\0\0\0\x04\0CCC",
                 b"?",
                 b"c",
                 b"f",
@@ -421,7 +453,7 @@ impl Maker {
             1 => {
                 let iocb = self.random.pick(&open);
                 let file = blocks[usize::from(iocb)].expect("open");
-                self.transfer_errand(iocb, file)
+                self.transfer_errand(port, iocb, file)
             }
             2 => {
                 let iocb = self.random.below(8) as u8;
@@ -452,13 +484,19 @@ impl Maker {
             return (self.random.byte(), self.random.byte() % 16);
         }
         // One bit alone, or one bit off what the device offers.
-        if self.random.chance(if device == Device::C { 300 } else { 80 }) {
+        let odd = match device {
+            Device::C => 300,
+            Device::D => 450,
+            _ => 80,
+        };
+        if self.random.chance(odd) {
             let offered = match device {
                 Device::E => R | W | FORCED,
                 Device::S => R | W,
                 Device::K => R,
                 Device::P => W,
                 Device::C => self.random.pick(&[R, W]),
+                Device::D => self.random.pick(&[R, DIRECTORY]),
             };
             let aux1 = self.random.pick(&[0, offered]) ^ (1 << self.random.below(8));
             return (aux1, 3 + self.random.below(6) as u8);
@@ -471,6 +509,9 @@ impl Maker {
             Device::K => self.random.pick(&[0x04, 0x04, 0x04, 0x05, 0xF4, 0x0C, 0x00]),
             Device::P => self.random.pick(&[0x08, 0x08, 0x08, 0x09, 0xF8, 0x0C, 0x00]),
             Device::C => self.random.pick(&[0x04, 0x04, 0x04, 0x08, 0x08, 0x08, 0xF4, 0xF8, 0x0C, 0x00]),
+            Device::D => {
+                self.random.pick(&[0x04, 0x04, 0x04, 0x06, 0x06, 0x05, 0x07, 0x26, 0xF4, 0x02, 0x00, 0x08, 0x0E])
+            }
         };
         let aux2 = if self.random.chance(950) { 3 + self.random.below(6) as u8 } else { self.random.byte() };
         (aux1, aux2)
@@ -497,6 +538,9 @@ impl Maker {
 
     /// A specification in the area, and a CALL on it; at times at its edge.
     fn with_specification(&mut self, device: Device, iocb: u8, command: u8) -> Vec<Vec<u8>> {
+        if device == Device::D {
+            return self.ask_for_disk(iocb, command);
+        }
         let specification = self.specification(device);
         let address = match self.random.weigh(&[70, 20, 10]) {
             0 => self.random.below(300),
@@ -519,6 +563,9 @@ impl Maker {
         };
         if device == Device::C && self.random.chance(700) {
             return self.tape_errand(iocb);
+        }
+        if device == Device::D && self.random.chance(800) {
+            return self.disk_errand(iocb, closed);
         }
         self.with_specification(device, iocb, OPEN)
     }
@@ -546,9 +593,12 @@ impl Maker {
     }
 
     /// Reading or writing an open block.
-    fn transfer_errand(&mut self, iocb: u8, file: File) -> Vec<Vec<u8>> {
+    fn transfer_errand(&mut self, port: u8, iocb: u8, file: File) -> Vec<Vec<u8>> {
         if file.device == Device::C {
             return self.on_tape(iocb, file);
+        }
+        if file.device == Device::D {
+            return self.on_disk(port, iocb, file);
         }
         if file.device == Device::E && file.aux1 & (R | W) == R | W && self.random.chance(300) {
             return if self.random.chance(500) { self.echo_errand(iocb) } else { self.edit_errand(iocb) };
@@ -1026,6 +1076,630 @@ impl Maker {
         self.play(Op::Write { buffer: 4, at: (from + place) as u32, bytes: vec![byte] });
     }
 
+    // ---- the diskettes ----
+
+    /// D from OPEN to CLOSE: a file or the directory read, a chain that goes
+    /// round or over all sectors, a file read up to its end; or a name asked
+    /// for.
+    fn disk_errand(&mut self, iocb: u8, closed: &[u8]) -> Vec<Vec<u8>> {
+        let drive = self.random.pick(&[0, 0, 0, 1, 1, 2, 3]);
+        if self.player.stick.entry(drive, 0)[0] == 0 || self.random.chance(150) {
+            self.lay_diskette(drive);
+        }
+        let mut messages = Vec::new();
+        match self.random.weigh(&[60, 40, 50, 50, 14, 8, 3]) {
+            0 => {
+                let name = self.name(drive);
+                messages.extend(self.open_disk(iocb, drive, &name, R));
+                let place = self.place_of(drive, &name);
+                for _ in 0..1 + self.random.below(4) {
+                    messages.extend(self.read_disk(iocb, drive, place));
+                }
+            }
+            1 => {
+                let name = self.name_or_all(drive);
+                messages.extend(self.open_disk(iocb, drive, &name, DIRECTORY));
+                for _ in 0..1 + self.random.below(5) {
+                    messages.extend(self.read_listing(iocb, drive));
+                }
+            }
+            2 => return self.file_to_the_end(iocb, drive),
+            3 => {
+                for _ in 0..1 + self.random.below(4) {
+                    let special = self.random.pick(&SPECIALS);
+                    let command = self.random.pick(&[OPEN, GET_STATUS, GET_STATUS, special]);
+                    messages.extend(self.ask_for_disk(iocb, command));
+                }
+            }
+            4 => messages.extend(self.ring(iocb, drive)),
+            5 => messages.extend(self.many(closed, drive)),
+            _ => messages.extend(self.all_sectors(iocb, drive)),
+        }
+        if messages.is_empty() || self.random.chance(500) {
+            messages.push(self.call(iocb, CLOSE, 0, 0));
+        }
+        messages
+    }
+
+    /// The drive and the place of the port's request on D, if one runs.
+    fn running_on_disk(&self, port: u8) -> Option<(usize, Place)> {
+        match self.phase(port) {
+            Phase::Running(run) if run.file.device == Device::D => {
+                let place = self.player.stick.ports[usize::from(port)].places[usize::from(run.call.iocb)];
+                place.map(|place| (run.file.drive(), place))
+            }
+            _ => None,
+        }
+    }
+
+    /// The drives and places of all blocks that have D open.
+    fn open_places(&self) -> Vec<(usize, Place)> {
+        let ports = self.player.stick.ports.iter();
+        let blocks = ports.flat_map(|port| port.blocks.iter().zip(&port.places));
+        blocks.filter_map(|(file, place)| Some((file.as_ref()?.drive(), (*place)?))).collect()
+    }
+
+    /// OPEN of a good name, at times with one bit of AUX1 off.
+    fn open_disk(&mut self, iocb: u8, drive: usize, name: &[u8], aux1: u8) -> Vec<Vec<u8>> {
+        let bit = if self.random.chance(100) { 1 << self.random.below(8) } else { 0 };
+        let end = self.random.pick(b"\x9B\x9B ");
+        let specification = [&self.drive_name(drive)[..], name, &[end]].concat();
+        let address = self.inside(specification.len());
+        let aux = [aux1 ^ bit, self.random.byte(), self.random.byte()];
+        vec![load(address, &specification), call(iocb, OPEN, address, 0, aux)]
+    }
+
+    /// `D:`, or with a digit.
+    fn drive_name(&mut self, drive: usize) -> Vec<u8> {
+        if drive == 0 && self.random.chance(500) {
+            return b"D:".to_vec();
+        }
+        vec![b'D', b'1' + drive as u8, b':']
+    }
+
+    /// A CALL on a specification of any kind, at times where the area ends in it.
+    fn ask_for_disk(&mut self, iocb: u8, command: u8) -> Vec<Vec<u8>> {
+        let drive = self.random.pick(&[0, 0, 0, 1, 2, 3]);
+        let mut specification = self.drive_name(drive);
+        if self.random.chance(80) {
+            specification =
+                self.random.pick::<&[u8]>(&[b"D5:", b"D8:", b"D0:", b"D9:", b"D4;", b"D12:", b"D "]).to_vec();
+        }
+        let name = match self.random.weigh(&[60, 30, 10]) {
+            0 => self.name(drive),
+            1 => self.bad_name(drive),
+            _ => b"ABCDEFGHI.TXTY".to_vec(),
+        };
+        specification.extend(name);
+        specification.push(self.random.pick(&[EOL, EOL, b' ']));
+        let whole = specification.len();
+        let room = match self.random.weigh(&[50, 20, 20, 10]) {
+            0 => AREA - self.random.below(300),
+            1 => whole,
+            2 => 1 + self.random.below(whole),
+            _ => 1 + self.random.below(4),
+        };
+        let bad_digit = matches!(specification[1], b'5'..=b'9');
+        let room = if bad_digit && self.random.chance(300) { 2 } else { room };
+        let address = AREA - room;
+        specification.truncate(room);
+        let (aux1, aux2) = if self.random.chance(400) { (R, 0) } else { self.aux(Device::D) };
+        let length = self.length();
+        vec![load(address, &specification), call(iocb, command, address, length, [aux1, aux2, self.random.byte()])]
+    }
+
+    /// A name that some file of the drive has, or about it: with wild cards,
+    /// too long, or of no file.
+    fn name(&mut self, drive: usize) -> Vec<u8> {
+        let entries = (0..ENTRIES).take_while(|&entry| self.player.stick.entry(drive, entry)[0] != 0).count();
+        let some = self.random.below(entries.max(1));
+        let entry = self.random.pick(&[some, some, entries.max(1) - 1]);
+        let bytes = self.player.stick.entry(drive, entry);
+        let field = |bytes: &[u8]| bytes.iter().copied().take_while(u8::is_ascii_alphanumeric).collect::<Vec<u8>>();
+        let (primary, extension) = (field(&bytes[NAME_AT..NAME_AT + NAME]), field(&bytes[NAME_AT + NAME..]));
+        let alike = match self.random.weigh(&[20, 40, 20, 5, 10, 5]) {
+            0 => return b"*.*".to_vec(),
+            1 => (primary, extension),
+            2 => (self.wild(&primary), self.wild(&extension)),
+            3 => (b"????????".to_vec(), b"???".to_vec()),
+            // Past eight and three: what is behind is ignored.
+            4 => (self.too_long(primary, NAME), self.too_long(extension, EXTENSION)),
+            _ => (self.random.pick(&NAMES).to_vec(), self.random.pick(&EXTENSIONS).to_vec()),
+        };
+        let (primary, extension) = alike;
+        match self.random.below(30) {
+            0 => Vec::new(),
+            1 => primary,
+            2 => [b".", &extension[..]].concat(),
+            _ if extension.is_empty() && self.random.chance(500) => primary,
+            _ => [&primary[..], b".", &extension].concat(),
+        }
+    }
+
+    fn name_or_all(&mut self, drive: usize) -> Vec<u8> {
+        if self.random.chance(500) {
+            b"*.*".to_vec()
+        } else {
+            self.name(drive)
+        }
+    }
+
+    /// A field with some characters as ?, or the rest of it as *, at times with
+    /// more behind it.
+    fn wild(&mut self, field: &[u8]) -> Vec<u8> {
+        let mut wild: Vec<u8> = field.iter().map(|&byte| if self.random.chance(300) { b'?' } else { byte }).collect();
+        if self.random.chance(600) {
+            wild.truncate(self.random.below(wild.len() + 1));
+            wild.push(b'*');
+            if self.random.chance(200) {
+                wild.push(self.random.pick(b"AZ09*?"));
+            }
+        } else if self.random.chance(300) {
+            wild.push(b'?');
+        }
+        wild
+    }
+
+    /// A field up to its length and past it.
+    fn too_long(&mut self, mut field: Vec<u8>, length: usize) -> Vec<u8> {
+        while field.len() < length {
+            field.push(b'?');
+        }
+        field.extend((0..self.random.below(4)).map(|_| self.random.pick(b"AZ09*?")));
+        field
+    }
+
+    /// A name with a byte that it may not have: in a field, behind its end, a
+    /// second dot, or alone.
+    fn bad_name(&mut self, drive: usize) -> Vec<u8> {
+        let mut name = self.name(drive);
+        let bad = self.random.pick(&NO_NAME);
+        let place = self.random.below(name.len() + 1);
+        match self.random.below(6) {
+            0 => name = vec![bad],
+            1 => name.push(bad),
+            2 => name.insert(place, bad),
+            3 => name = [b"ABCDEFGH", &b"IJ"[..self.random.below(3)], &[bad]].concat(),
+            4 => name = [b"A*.TXT", &b"YZ"[..self.random.below(3)], &[bad]].concat(),
+            _ => name = [b"A.", &b"TXT"[..self.random.below(4)], b"."].concat(),
+        }
+        name
+    }
+
+    /// Where a file of that name is read from, as the diskette lies now.
+    fn place_of(&self, drive: usize, name: &[u8]) -> Option<Place> {
+        let pattern = pattern(name)?;
+        let entry = self.player.stick.find(drive, &pattern, 0)?;
+        Some(Place::File { entry, sector: self.player.stick.first_sector(drive, entry), place: 0, begun: 1 })
+    }
+
+    /// How many characters are left, of so many at most.
+    fn left(&self, drive: usize, place: Place, most: usize) -> usize {
+        let next = |place: &Place| self.player.stick.next_on_disk(drive, *place).ok().map(|(_, behind)| behind);
+        std::iter::successors(Some(place), next).take(most + 1).count() - 1
+    }
+
+    /// A read of a file: to the end of its sector or of all or about it, a few
+    /// characters, or many.
+    fn read_disk(&mut self, iocb: u8, drive: usize, place: Option<Place>) -> Vec<Vec<u8>> {
+        let all = place.map_or(1, |place| self.left(drive, place, 1_000)).max(1);
+        let sector = match place {
+            Some(Place::File { sector: sector @ 1..=LAST_SECTOR, place, .. }) => {
+                usize::from(self.player.stick.sector(drive, sector)[DATA_COUNT_AT]).saturating_sub(place).max(1)
+            }
+            _ => 1,
+        };
+        let piece = self.random.pick(&PIECES);
+        let n = if self.random.chance(800) {
+            self.random.pick(&[0, 1, 2, 3, 10, sector, sector, sector + 1, all, all, all - 1, all + 1])
+        } else {
+            self.random.pick(&[124, 125, 126, piece, 600])
+        };
+        let address = self.inside(n);
+        let command = self.random.pick(&[GET_CHARACTERS, GET_CHARACTERS, GET_RECORD]);
+        let mut messages = vec![self.call(iocb, command, address, n)];
+        if n > 0 && self.random.chance(300) {
+            messages.push(fetch(address, n.min(256)));
+        }
+        messages
+    }
+
+    /// A read of a directory: a record or about it, to its end or about it.
+    fn read_listing(&mut self, iocb: u8, drive: usize) -> Vec<Vec<u8>> {
+        let all = self.left(drive, Place::Directory { pattern: [b'?'; 11], entry: 0, place: 0 }, 1_200);
+        let (command, n) = match self.random.below(4) {
+            0 => (GET_RECORD, self.random.pick(&[17, 18, 19, 40])),
+            1 => (GET_RECORD, self.random.pick(&[0, 1, 5, 16, 17])),
+            2 => (GET_CHARACTERS, self.random.pick(&[0, 1, 2, 17, 18, 35, 36])),
+            _ => (GET_CHARACTERS, self.random.pick(&[all - 17, all - 1, all, all, all + 1, 600])),
+        };
+        let address = self.inside(n);
+        let mut messages = vec![self.call(iocb, command, address, n)];
+        if n > 0 && self.random.chance(500) {
+            messages.push(fetch(address, n.min(256)));
+        }
+        messages
+    }
+
+    /// Something with an open block of D.
+    fn on_disk(&mut self, port: u8, iocb: u8, file: File) -> Vec<Vec<u8>> {
+        let place = self.player.stick.ports[usize::from(port)].places[usize::from(iocb)];
+        match (self.random.weigh(&[60, 15, 15, 5]), place) {
+            (0, Some(place)) if file.aux1 & R != 0 => {
+                if self.random.chance(350) {
+                    self.meddle_at(file.drive(), place);
+                }
+                match place {
+                    Place::File { .. } => self.read_disk(iocb, file.drive(), Some(place)),
+                    Place::Directory { .. } => self.read_listing(iocb, file.drive()),
+                }
+            }
+            (1, _) => vec![self.call(iocb, CLOSE, 0, 0)],
+            (2, Some(place)) => {
+                if let Place::File { entry, .. } = place {
+                    if self.random.chance(500) {
+                        self.reflag(file.drive(), entry);
+                    }
+                }
+                let special = self.random.pick(&SPECIALS);
+                let command = self.random.pick(&[GET_STATUS, GET_STATUS, special, OPEN]);
+                vec![self.call(iocb, command, 0, 0)]
+            }
+            // The wrong way, or as it is open.
+            _ => {
+                let command = self.random.pick(&[GET_RECORD, GET_CHARACTERS, PUT_RECORD, PUT_CHARACTERS]);
+                let n = self.random.below(3);
+                vec![self.call(iocb, command, 0, n)]
+            }
+        }
+    }
+
+    /// Files with chains of sectors in no order, some of them empty; locked and
+    /// deleted ones, and at times as many as a directory has. Often a few bytes
+    /// of them are spoilt.
+    fn lay_diskette(&mut self, drive: usize) {
+        let mut diskette = Diskette::new();
+        let files = match self.random.weigh(&[70, 20, 10]) {
+            0 => 1 + self.random.below(4),
+            1 => 4 + self.random.below(9),
+            _ => self.random.pick(&[ENTRIES - 1, ENTRIES, ENTRIES]),
+        };
+        for file in 0..files {
+            // Of many files most are empty.
+            let long = if files < 20 || file == files - 1 { 1_000 } else { 100 };
+            let sectors = if self.random.chance(long) { self.chain_length() } else { 0 };
+            let data = (1..=sectors).map(|place| self.sector_data(place == sectors)).collect();
+            let chain = self.laid_out(&diskette, data);
+            let (flag, name) = (self.random.pick(&FLAGS), self.eleven());
+            diskette.add(flag, &name, &chain);
+        }
+        self.insert(drive, &diskette);
+        if self.random.chance(500) {
+            for _ in 0..1 + self.random.below(3) {
+                self.spoil_diskette(drive);
+            }
+        }
+    }
+
+    fn chain_length(&mut self) -> usize {
+        let many = 6 + self.random.below(20);
+        self.random.pick(&[0, 1, 1, 1, 2, 2, 3, 3, 4, 5, many])
+    }
+
+    /// A file's data in sectors that are free: the first or the last, beside the
+    /// directory, or any.
+    fn laid_out(&mut self, diskette: &Diskette, data: Vec<Vec<u8>>) -> Vec<(usize, Vec<u8>)> {
+        let mut chain: Vec<(usize, Vec<u8>)> = Vec::new();
+        for data in data {
+            let sector = loop {
+                let any = 4 + self.random.below(LAST_SECTOR - 3);
+                let sector = self.random.pick(&[4, 5, 255, 256, 359, 369, 718, LAST_SECTOR, any, any, any, any]);
+                if diskette.has_free(sector) && chain.iter().all(|(other, _)| *other != sector) {
+                    break sector;
+                }
+            };
+            chain.push((sector, data));
+        }
+        chain
+    }
+
+    /// Writes what a diskette has into a drive's image.
+    fn insert(&mut self, drive: usize, diskette: &Diskette) {
+        for (at, bytes) in diskette.parts(drive) {
+            self.write_images(at, &bytes);
+        }
+    }
+
+    /// Data of a file sector: full ones, short ones, none.
+    fn sector_data(&mut self, last: bool) -> Vec<u8> {
+        let any = self.random.below(SECTOR_DATA + 1);
+        let count = if last {
+            self.random.pick(&[0, 1, 2, 3, 10, any, SECTOR_DATA - 1, SECTOR_DATA])
+        } else {
+            self.random.pick(&[0, 1, 2, 3, SECTOR_DATA - 1, SECTOR_DATA, SECTOR_DATA])
+        };
+        match self.random.below(3) {
+            0 => vec![self.random.pick(&[0x00, b'A', b'B', EOL]); count],
+            1 => (0..count).map(|_| self.random.pick(b"ABCabc\x9B0123 xyz")).collect(),
+            _ => (0..count).map(|_| self.random.byte()).collect(),
+        }
+    }
+
+    /// Name and extension of an entry, rarely with bytes that no name has.
+    fn eleven(&mut self) -> Pattern {
+        let mut name = [b' '; NAME + EXTENSION];
+        let (primary, extension) = (self.random.pick(&NAMES), self.random.pick(&EXTENSIONS));
+        name[..primary.len()].copy_from_slice(primary);
+        name[NAME..NAME + extension.len()].copy_from_slice(extension);
+        match self.random.below(40) {
+            0 => name.fill(b' '),
+            1 => name.fill_with(|| self.random.byte()),
+            2 => name[self.random.below(NAME + EXTENSION)] = self.random.pick(b"?*a\x00\x9B. "),
+            _ => {}
+        }
+        name
+    }
+
+    /// The sectors of a file's chain as they lie, the first few of them.
+    fn chain(&self, drive: usize, entry: usize) -> Vec<usize> {
+        let stick = &self.player.stick;
+        let next = |sector: &usize| Some(next_sector(stick.sector(drive, *sector))).filter(is_in_image);
+        let first = Some(stick.first_sector(drive, entry)).filter(is_in_image);
+        std::iter::successors(first, next).take(8).collect()
+    }
+
+    fn write_images(&mut self, at: usize, bytes: &[u8]) {
+        self.play(Op::Write { buffer: 6, at: at as u32, bytes: bytes.to_vec() });
+    }
+
+    /// A few bytes of a diskette changed: of a chain, an entry, or the free
+    /// count.
+    fn spoil_diskette(&mut self, drive: usize) {
+        let entries = (0..ENTRIES).take_while(|&entry| self.player.stick.entry(drive, entry)[0] != 0).count();
+        if entries == 0 {
+            return;
+        }
+        let any = self.random.below(entries);
+        let entry = self.random.pick(&[any, entries - 1]);
+        let chain = self.chain(drive, entry);
+        if chain.is_empty() || self.random.chance(400) {
+            return self.spoil_entry(drive, entry);
+        }
+        let any = self.random.pick(&chain);
+        let sector = self.random.pick(&[chain[0], chain[chain.len() - 1], any]);
+        self.spoil_sector(drive, entry, sector, 0);
+    }
+
+    /// A sector that a file of that number reads: another link, file number,
+    /// data count or byte.
+    fn spoil_sector(&mut self, drive: usize, file: usize, sector: usize, place: usize) {
+        let at = sector_at(drive, sector);
+        let entries: Vec<usize> = (0..ENTRIES).filter(|&entry| self.player.stick.entry(drive, entry)[0] != 0).collect();
+        let first = self.chain(drive, file).first().copied().unwrap_or(sector);
+        let other = if entries.is_empty() { None } else { Some(self.random.pick(&entries)) };
+        let cross = other.and_then(|entry| self.chain(drive, entry).last().copied()).unwrap_or(1);
+        let any = self.random.below(1_024);
+        match self.random.weigh(&[50, 20, 30, 10]) {
+            // The end, a ring, a cross link, links about 719.
+            0 => {
+                let next =
+                    self.random.pick(&[0, 0, sector, first, cross, LAST_SECTOR, LAST_SECTOR + 1, 1_023, 360, 361, any]);
+                self.write_images(at + LINK_AT, &link(file, next));
+            }
+            1 => {
+                let old = self.player.stick.sector(drive, sector)[LINK_AT];
+                let byte = self.random.pick(&[old ^ 4, old ^ 0x80, old.wrapping_add(4), old & 3]);
+                self.write_images(at + LINK_AT, &[byte]);
+            }
+            2 => {
+                let about = (place + self.random.below(3)).saturating_sub(1) as u8;
+                let count = self.random.pick(&[0, 0, 1, about, about, about, 125, 125, 126, 126, 127, 128, 255]);
+                self.write_images(at + DATA_COUNT_AT, &[count]);
+            }
+            _ => {
+                let byte = self.random.byte();
+                self.write_images(at + place.min(SECTOR_DATA - 1), &[byte]);
+            }
+        }
+    }
+
+    /// An entry with another flag, count, first sector or name; or the free
+    /// count, the map.
+    fn spoil_entry(&mut self, drive: usize, entry: usize) {
+        let at = entry_at(drive, entry);
+        let any = self.random.below(65_536);
+        let count = self.random.pick(&[0, 9, 10, 99, 100, 255, 256, 719, 999, 1_000, 1_001, 65_535, any]);
+        match self.random.weigh(&[40, 15, 30, 10, 15, 5]) {
+            0 => self.reflag(drive, entry),
+            1 => self.write_images(at + SECTOR_COUNT_AT, &low_high(count)),
+            2 => {
+                let sector = if self.random.chance(200) {
+                    // A bit more than a link has.
+                    self.player.stick.first_sector(drive, entry) ^ self.random.pick(&[0x0400, 0x2000, 0x8000])
+                } else {
+                    self.random.pick(&[0, LAST_SECTOR, LAST_SECTOR, 720, 720, 720, 721, 65_535, 360, 361, any])
+                };
+                self.write_images(at + FIRST_SECTOR_AT, &low_high(sector));
+            }
+            3 => {
+                let name = self.eleven();
+                self.write_images(at + NAME_AT, &name);
+            }
+            4 => self.write_images(sector_at(drive, FREE_COUNT_SECTOR) + FREE_COUNT_AT, &low_high(count)),
+            _ => {
+                let (byte, place) = (self.random.byte(), self.random.below(90));
+                self.write_images(sector_at(drive, FREE_COUNT_SECTOR) + MAP_AT + place, &[byte]);
+            }
+        }
+    }
+
+    /// An entry locked, deleted or not, or the directory's end.
+    fn reflag(&mut self, drive: usize, entry: usize) {
+        let flag = self.random.pick(&FLAGS);
+        let flag = self.random.pick(&[0, 0x42, 0x62, 0x62, 0x80, flag, flag]);
+        self.write_images(entry_at(drive, entry), &[flag]);
+    }
+
+    /// Bytes changed where some open block of D is.
+    fn meddle_with_disk(&mut self) {
+        let places = self.open_places();
+        if !places.is_empty() {
+            let (drive, place) = self.random.pick(&places);
+            self.meddle_at(drive, place);
+        }
+    }
+
+    fn meddle_at(&mut self, drive: usize, place: Place) {
+        let end = self.player.stick.next_on_disk(drive, place) == Err(END_OF_FILE);
+        match place {
+            Place::File { entry, sector, place, begun } if is_in_image(&sector) && self.random.chance(800) => {
+                let at = sector_at(drive, sector);
+                match self.random.below(4) {
+                    // Behind the last character one more, or the same sector once more.
+                    0 if end => self.write_images(at + DATA_COUNT_AT, &[(place + 1) as u8]),
+                    1 if end => self.write_images(at + LINK_AT, &link(entry, sector)),
+                    0 | 1 if begun >= LAST_SECTOR - 1 => self.write_images(at + LINK_AT, &link(entry, 0)),
+                    _ => self.spoil_sector(drive, entry, sector, place),
+                }
+            }
+            Place::File { entry, .. } => self.spoil_entry(drive, entry),
+            Place::Directory { entry, .. } => {
+                // The record that is read, or one beside it.
+                let entry = self.random.pick(&[entry, entry, entry + 1, entry.saturating_sub(1)]).min(ENTRIES - 1);
+                match self.random.below(3) {
+                    0 => {
+                        let name = self.eleven();
+                        self.write_images(entry_at(drive, entry) + NAME_AT, &name);
+                    }
+                    _ => self.spoil_entry(drive, entry),
+                }
+            }
+        }
+    }
+
+    /// A text in a file, mostly with its only EOL at its end, and behind it the
+    /// end, empty sectors, or what cannot be read; read once or several times,
+    /// to its last character or about it.
+    fn file_to_the_end(&mut self, iocb: u8, drive: usize) -> Vec<Vec<u8>> {
+        let n = self.random.pick(&[1, 2, 2, 3, 3, 10, 124, 125, 126, 250]);
+        let mut text: Vec<u8> = (0..n).map(|_| self.random.pick(b"ABCabc 0123 xyz")).collect();
+        if self.random.chance(700) {
+            text[n - 1] = EOL;
+        }
+        let few = self.random.pick(&[1, 2, SECTOR_DATA, SECTOR_DATA, SECTOR_DATA]);
+        let mut pieces: Vec<Vec<u8>> =
+            text.chunks(if n > 10 { SECTOR_DATA } else { few }).map(<[u8]>::to_vec).collect();
+        let empty = self.random.pick(&[0, 0, 0, 1, 1, 2, 5]);
+        pieces.extend(vec![Vec::new(); empty]);
+        // Empty ones before and between them, too.
+        if self.random.chance(300) {
+            let place = self.random.below(pieces.len());
+            pieces.insert(place, Vec::new());
+        }
+        let mut diskette = Diskette::new();
+        let chain = self.laid_out(&diskette, pieces);
+        // Its number is not always 0.
+        let before = self.random.pick(&[0, 0, 0, 1, 2, 63]);
+        for _ in 0..before {
+            diskette.add(DELETED, b"A       TXT", &[]);
+        }
+        let flag = self.random.pick(&[0x42, 0x42, 0x42, 0x62]);
+        let file = diskette.add(flag, b"A       TXT", &chain);
+        self.insert(drive, &diskette);
+        if self.random.chance(350) {
+            // Where the file ends, or before the empty sectors there.
+            let empty = chain.iter().rev().take_while(|(_, data)| data.is_empty()).count();
+            let place = self.random.pick(&[chain.len() - 1, (chain.len() - 1).saturating_sub(empty)]);
+            let (sector, next) = (chain[place].0, self.random.pick(&[720, 721, 1_023]));
+            match self.random.below(3) {
+                0 => self.spoil_sector(drive, file, sector, 0),
+                _ => self.write_images(sector_at(drive, sector) + LINK_AT, &link(file, next)),
+            }
+        }
+        let mut messages = Vec::new();
+        for _ in 0..1 + self.random.below(4) {
+            let name = self.random.pick::<&[u8]>(&[b"A.TXT", b"*.*", b"A*.T?T", b"A????????.TXTY"]);
+            messages.extend(self.open_disk(iocb, drive, name, R));
+            for (command, n) in self.reads_about(n) {
+                let address = self.inside(n);
+                messages.push(self.call(iocb, command, address, n));
+            }
+            messages.push(self.call(iocb, CLOSE, 0, 0));
+        }
+        messages
+    }
+
+    /// A chain that goes round, read to its 719th sector or about it. Rarely its
+    /// sectors are full: up to 89,876 ticks.
+    fn ring(&mut self, iocb: u8, drive: usize) -> Vec<Vec<u8>> {
+        let sectors = self.random.pick(&[1, 1, 1, 2, 3]);
+        let count = if self.random.chance(60) { SECTOR_DATA } else { self.random.pick(&[0, 0, 1, 1, 1, 2]) };
+        let mut diskette = Diskette::new();
+        let chain: Vec<(usize, Vec<u8>)> = (0..sectors).map(|place| (700 + place, vec![b'A'; count])).collect();
+        diskette.add(IN_USE, b"RING       ", &chain);
+        self.insert(drive, &diskette);
+        self.write_images(sector_at(drive, 699 + sectors) + LINK_AT, &link(0, 700));
+        let mut messages = self.open_disk(iocb, drive, b"R*", R);
+        let all = LAST_SECTOR * count;
+        let (command, n) = match self.random.below(6) {
+            _ if count == SECTOR_DATA => (GET_RECORD, 1 + self.random.below(700)),
+            0 => (GET_RECORD, 1 + self.random.below(700)),
+            1 => (GET_CHARACTERS, all),
+            2 => (GET_CHARACTERS, all + 1),
+            // In the 719th sector, or before it: then its link may become another.
+            3 => (GET_CHARACTERS, all.saturating_sub(self.random.below(2))),
+            _ => (GET_CHARACTERS, all.saturating_sub(1 + count + self.random.below(2))),
+        };
+        let address = self.inside(n);
+        messages.push(self.call(iocb, command, address, n));
+        for _ in 0..self.random.below(3) {
+            let n = self.random.below(4);
+            messages.push(self.call(iocb, GET_CHARACTERS, 0, n));
+        }
+        messages
+    }
+
+    /// A chain over the sectors from 1 on, as many as there are or one fewer,
+    /// with a character each or empty, and behind it the end or one more. Rarely
+    /// full.
+    fn all_sectors(&mut self, iocb: u8, drive: usize) -> Vec<Vec<u8>> {
+        let last = self.random.pick(&[LAST_SECTOR - 1, LAST_SECTOR, LAST_SECTOR]);
+        let behind = self.random.pick(&[0, 0, 0, 1, LAST_SECTOR, 720]);
+        let count = if self.random.chance(30) { SECTOR_DATA } else { self.random.pick(&[0, 1, 1, 2]) };
+        let image = chain_of_all(b"ALL        ", last, behind, count, b'A');
+        let (first, second) = image.split_at(usize::from(u16::MAX));
+        self.write_images(IMAGE * drive, first);
+        self.write_images(IMAGE * drive + first.len(), second);
+        let mut messages = self.open_disk(iocb, drive, b"ALL", R);
+        let n = (last * count + self.random.below(3)).saturating_sub(1).min(AREA);
+        let address = self.inside(n);
+        let command = self.random.pick(&[GET_CHARACTERS, GET_CHARACTERS, GET_RECORD]);
+        messages.push(self.call(iocb, command, address, n));
+        messages.push(self.call(iocb, GET_CHARACTERS, 0, 1));
+        messages
+    }
+
+    /// D open on every block that is closed, and then read by turns.
+    fn many(&mut self, closed: &[u8], drive: usize) -> Vec<Vec<u8>> {
+        let mut messages = Vec::new();
+        for other in 0..DRIVES {
+            if self.player.stick.entry(other, 0)[0] == 0 {
+                self.lay_diskette(other);
+            }
+        }
+        for &iocb in closed {
+            let drive = if self.random.chance(600) { drive } else { self.random.below(DRIVES) };
+            let (name, aux1) = (self.name_or_all(drive), self.random.pick(&[R, DIRECTORY]));
+            messages.extend(self.open_disk(iocb, drive, &name, aux1));
+        }
+        for _ in 0..2 * closed.len() {
+            let (iocb, n) = (self.random.pick(closed), self.random.below(20));
+            let (address, command) = (self.inside(n), self.random.pick(&[GET_RECORD, GET_CHARACTERS]));
+            messages.push(self.call(iocb, command, address, n));
+        }
+        messages
+    }
+
     /// In mode 8 a row and a byte up to and past the end of a smaller mode;
     /// then S in that mode, mostly cleared.
     fn smaller_errand(&mut self, iocb: u8) -> Vec<Vec<u8>> {
@@ -1259,6 +1933,11 @@ impl Maker {
         }
         message
     }
+}
+
+/// Whether a chain may have the sector.
+fn is_in_image(sector: &usize) -> bool {
+    (1..=LAST_SECTOR).contains(sector)
 }
 
 fn low_high(number: usize) -> [u8; 2] {

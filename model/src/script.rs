@@ -11,7 +11,7 @@
 //! give 0                   G
 //! give 0 x 4               G, four times
 //! press 3F                 P (hexadecimal)
-//! lend area 100            L: area, screen, paper, state, tape, or a number
+//! lend area 100            L: area, screen, paper, state, tape, images, or a number
 //! write tape 132 55 55     W: these bytes into the buffer from there on
 //! dump                     D
 //! dump tape                C
@@ -59,8 +59,9 @@ pub enum Op {
     Raw(Vec<u8>),
 }
 
-/// The names of the lent buffers 0 to 4.
-const BUFFERS: [&str; 5] = ["area", "screen", "paper", "state", "tape"];
+/// The lent buffers' numbers in a script and their names, in the order of `WHOLE`.
+pub const BUFFERS: [(u8, &str); 6] =
+    [(0, "area"), (1, "screen"), (2, "paper"), (3, "state"), (4, "tape"), (6, "images")];
 
 /// What the answers 0 to 8 mean.
 pub const ANSWERS: [&str; 9] = [
@@ -191,6 +192,9 @@ pub struct Figures {
     pub tape: BTreeMap<u8, u64>,
     /// Ticks answered 8 because the other port holds the tape.
     pub tape_waits: u64,
+    /// The same of CALLs about D, by their specification's letter where it is not good.
+    pub disk: BTreeMap<u8, u64>,
+    pub disk_waits: u64,
 }
 
 /// The statuses that a CALL about C can have.
@@ -205,6 +209,24 @@ pub const TAPE_STATUSES: [u8; 11] = [
     RECORD_CUT,
     BAD_RECORD,
     DEVICE_FULL,
+    PAST_AREA,
+];
+
+/// The statuses that a CALL about D can have.
+pub const DISK_STATUSES: [u8; 14] = [
+    SUCCESS,
+    LAST_CHARACTER,
+    ALREADY_OPEN,
+    NO_DEVICE,
+    NOT_READABLE,
+    BAD_COMMAND,
+    NOT_WRITABLE,
+    END_OF_FILE,
+    RECORD_CUT,
+    BAD_CHAIN,
+    BAD_NAME,
+    FILE_LOCKED,
+    NO_FILE,
     PAST_AREA,
 ];
 
@@ -223,6 +245,10 @@ impl Figures {
             *self.tape.entry(*status).or_default() += count;
         }
         self.tape_waits += other.tape_waits;
+        for (status, count) in &other.disk {
+            *self.disk.entry(*status).or_default() += count;
+        }
+        self.disk_waits += other.disk_waits;
     }
 }
 
@@ -274,9 +300,8 @@ impl Player {
                 output.push(answer);
             }
             Op::Lend { buffer, length } => {
-                let buffer = usize::from(buffer);
-                if buffer < WHOLE.len() {
-                    self.stick.lent[buffer] = WHOLE[buffer].min(length as usize);
+                if let Some(place) = BUFFERS.iter().position(|(number, _)| *number == buffer) {
+                    self.stick.lent[place] = WHOLE[place].min(length as usize);
                 }
             }
             Op::Write { buffer, at, ref bytes } => self.write(buffer, at as usize, bytes),
@@ -295,6 +320,7 @@ impl Player {
             1 => &mut self.stick.screen,
             2 => &mut self.stick.paper,
             4 => &mut self.stick.tape,
+            6 => &mut self.stick.images,
             _ => return,
         };
         for (cell, byte) in buffer.iter_mut().skip(at).zip(bytes) {
@@ -308,6 +334,7 @@ impl Player {
 
     fn tick(&mut self, port: u8) -> u8 {
         let tape = port < 2 && self.stick.device(usize::from(port)) == Some(Device::C);
+        let disk = port < 2 && self.stick.letter(usize::from(port)) == Some(Device::D.letter());
         let answer = self.stick.tick(port);
         self.figures.ticks += 1;
         if answer == 0 {
@@ -316,9 +343,13 @@ impl Player {
                 if tape {
                     *self.figures.tape.entry(reply[3]).or_default() += 1;
                 }
+                if disk {
+                    *self.figures.disk.entry(reply[3]).or_default() += 1;
+                }
             }
         }
         self.figures.tape_waits += u64::from(tape && answer == GROUP_HELD);
+        self.figures.disk_waits += u64::from(disk && answer == GROUP_HELD);
         self.called(answer)
     }
 
@@ -424,7 +455,8 @@ const TAKES: usize = 16;
 
 /// A buffer's name, or its number.
 fn buffer_name(buffer: u8) -> String {
-    BUFFERS.get(usize::from(buffer)).map_or(buffer.to_string(), |name| name.to_string())
+    let named = BUFFERS.iter().find(|(number, _)| *number == buffer);
+    named.map_or(buffer.to_string(), |(_, name)| name.to_string())
 }
 
 fn hexadecimal(bytes: &[u8]) -> String {
@@ -492,7 +524,7 @@ pub fn from_text(text: &str) -> Result<Vec<Op>, String> {
 fn line_bytes(words: &[&str]) -> Option<Vec<u8>> {
     let byte = |word: &str| u8::from_str_radix(word, 16).ok().filter(|_| word.len() <= 2);
     let buffer = |word: &str| {
-        let named = BUFFERS.iter().position(|name| *name == word).map(|place| place as u8);
+        let named = BUFFERS.iter().find(|(_, name)| *name == word).map(|(number, _)| *number);
         named.or_else(|| word.parse().ok())
     };
     let below_24_bits = |word: &str| word.parse().ok().filter(|number: &u32| *number < 1 << 24);

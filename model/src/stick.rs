@@ -1,5 +1,6 @@
-//! The stick as document 01 tells it: two ports, a console, a printer; and the
-//! tape of document 02's Ask 1, with Ask 7's warning before its end.
+//! The stick as document 01 tells it: two ports, a console, a printer; and of
+//! document 02 the tape of Ask 1, with Ask 7's warning before its end, and the
+//! diskettes of Ask 12.
 //!
 //! Clear before fast: messages are kept whole, and each rule stands where the
 //! paper has it. States handed in damaged are not modelled (answer 3 never
@@ -12,14 +13,20 @@ pub const SCREEN: usize = 61_440;
 /// The paper's bytes.
 pub const PAPER: usize = 4_096;
 /// The bytes of the lent state. What they mean is the stick's own: here only their number counts.
-pub const STATE: usize = 733;
+pub const STATE: usize = 973;
 /// The tape's bytes, and those of a record: $55, $55, a control byte, 128 data bytes, a checksum.
 pub const TAPE: usize = 33_000;
 pub const RECORD: usize = 132;
 pub const RECORDS: usize = TAPE / RECORD;
 pub const DATA: usize = 128;
-/// The whole lengths of the lent buffers: areas, screen, paper, state, tape.
-pub const WHOLE: [usize; 5] = [2 * AREA, SCREEN, PAPER, STATE, TAPE];
+/// "D1 to D4 .. over lent images of 720 sectors of 128 bytes": D1's image first.
+pub const DRIVES: usize = 4;
+pub const SECTORS: usize = 720;
+pub const SECTOR: usize = 128;
+pub const IMAGE: usize = SECTORS * SECTOR;
+pub const IMAGES: usize = DRIVES * IMAGE;
+/// The whole lengths of the lent buffers: areas, screen, paper, state, tape, images.
+pub const WHOLE: [usize; 6] = [2 * AREA, SCREEN, PAPER, STATE, TAPE, IMAGES];
 
 /// Control bytes: "$FC is full; $FA is partial ..; $FE is end of file".
 pub const FULL: u8 = 0xFC;
@@ -30,6 +37,33 @@ pub const CONTROL_AT: usize = 2;
 pub const DATA_AT: usize = 3;
 pub const COUNT_AT: usize = 130;
 pub const CHECKSUM_AT: usize = 131;
+
+/// The highest sector of a chain, and its greatest number of sectors; the sector of the free count, and the directory's first.
+pub const LAST_SECTOR: usize = 719;
+pub const FREE_COUNT_SECTOR: usize = 360;
+pub const DIRECTORY_SECTOR: usize = 361;
+/// Where sector 360 has the free count, and the map: a bit a sector.
+pub const FREE_COUNT_AT: usize = 3;
+pub const MAP_AT: usize = 10;
+/// "64 entries of 16 bytes: flag .., sector count (2), first sector (2), name (8), extension (3)".
+pub const ENTRIES: usize = 64;
+pub const ENTRY: usize = 16;
+pub const SECTOR_COUNT_AT: usize = 1;
+pub const FIRST_SECTOR_AT: usize = 3;
+pub const NAME_AT: usize = 5;
+pub const NAME: usize = 8;
+pub const EXTENSION: usize = 3;
+/// Flags: "$80 deleted, $40 without it in use, $20 locked".
+pub const DELETED: u8 = 0x80;
+pub const IN_USE: u8 = 0x40;
+pub const LOCKED: u8 = 0x20;
+/// A file sector's data, then file number and next sector, then the data count.
+pub const SECTOR_DATA: usize = 125;
+pub const LINK_AT: usize = 125;
+pub const DATA_COUNT_AT: usize = 127;
+/// What the directory's listing has behind the 64 entries: the free-sector record, then the end.
+pub const FREE_RECORD: usize = ENTRIES;
+pub const LISTING_END: usize = ENTRIES + 1;
 
 /// The end of a record.
 pub const EOL: u8 = 0x9B;
@@ -48,7 +82,7 @@ pub const GROUP_HELD: u8 = 8;
 
 /// Statuses of the replies.
 pub const SUCCESS: u8 = 0x01;
-/// "A tape read after which the next would give $88 should come with $03."
+/// "A tape read after which the next would give $88 should come with $03"; so from diskettes.
 pub const LAST_CHARACTER: u8 = 0x03;
 pub const ALREADY_OPEN: u8 = 0x81;
 pub const NO_DEVICE: u8 = 0x82;
@@ -65,6 +99,11 @@ pub const BAD_RECORD: u8 = 0x8F;
 pub const DEVICE_FULL: u8 = 0x90;
 pub const SCREEN_MODE: u8 = 0x91;
 pub const UNKNOWN_TAG: u8 = 0x92;
+/// "A link above 719, a wrong file number, a data count above 125 or a 720th sector".
+pub const BAD_CHAIN: u8 = 0xA4;
+pub const BAD_NAME: u8 = 0xA5;
+pub const FILE_LOCKED: u8 = 0xA7;
+pub const NO_FILE: u8 = 0xAA;
 pub const PAST_AREA: u8 = 0xB0;
 
 /// Commands of CALL.
@@ -82,6 +121,8 @@ pub const W: u8 = 8;
 pub const FORCED: u8 = 1;
 pub const SPLIT: u8 = 16;
 pub const KEEP: u8 = 32;
+/// "OPEN DIRECTORY (AUX1 = $06)".
+pub const DIRECTORY: u8 = 6;
 
 /// E's margins and last row.
 const LEFT: usize = 2;
@@ -146,6 +187,7 @@ pub enum Device {
     K,
     P,
     C,
+    D,
 }
 
 /// What a request holds while it runs.
@@ -154,6 +196,7 @@ pub enum Group {
     Console,
     Printer,
     Tape,
+    Disk,
 }
 
 impl Device {
@@ -164,6 +207,7 @@ impl Device {
             b'K' => Some(Device::K),
             b'P' => Some(Device::P),
             b'C' => Some(Device::C),
+            b'D' => Some(Device::D),
             _ => None,
         }
     }
@@ -175,15 +219,26 @@ impl Device {
             Device::K => b'K',
             Device::P => b'P',
             Device::C => b'C',
+            Device::D => b'D',
         }
     }
 
-    /// E, S and K share the console; P is the printer's only device, C the tape's.
+    /// The highest digit of its specification: "D1 to D4 (above: $82)".
+    fn last_digit(self) -> u8 {
+        match self {
+            Device::D => b'4',
+            _ => b'8',
+        }
+    }
+
+    /// E, S and K share the console; P is the printer's only device, C the
+    /// tape's; D1 to D4 are one group.
     pub fn group(self) -> Group {
         match self {
             Device::E | Device::S | Device::K => Group::Console,
             Device::P => Group::Printer,
             Device::C => Group::Tape,
+            Device::D => Group::Disk,
         }
     }
 }
@@ -194,6 +249,13 @@ pub struct File {
     pub device: Device,
     pub number: u8,
     pub aux1: u8,
+}
+
+impl File {
+    /// The place of D's image among the four.
+    pub fn drive(self) -> usize {
+        usize::from(self.number) - 1
+    }
 }
 
 /// The nine bytes of a CALL.
@@ -272,12 +334,14 @@ impl Phase {
 #[derive(Clone, Debug, PartialEq, Eq)]
 pub struct Port {
     pub blocks: [Option<File>; 8],
+    /// Where the blocks that have D open are: "each block has its own place".
+    pub places: [Option<Place>; 8],
     pub phase: Phase,
 }
 
 impl Port {
     fn fresh() -> Port {
-        Port { blocks: [None; 8], phase: Phase::Gathering(Vec::new()) }
+        Port { blocks: [None; 8], places: [None; 8], phase: Phase::Gathering(Vec::new()) }
     }
 }
 
@@ -296,7 +360,8 @@ pub struct Console {
 }
 
 /// A handler's answer to a read. "Every handler's character answer gains this
-/// outcome; other devices never give it": only the tape has a last character.
+/// outcome; other devices never give it": only tape and diskettes have a last
+/// character.
 #[derive(Clone, Copy, Debug, PartialEq, Eq)]
 pub enum Got {
     Character(u8),
@@ -391,18 +456,68 @@ pub fn characters(record: &[u8]) -> Result<&[u8], u8> {
     }
 }
 
+/// What a name of D asks for: eleven bytes, ? for any.
+pub type Pattern = [u8; NAME + EXTENSION];
+
+/// Where a block of D reads on.
+#[derive(Clone, Copy, Debug, PartialEq, Eq)]
+pub enum Place {
+    /// In a file: its number, which is its entry's; the sector, the place in
+    /// it, and how many sectors it has begun.
+    File { entry: usize, sector: usize, place: usize, begun: usize },
+    /// In the directory's listing: what is listed, the entry and the place in
+    /// its record. At a record's first character the entry is where the looking
+    /// for the next match begins.
+    Directory { pattern: Pattern, entry: usize, place: usize },
+}
+
+/// Whether an entry with this flag is a file, locked or not.
+pub fn is_in_use(flag: u8) -> bool {
+    flag & IN_USE != 0 && flag & DELETED == 0
+}
+
+/// Whether a name of eleven bytes is asked for: ? matches any byte, the blank
+/// too, other bytes match themselves.
+pub fn matches(pattern: &Pattern, name: &[u8]) -> bool {
+    pattern.iter().zip(name).all(|(asked, byte)| *asked == b'?' || asked == byte)
+}
+
+/// A file sector's link: "byte 125 is the file number times four plus the next
+/// sector's two high bits, 126 its low eight"; 0 is none.
+pub fn next_sector(sector: &[u8]) -> usize {
+    256 * usize::from(sector[LINK_AT] % 4) + usize::from(sector[LINK_AT + 1])
+}
+
+/// "Counts as three decimal digits modulo 1,000."
+fn digits(count: usize) -> String {
+    format!("{:03}", count % 1_000)
+}
+
+/// An entry's record in the directory's listing.
+pub fn listed(entry: &[u8]) -> Vec<u8> {
+    let lock = if entry[0] & LOCKED != 0 { b"* " } else { b"  " };
+    let count = digits(word(&entry[SECTOR_COUNT_AT..]));
+    [lock, &entry[NAME_AT..ENTRY], b" ", count.as_bytes(), &[EOL]].concat()
+}
+
+/// "The free-sector record (count, " FREE SECTORS", EOL)".
+pub fn free_record(count: usize) -> Vec<u8> {
+    [digits(count).as_bytes(), b" FREE SECTORS", &[EOL]].concat()
+}
+
 #[derive(Clone, Debug, PartialEq, Eq)]
 pub struct Stick {
     pub area: Vec<u8>,
     pub screen: Vec<u8>,
     pub paper: Vec<u8>,
     pub tape: Vec<u8>,
+    pub images: Vec<u8>,
     pub used: usize,
     pub console: Console,
     pub cassette: Cassette,
     pub ports: [Port; 2],
-    /// The lengths at which area, screen, paper, state and tape are lent now.
-    pub lent: [usize; 5],
+    /// The lengths at which area, screen, paper, state, tape and images are lent now.
+    pub lent: [usize; 6],
 }
 
 /// A two-byte number, low byte first.
@@ -424,6 +539,7 @@ impl Stick {
             screen: vec![0; SCREEN],
             paper: vec![0; PAPER],
             tape: vec![0; TAPE],
+            images: vec![0; IMAGES],
             used: 0,
             console: Console {
                 mode: 0,
@@ -446,8 +562,8 @@ impl Stick {
 
     // ---- the five calls ----
 
-    /// Fresh start. The bytes of paper and tape stay as they are lent: what is
-    /// pending is not written.
+    /// Fresh start. The bytes of paper, tape and images stay as they are lent:
+    /// what is pending is not written.
     pub fn fresh(&mut self) -> u8 {
         if self.lent != WHOLE {
             return LENT_LENGTH;
@@ -553,16 +669,33 @@ impl Stick {
     /// The device that the port's CALL is about, ready or running: that of its
     /// block, or of the specification by which a closed block is opened.
     pub fn device(&self, port: usize) -> Option<Device> {
+        match self.about(port)? {
+            About::Block(file) => Some(file.device),
+            About::Specification(address) => self.specification(port, address).ok().map(|named| named.file.device),
+        }
+    }
+
+    /// The same by the specification's letter alone, whether it goes on well or
+    /// not.
+    pub fn letter(&self, port: usize) -> Option<u8> {
+        match self.about(port)? {
+            About::Block(file) => Some(file.device.letter()),
+            About::Specification(address) => self.area[port * AREA..][..AREA].get(address).copied(),
+        }
+    }
+
+    /// What the port's CALL is about, ready or running, if it is about a device.
+    fn about(&self, port: usize) -> Option<About> {
         let call = match &self.ports[port].phase {
-            Phase::Running(run) => return Some(run.file.device),
+            Phase::Running(run) => return Some(About::Block(run.file)),
             Phase::Ready(message) if message[..3] == [0x10, 9, 0] => Call::of(&message[3..]),
             _ => return None,
         };
         match self.ports[port].blocks.get(usize::from(call.iocb))? {
             _ if call.is_bad() => None,
-            Some(file) => Some(file.device),
+            Some(file) => Some(About::Block(*file)),
             None if call.reads() || call.writes() || call.command == CLOSE => None,
-            None => self.specification(port, call.address).ok().map(|(device, _)| device),
+            None => Some(About::Specification(call.address)),
         }
     }
 
@@ -619,8 +752,8 @@ impl Stick {
 
     /// The start tick of a CALL: all but transfers.
     fn start_call(&mut self, port: usize, call: Call) -> u8 {
-        let file = match self.judge(port, &call) {
-            Ok(Some(file)) => file,
+        let Named { file, name } = match self.judge(port, &call) {
+            Ok(Some(named)) => named,
             Ok(None) => {
                 self.reply_call(port, SUCCESS, 0, call.a);
                 return DONE;
@@ -640,14 +773,14 @@ impl Stick {
             }
             return DONE;
         }
-        let status = self.without_transfer(port, &call, file).err().unwrap_or(SUCCESS);
+        let status = self.without_transfer(port, &call, file, name).err().unwrap_or(SUCCESS);
         self.reply_call(port, status, 0, call.a);
         DONE
     }
 
     /// The checks before the group: the file that the CALL is about, `None`
     /// for CLOSE of a closed block, or the status that refuses it.
-    fn judge(&self, port: usize, call: &Call) -> Result<Option<File>, u8> {
+    fn judge(&self, port: usize, call: &Call) -> Result<Option<Named>, u8> {
         if call.iocb > 7 {
             return Err(BAD_IOCB);
         }
@@ -655,8 +788,9 @@ impl Stick {
             return Err(BAD_COMMAND);
         }
         let block = self.ports[port].blocks[usize::from(call.iocb)];
+        let open = block.map(|file| Named { file, name: Name::None });
         if call.command == CLOSE {
-            return Ok(block);
+            return Ok(open);
         }
         if call.reads() || call.writes() {
             let file = block.ok_or(NOT_OPEN)?;
@@ -669,21 +803,22 @@ impl Stick {
             if call.length > 0 && call.address + call.length > AREA {
                 return Err(PAST_AREA);
             }
-            return Ok(Some(file));
+            return Ok(open);
         }
         // OPEN, GET STATUS and SPECIAL
         if call.command == OPEN && block.is_some() {
             return Err(ALREADY_OPEN);
         }
         if block.is_some() {
-            return Ok(block);
+            return Ok(open);
         }
-        let (device, number) = self.specification(port, call.address)?;
-        Ok(Some(File { device, number, aux1: call.aux1 }))
+        let mut named = self.specification(port, call.address)?;
+        named.file.aux1 = call.aux1;
+        Ok(Some(named))
     }
 
-    /// Device and number of the specification at an address.
-    fn specification(&self, port: usize, address: usize) -> Result<(Device, u8), u8> {
+    /// What the specification at an address names; AUX1 is not its part.
+    fn specification(&self, port: usize, address: usize) -> Result<Named, u8> {
         let byte = |at: usize| {
             if at < AREA {
                 Ok(self.area[port * AREA + at])
@@ -692,37 +827,44 @@ impl Stick {
             }
         };
         let device = Device::of_letter(byte(address)?).ok_or(NO_DEVICE)?;
-        match byte(address + 1)? {
-            b':' => Ok((device, 1)),
-            digit @ b'1'..=b'8' => match byte(address + 2)? {
-                b':' => Ok((device, digit - b'0')),
-                _ => Err(NO_DEVICE),
+        let (number, behind) = match byte(address + 1)? {
+            b':' => (1, address + 2),
+            digit if (b'1'..=device.last_digit()).contains(&digit) => match byte(address + 2)? {
+                b':' => (digit - b'0', address + 3),
+                _ => return Err(NO_DEVICE),
             },
-            _ => Err(NO_DEVICE),
-        }
+            _ => return Err(NO_DEVICE),
+        };
+        let name = match device {
+            Device::D => name(byte, behind)?,
+            _ => Name::None,
+        };
+        Ok(Named { file: File { device, number, aux1: 0 }, name })
     }
 
     /// OPEN, CLOSE, GET STATUS and SPECIAL, with the group held.
-    fn without_transfer(&mut self, port: usize, call: &Call, file: File) -> Result<(), u8> {
+    fn without_transfer(&mut self, port: usize, call: &Call, file: File, name: Name) -> Result<(), u8> {
         let iocb = usize::from(call.iocb);
         match call.command {
             OPEN => {
-                self.open(file, call.aux2)?;
+                self.ports[port].places[iocb] = self.open(file, name, call.aux2)?;
                 self.ports[port].blocks[iocb] = Some(file);
                 Ok(())
             }
             CLOSE => {
                 self.close(file.device);
                 self.ports[port].blocks[iocb] = None;
+                self.ports[port].places[iocb] = None;
                 Ok(())
             }
             command => {
+                let mut place = self.ports[port].places[iocb];
                 if self.ports[port].blocks[iocb].is_none() {
-                    self.open(file, call.aux2)?;
+                    place = self.open(file, name, call.aux2)?;
                     self.close(file.device);
                 }
                 if command == GET_STATUS {
-                    Ok(())
+                    self.status(file, place)
                 } else {
                     Err(BAD_COMMAND)
                 }
@@ -745,7 +887,7 @@ impl Stick {
         let Call { length: n, address, a, .. } = run.call;
         let place = port * AREA + address + run.count;
         let end = if run.call.reads() {
-            match self.get(run.file.device).with_status() {
+            match self.get(port, &run).with_status() {
                 Err(status) => Some((status, a)),
                 Ok((character, status)) if n == 0 => Some((status, character)),
                 // $03 "is below $80, so the character is stored and counted"
@@ -781,40 +923,45 @@ impl Stick {
 
     // ---- the devices ----
 
-    /// A device's open: AUX1, mode, and what it does to the device.
-    fn open(&mut self, file: File, aux2: u8) -> Result<(), u8> {
+    /// A device's open: AUX1, mode, name, and what it does to the device. Where
+    /// a block of D begins to read.
+    fn open(&mut self, file: File, name: Name, aux2: u8) -> Result<Option<Place>, u8> {
         let bit = |bits: u8| file.aux1 & bits != 0;
         match file.device {
-            Device::K if bit(W) => Err(BAD_COMMAND),
-            Device::P if bit(R) => Err(BAD_COMMAND),
-            Device::E if bit(R) && !bit(FORCED) => Err(BAD_COMMAND),
-            Device::S if bit(SPLIT) || !(3..=8).contains(&aux2) => Err(SCREEN_MODE),
-            Device::C if bit(R) && bit(W) => Err(BAD_COMMAND),
-            Device::C if self.cassette.mark != Mark::Closed => Err(ALREADY_OPEN),
-            Device::K | Device::P => Ok(()),
-            Device::E => {
-                self.open_editor();
-                Ok(())
-            }
-            Device::S => {
-                self.open_screen(aux2, bit(KEEP));
-                Ok(())
-            }
+            Device::K if bit(W) => return Err(BAD_COMMAND),
+            Device::P if bit(R) => return Err(BAD_COMMAND),
+            Device::E if bit(R) && !bit(FORCED) => return Err(BAD_COMMAND),
+            Device::S if bit(SPLIT) || !(3..=8).contains(&aux2) => return Err(SCREEN_MODE),
+            Device::C if bit(R) && bit(W) => return Err(BAD_COMMAND),
+            Device::C if self.cassette.mark != Mark::Closed => return Err(ALREADY_OPEN),
+            Device::D if bit(W) => return Err(BAD_COMMAND),
+            Device::K | Device::P => {}
+            Device::E => self.open_editor(),
+            Device::S => self.open_screen(aux2, bit(KEEP)),
             Device::C => {
                 self.cassette = Cassette::at_the_beginning(match (bit(R), bit(W)) {
                     (true, _) => Mark::Reading,
                     (_, true) => Mark::Writing,
                     _ => Mark::Neither,
-                });
-                Ok(())
+                })
             }
+            Device::D => return self.open_disk(file, name).map(Some),
         }
+        Ok(None)
     }
 
     /// A device's close; only the tape's does something.
     fn close(&mut self, device: Device) {
         if device == Device::C {
             self.close_tape();
+        }
+    }
+
+    /// A device's status; only that of a file on D is not always $01.
+    fn status(&self, file: File, place: Option<Place>) -> Result<(), u8> {
+        match place {
+            Some(Place::File { entry, .. }) => self.file_status(file.drive(), entry),
+            _ => Ok(()),
         }
     }
 
@@ -835,13 +982,14 @@ impl Stick {
         }
     }
 
-    fn get(&mut self, device: Device) -> Got {
-        match device {
+    fn get(&mut self, port: usize, run: &Run) -> Got {
+        match run.file.device {
             Device::E => self.editor_get(),
             Device::S => self.screen_get(),
             Device::K => self.key_get(),
             Device::P => unreachable!("P offers no R"),
             Device::C => self.tape_get(),
+            Device::D => self.disk_get(port, run),
         }
     }
 
@@ -858,6 +1006,7 @@ impl Stick {
                 self.used += 1;
             }
             Device::C => return self.tape_put(byte),
+            Device::D => unreachable!("D offers no W"),
         }
         Ok(())
     }
@@ -1067,6 +1216,186 @@ impl Stick {
         let from = RECORD * self.cassette.record;
         self.tape[from..from + RECORD].copy_from_slice(&bytes);
         self.cassette.record += 1;
+    }
+
+    // D
+
+    /// A sector of a drive's image: they count from 1 on.
+    pub fn sector(&self, drive: usize, sector: usize) -> &[u8] {
+        &self.images[IMAGE * drive + SECTOR * (sector - 1)..][..SECTOR]
+    }
+
+    /// An entry of a drive's directory.
+    pub fn entry(&self, drive: usize, entry: usize) -> &[u8] {
+        &self.images[IMAGE * drive + SECTOR * (DIRECTORY_SECTOR - 1) + ENTRY * entry..][..ENTRY]
+    }
+
+    /// The first sector of an entry's file; 0 is none.
+    pub fn first_sector(&self, drive: usize, entry: usize) -> usize {
+        word(&self.entry(drive, entry)[FIRST_SECTOR_AT..])
+    }
+
+    /// The first match from an entry on. A flag of 0 "ends the directory"; other
+    /// entries that are not in use are passed over.
+    pub fn find(&self, drive: usize, pattern: &Pattern, from: usize) -> Option<usize> {
+        let entries = (from..ENTRIES).map(|entry| (entry, self.entry(drive, entry)));
+        let mut used = entries.take_while(|(_, bytes)| bytes[0] != 0).filter(|(_, bytes)| is_in_use(bytes[0]));
+        used.find(|(_, bytes)| matches(pattern, &bytes[NAME_AT..])).map(|(entry, _)| entry)
+    }
+
+    /// $A5, then the directory, or "the first match opens, none is $AA".
+    fn open_disk(&self, file: File, name: Name) -> Result<Place, u8> {
+        let Name::Pattern(pattern) = name else {
+            return Err(BAD_NAME);
+        };
+        if file.aux1 == DIRECTORY {
+            return Ok(Place::Directory { pattern, entry: 0, place: 0 });
+        }
+        let entry = self.find(file.drive(), &pattern, 0).ok_or(NO_FILE)?;
+        Ok(Place::File { entry, sector: self.first_sector(file.drive(), entry), place: 0, begun: 1 })
+    }
+
+    /// The status of a file's entry as it lies.
+    fn file_status(&self, drive: usize, entry: usize) -> Result<(), u8> {
+        match self.entry(drive, entry)[0] {
+            flag if !is_in_use(flag) => Err(NO_FILE),
+            flag if flag & LOCKED != 0 => Err(FILE_LOCKED),
+            _ => Ok(()),
+        }
+    }
+
+    /// The next character; a refusal moves nothing. Whether it is the last, the
+    /// image says as it lies after the read.
+    fn disk_get(&mut self, port: usize, run: &Run) -> Got {
+        let (drive, iocb) = (run.file.drive(), usize::from(run.call.iocb));
+        let place = self.ports[port].places[iocb].expect("a block of D has a place");
+        match self.next_on_disk(drive, place) {
+            Ok((character, behind)) => {
+                self.ports[port].places[iocb] = Some(behind);
+                match self.next_on_disk(drive, behind) {
+                    Err(END_OF_FILE) => Got::Last(character),
+                    _ => Got::Character(character),
+                }
+            }
+            Err(status) => Got::Refusal(status),
+        }
+    }
+
+    /// What a read would give: a character, with the place behind it, or a
+    /// refusal. The image is judged as it lies.
+    pub fn next_on_disk(&self, drive: usize, place: Place) -> Result<(u8, Place), u8> {
+        match place {
+            Place::File { entry, sector, place, begun } => self.next_in_file(drive, entry, sector, place, begun),
+            Place::Directory { pattern, entry, place } => self.next_in_directory(drive, pattern, entry, place),
+        }
+    }
+
+    /// Of a file: the byte at the place, or through the link, over empty sectors
+    /// too, the first of a later sector.
+    fn next_in_file(
+        &self,
+        drive: usize,
+        entry: usize,
+        mut sector: usize,
+        mut place: usize,
+        mut begun: usize,
+    ) -> Result<(u8, Place), u8> {
+        loop {
+            if sector == 0 {
+                return Err(END_OF_FILE);
+            }
+            if sector > LAST_SECTOR || begun > LAST_SECTOR {
+                return Err(BAD_CHAIN);
+            }
+            let bytes = self.sector(drive, sector);
+            let (file, count) = (usize::from(bytes[LINK_AT] / 4), usize::from(bytes[DATA_COUNT_AT]));
+            if file != entry || count > SECTOR_DATA {
+                return Err(BAD_CHAIN);
+            }
+            if place < count {
+                return Ok((bytes[place], Place::File { entry, sector, place: place + 1, begun }));
+            }
+            sector = next_sector(bytes);
+            place = 0;
+            begun += 1;
+        }
+    }
+
+    /// Of the directory: "every match once in directory order and then the
+    /// free-sector record". A record's first character looks for the match.
+    fn next_in_directory(
+        &self,
+        drive: usize,
+        pattern: Pattern,
+        mut entry: usize,
+        place: usize,
+    ) -> Result<(u8, Place), u8> {
+        if place == 0 && entry < ENTRIES {
+            entry = self.find(drive, &pattern, entry).unwrap_or(FREE_RECORD);
+        }
+        let record = match entry {
+            LISTING_END => return Err(END_OF_FILE),
+            FREE_RECORD => free_record(word(&self.sector(drive, FREE_COUNT_SECTOR)[FREE_COUNT_AT..])),
+            _ => listed(self.entry(drive, entry)),
+        };
+        let behind = if place + 1 < record.len() { (entry, place + 1) } else { (entry + 1, 0) };
+        Ok((record[place], Place::Directory { pattern, entry: behind.0, place: behind.1 }))
+    }
+}
+
+/// What a CALL is about: its block's file, or a specification at an address.
+enum About {
+    Block(File),
+    Specification(usize),
+}
+
+/// A file, and what is asked for on it.
+struct Named {
+    file: File,
+    name: Name,
+}
+
+/// What stands behind the colon.
+enum Name {
+    /// Of other devices nothing is read; of an open block neither.
+    None,
+    /// A byte that no name of D may have.
+    Bad,
+    Pattern(Pattern),
+}
+
+/// The pattern of a name alone, if it is a good one.
+pub fn pattern(text: &[u8]) -> Option<Pattern> {
+    match name(|at| Ok(text.get(at).copied().unwrap_or(EOL)), 0) {
+        Ok(Name::Pattern(pattern)) => Some(pattern),
+        _ => None,
+    }
+}
+
+/// D's name, read up to its end, EOL or blank; a bad byte ends the looking. "*
+/// and ? (a byte outside A-Z, 0-9, these, one dot and the end ..: $A5 ..; past
+/// eight or three, ignored)".
+fn name(byte: impl Fn(usize) -> Result<u8, u8>, from: usize) -> Result<Name, u8> {
+    let mut pattern = [b' '; NAME + EXTENSION];
+    let (mut place, mut end) = (0, NAME);
+    let mut at = from;
+    loop {
+        match byte(at)? {
+            EOL | b' ' => return Ok(Name::Pattern(pattern)),
+            b'.' if end == NAME => (place, end) = (NAME, NAME + EXTENSION),
+            b'*' => {
+                pattern[place..end].fill(b'?');
+                place = end;
+            }
+            character @ (b'A'..=b'Z' | b'0'..=b'9' | b'?') => {
+                if place < end {
+                    pattern[place] = character;
+                    place += 1;
+                }
+            }
+            _ => return Ok(Name::Bad),
+        }
+        at += 1;
     }
 }
 

@@ -1,8 +1,9 @@
 //! The random conversations come to the paper's boundaries: each of those below is reached at least once in the scripts that
 //! `./test` compares.
 
+use model::diskette::{is_reserved, link, sector_at, Diskette};
 use model::random::{call, conversation, fetch, field, load};
-use model::script::{Figures, Op, Player, TAPE_STATUSES};
+use model::script::{Figures, Op, Player, DISK_STATUSES, TAPE_STATUSES};
 use model::stick::*;
 use std::collections::BTreeMap;
 
@@ -20,9 +21,10 @@ const TRANSFERS: [(u8, &str); 4] = [
     (PUT_CHARACTERS, "PUT CHARACTERS"),
 ];
 /// Each device's letter and the AUX1 with all that it offers.
-const OFFERED: [(u8, u8); 6] = [(b'E', R | W | FORCED), (b'S', R | W), (b'K', R), (b'P', W), (b'C', R), (b'C', W)];
+const OFFERED: [(u8, u8); 8] =
+    [(b'E', R | W | FORCED), (b'S', R | W), (b'K', R), (b'P', W), (b'C', R), (b'C', W), (b'D', R), (b'D', DIRECTORY)];
 /// The buffers that `W` writes, with their lengths.
-const WRITTEN: [(u8, usize); 4] = [(0, 2 * AREA), (1, SCREEN), (2, PAPER), (4, TAPE)];
+const WRITTEN: [(u8, usize); 5] = [(0, 2 * AREA), (1, SCREEN), (2, PAPER), (4, TAPE), (6, IMAGES)];
 
 /// The names of all boundaries.
 fn boundaries() -> Vec<String> {
@@ -118,14 +120,16 @@ fn boundaries() -> Vec<String> {
             add(format!("P, {way} at {used}"));
         }
     }
-    for device in ["E", "S", "K", "C"] {
+    for device in ["E", "S", "K", "C", "D"] {
         add(format!("{device}, a read of length 0"));
     }
-    for device in ["S", "K", "P", "C"] {
+    for device in ["S", "K", "P", "C", "D"] {
         add(format!("{device}, a refused character of length 0"));
     }
     all.extend(tape_boundaries());
     all.extend(warning_boundaries());
+    all.extend(disk_boundaries());
+    all.extend(file_boundaries());
     all
 }
 
@@ -152,9 +156,11 @@ fn tape_boundaries() -> Vec<String> {
     for what in ["fresh start, tape held", "a dump with an open block", "a key taken, tape held"] {
         add(format!("C, {what}"));
     }
-    for held in ["Console", "Printer"] {
-        add(format!("Tape starts, {held} held"));
-        add(format!("{held} starts, Tape held"));
+    for (group, held) in
+        [("Tape", "Console"), ("Tape", "Printer"), ("Disk", "Console"), ("Disk", "Printer"), ("Disk", "Tape")]
+    {
+        add(format!("{group} starts, {held} held"));
+        add(format!("{held} starts, {group} held"));
     }
     for way in ["characters", "record", "added EOL", "A"] {
         for pending in [0, 126, 127] {
@@ -207,6 +213,7 @@ fn tape_boundaries() -> Vec<String> {
     }
     for call in ["fresh", "take", "tick", "give", "press"] {
         add(format!("tape lent cut, {call}"));
+        add(format!("images lent cut, {call}"));
     }
     for (buffer, _) in WRITTEN {
         for what in ["up to its end", "over its end", "behind its end"] {
@@ -263,6 +270,196 @@ fn warning_boundaries() -> Vec<String> {
     all
 }
 
+/// The names of the boundaries of D's specifications, blocks and directories.
+fn disk_boundaries() -> Vec<String> {
+    let mut all = Vec::new();
+    let mut add = |name: String| all.push(name);
+    for (command, statuses) in [
+        ("OPEN", &[0x01, 0x82, 0x84, 0xA5, 0xAA, 0xB0][..]),
+        ("GET STATUS", &[0x01, 0x82, 0x84, 0xA5, 0xA7, 0xAA, 0xB0]),
+        ("SPECIAL", &[0x82, 0x84, 0xA5, 0xAA, 0xB0]),
+    ] {
+        for status in statuses {
+            add(format!("D, {command} gives {status:02X}"));
+        }
+        for what in [
+            "of the directory",
+            "of the directory, no match",
+            "with W and a bad name",
+            "with neither bit",
+            "of a locked file",
+            "on a block that has a file open",
+            "on a block that has the directory open",
+            "answered 8",
+            "answered 8, on another drive",
+        ] {
+            add(format!("D, {command} {what}"));
+        }
+    }
+    for status in [0x01, 0xA7, 0xAA] {
+        add(format!("D, GET STATUS of an open file gives {status:02X}"));
+    }
+    for what in ["a file", "the directory", "neither"] {
+        add(format!("D, GET on a block that has {what} open"));
+        add(format!("D, PUT on a block that has {what} open"));
+        add(format!("D, CLOSE of {what}"));
+    }
+    for what in [
+        "fresh start with an open block",
+        "fresh start, disk held",
+        "a dump with an open block",
+        "a key taken, disk held",
+        "all blocks of a port",
+        "both ports",
+        "all drives at once",
+        "two blocks in one file",
+        "the specification overwritten, the directory read on",
+    ] {
+        add(format!("D, {what}"));
+    }
+    for digit in ["none", "1", "2", "3", "4", "5", "8", "0", "9"] {
+        add(format!("D, digit {digit}"));
+    }
+    for what in [
+        "of 8",
+        "past 8",
+        "* past 8",
+        "a byte behind *",
+        "of 3 behind the dot",
+        "past 3",
+        "* past 3",
+        "empty",
+        "a dot alone",
+        "without a dot",
+        "with an empty extension",
+        "with an empty primary",
+        "ended by a blank",
+        "ended by an EOL",
+        "ended by the area's last byte",
+        "? for a blank",
+        "? past the name's end",
+        "* for a name's rest",
+        "* for no more",
+        "bad, its first byte",
+        "bad behind the eighth",
+        "bad behind the third",
+        "bad behind *",
+        "bad, a second dot",
+        "bad, the area's last byte",
+    ] {
+        add(format!("D, name, {what}"));
+    }
+    for what in ["letter", "digit", "colon", "name", "eighth", "dot", "third"] {
+        add(format!("D, the area ends behind the {what}"));
+    }
+    add("D, the area ends behind a bad digit".to_string());
+    for what in [
+        "match in entry 0",
+        "match in entry 63",
+        "none in 64 entries",
+        "none before the end",
+        "a match behind the end",
+        "a deleted match",
+        "a deleted match before another",
+        "an entry neither in use nor deleted that matches",
+        "a second match",
+    ] {
+        add(format!("D, directory, {what}"));
+    }
+    for what in [
+        "first character",
+        "first character, locked",
+        "EOL",
+        "EOL of entry 63",
+        "count from 1,000 on",
+        "count below 10",
+        "a deleted entry passed over",
+        "an entry of another name passed over",
+        "the free record, no match before it",
+        "the free record behind the last match",
+        "the free record behind entry 63",
+        "the free record's EOL",
+        "the free count from 1,000 on",
+        "the free count not that of the map",
+        "88 behind it",
+        "an entry that is not in use any more",
+        "an entry of another name now",
+        "a record cut",
+        "a record that just fits",
+        "all and no more",
+        "a byte that no name has",
+    ] {
+        add(format!("D, listing, {what}"));
+    }
+    all
+}
+
+/// What comes behind a character of a file.
+const BEHIND_FILE: [&str; 5] =
+    ["the end", "empty sectors and the end", "a bad sector", "empty sectors and a bad one", "a character"];
+
+/// The names of the boundaries of D's files.
+fn file_boundaries() -> Vec<String> {
+    let mut all = Vec::new();
+    for way in WAYS {
+        all.extend(BEHIND_FILE.map(|behind| format!("D, {way}, then {behind}")));
+    }
+    let mut add = |name: String| all.push(name);
+    for what in ["first", "link"] {
+        for sector in ["0", "719", "720", "above 720", "reserved"] {
+            add(format!("D, {what} {sector}"));
+        }
+    }
+    add("D, first above 1,023, its low bits those of a sector of the file".to_string());
+    for count in [1, 2, 124, 125] {
+        add(format!("D, the last character of {count} in a sector"));
+    }
+    for count in [126, 127, 128, 255] {
+        add(format!("D, A4, count {count}"));
+    }
+    for what in [
+        "A4, file number",
+        "A4, file number, all other bits",
+        "A4, a 720th sector",
+        "A4, a 720th sector, all empty",
+        "A4, above 719",
+        "A4 at the first sector",
+        "A4 in the middle of a sector",
+        "A4, and A4 again",
+        "A4, then read on",
+        "A4 while a record is dropped",
+        "88 at the first sector",
+        "88 behind empty sectors",
+        "88 in the 719th sector",
+        "88, and 88 again",
+        "88, then read on",
+        "88 while a record is dropped",
+        "file number 63",
+        "a character in the 718th sector",
+        "a character in the 719th sector",
+        "the last of all",
+        "a character over a link",
+        "a character over empty sectors",
+        "a character over a link to the same sector",
+        "a character over a link back",
+        "count fallen to the place",
+        "count fallen below the place",
+        "count grown behind the last",
+        "link changed behind the last",
+        "the last character, all of the request",
+        "the last character at the area's end",
+        "the last character of the free record",
+        "a character behind the last, in one request",
+        "a character behind the last, in the next request",
+        "W into a sector that is read",
+        "W into an open file's entry",
+        "W into a directory that is listed",
+    ] {
+        add(format!("D, {what}"));
+    }
+    all
+}
+
 /// What a record of the tape is, in the words of the boundaries.
 fn what_is(tape: &[u8], record: usize) -> &'static str {
     let Some(bytes) = tape.chunks(RECORD).nth(record) else { return "nothing" };
@@ -289,6 +486,11 @@ struct Watch<'a> {
     bad: Option<(usize, usize)>,
     /// The record behind the character that C gave last, if it was the last character, and whether its request goes on.
     warned: Option<(usize, bool)>,
+    /// By port and block of D: where its specification stood, and its bytes.
+    specified: BTreeMap<(usize, u8), (usize, Vec<u8>)>,
+    /// By port and block of D, since its last read: the status that refused it, and its place; or the last character.
+    refused: BTreeMap<(usize, u8), (u8, Place)>,
+    last_read: BTreeMap<(usize, u8), (Place, bool)>,
 }
 
 /// The name of a command that opens a closed block.
@@ -320,6 +522,10 @@ impl Watch<'_> {
                 }
                 true
             }
+            Op::Write { buffer: 6, .. } => {
+                self.written_to_images(op);
+                true
+            }
             Op::Dump | Op::DumpTape => true,
             Op::Tick { port } => {
                 self.tick(port);
@@ -345,7 +551,8 @@ impl Watch<'_> {
         let whole = stick.lent == WHOLE;
         let held = stick.holds(0, Group::Tape) || stick.holds(1, Group::Tape);
         let console = stick.holds(0, Group::Console) || stick.holds(1, Group::Console);
-        if stick.lent[4] != TAPE && stick.lent[..4] == WHOLE[..4] {
+        let cut: Vec<usize> = (0..WHOLE.len()).filter(|&place| stick.lent[place] != WHOLE[place]).collect();
+        if cut == [4] || cut == [5] {
             let call = match op {
                 Op::Fresh => "fresh",
                 Op::Take { .. } => "take",
@@ -354,7 +561,21 @@ impl Watch<'_> {
                 Op::Press { .. } => "press",
                 _ => "no call",
             };
-            self.note(format!("tape lent cut, {call}"));
+            self.note(format!("{} lent cut, {call}", if cut == [4] { "tape" } else { "images" }));
+        }
+        let stick = &self.player.stick;
+        let disk_open = stick.ports.iter().any(|port| port.places.iter().any(Option::is_some));
+        let disk_held = stick.holds(0, Group::Disk) || stick.holds(1, Group::Disk);
+        for (_, what) in [
+            (matches!(op, Op::Fresh) && whole && disk_open, "fresh start with an open block"),
+            (matches!(op, Op::Fresh) && whole && disk_held, "fresh start, disk held"),
+            (matches!(op, Op::Dump) && disk_open, "a dump with an open block"),
+            (matches!(op, Op::Press { .. }) && whole && disk_held && !console, "a key taken, disk held"),
+        ]
+        .iter()
+        .filter(|(met, _)| *met)
+        {
+            self.note(format!("D, {what}"));
         }
         match op {
             Op::Fresh if whole => {
@@ -395,8 +616,14 @@ impl Watch<'_> {
         let stick = &self.player.stick;
         let place = usize::from(port).min(1);
         let (device, other) = (stick.device(place), 1 - place);
-        let held = [Group::Console, Group::Printer, Group::Tape].into_iter().find(|group| stick.holds(other, *group));
-        let (cassette, blocks) = (stick.cassette.clone(), stick.ports[place].blocks);
+        let groups = [Group::Console, Group::Printer, Group::Tape, Group::Disk];
+        let held = groups.into_iter().find(|group| stick.holds(other, *group));
+        let (cassette, blocks, places) = (stick.cassette.clone(), stick.ports[place].blocks, stick.ports[place].places);
+        let letter = stick.letter(place);
+        let held_drive = match &stick.ports[other].phase {
+            Phase::Running(run) if run.file.device == Device::D => Some(run.file.number),
+            _ => None,
+        };
         let before = match &stick.ports[place].phase {
             ready @ Phase::Ready(_) => Some(ready.clone()),
             running @ Phase::Running(_) => Some(running.clone()),
@@ -415,6 +642,9 @@ impl Watch<'_> {
                     if device == Some(Device::C) {
                         self.started_on_tape(place, &message[3..], &cassette, &blocks);
                     }
+                    if letter == Some(b'D') {
+                        self.started_on_disk(place, &message[3..], &blocks, &places);
+                    }
                 }
                 Some(Phase::Running(run)) if run.file.device == Device::C => {
                     self.moved(place, &run, &console, used);
@@ -423,11 +653,27 @@ impl Watch<'_> {
                         self.read_on_tape(place, &run, &cassette);
                     }
                 }
+                Some(Phase::Running(run)) if run.file.device == Device::D => {
+                    self.moved(place, &run, &console, used);
+                    let before = places[usize::from(run.call.iocb)].expect("an open block of D");
+                    match before {
+                        Place::File { .. } => self.read_file(place, &run, before),
+                        Place::Directory { .. } => self.read_listing(place, &run, before),
+                    }
+                }
                 Some(Phase::Running(run)) => self.moved(place, &run, &console, used),
                 _ => unreachable!("a tick that does something"),
             }
-        } else if let (GROUP_HELD, Some(Device::C), Some(Phase::Ready(message))) = (answer[0], device, before) {
-            self.note(format!("C, {} answered 8", command_name(message[4])));
+        } else if let (GROUP_HELD, Some(device), Some(Phase::Ready(message))) = (answer[0], device, before) {
+            let (value, name) = (&message[3..], command_name(message[4]));
+            if matches!(device, Device::C | Device::D) {
+                self.note(format!("{device:?}, {name} answered 8"));
+            }
+            let block = blocks[usize::from(value[0])];
+            let number = block.map_or_else(|| self.specified_number(place, value), |file| file.number);
+            if held_drive.is_some_and(|held| held != number) {
+                self.note(format!("D, {name} answered 8, on another drive"));
+            }
         }
         answer[0]
     }
@@ -478,6 +724,502 @@ impl Watch<'_> {
                 assert_eq!(status, Some(expected));
                 self.note(format!("C, {name} with {way}, tape {tape}"));
             }
+        }
+    }
+
+    /// The specification's number where it is that of D and good.
+    fn specified_number(&self, port: usize, value: &[u8]) -> u8 {
+        let address = usize::from(value[2]) + 256 * usize::from(value[3]);
+        match self.player.stick.area[port * AREA + address + 1] {
+            b':' => 1,
+            digit => digit - b'0',
+        }
+    }
+
+    /// The start tick of a CALL about D, by its letter; the port's blocks and places as they were before.
+    fn started_on_disk(&mut self, port: usize, value: &[u8], blocks: &[Option<File>; 8], places: &[Option<Place>; 8]) {
+        let (iocb, command, name) = (value[0], value[1], command_name(value[1]));
+        let (Some(block), Some(status)) = (blocks[usize::from(iocb)], self.status(port).or(Some(0))) else {
+            return self.opened_on_disk(port, value);
+        };
+        let what = match places[usize::from(iocb)] {
+            _ if block.aux1 & R == 0 => "neither",
+            Some(Place::File { .. }) => "a file",
+            _ => "the directory",
+        };
+        match command {
+            CLOSE => self.note(format!("D, CLOSE of {what}")),
+            GET_RECORD | GET_CHARACTERS => self.note(format!("D, GET on a block that has {what} open")),
+            PUT_RECORD | PUT_CHARACTERS => self.note(format!("D, PUT on a block that has {what} open")),
+            _ => {
+                let what = if what == "neither" { "a file" } else { what };
+                self.note(format!("D, {name} on a block that has {what} open"));
+                if command == GET_STATUS && what == "a file" {
+                    self.note(format!("D, GET STATUS of an open file gives {status:02X}"));
+                }
+            }
+        }
+    }
+
+    /// The same on a closed block: its specification is looked at.
+    fn opened_on_disk(&mut self, port: usize, value: &[u8]) {
+        let (iocb, command, aux1, name) = (value[0], value[1], value[6], command_name(value[1]));
+        let address = usize::from(value[2]) + 256 * usize::from(value[3]);
+        let status = self.status(port).expect("it ends in its start tick");
+        self.note(format!("D, {name} gives {status:02X}"));
+        let specification = self.player.stick.area[port * AREA + address..(port + 1) * AREA].to_vec();
+        let digits = match specification.get(1) {
+            None => return self.note("D, the area ends behind the letter".to_string()),
+            Some(b':') => 0,
+            Some(_) => 1,
+        };
+        if digits == 1 {
+            let digit = specification[1];
+            self.note(format!("D, digit {}", digit as char));
+            match (specification.get(2), (b'1'..=b'4').contains(&digit)) {
+                (None, true) => self.note("D, the area ends behind the digit".to_string()),
+                (None, false) => self.note("D, the area ends behind a bad digit".to_string()),
+                _ => {}
+            }
+        } else {
+            self.note("D, digit none".to_string());
+        }
+        if status == NO_DEVICE || specification.len() < 2 + digits {
+            return;
+        }
+        // From here on the name.
+        let text = &specification[2 + digits..];
+        let bad = |byte: &u8| !matches!(*byte, b'A'..=b'Z' | b'0'..=b'9' | b'*' | b'?' | b'.' | EOL | b' ');
+        let dot = text.iter().position(|byte| *byte == b'.').unwrap_or(text.len());
+        let second = text.iter().skip(dot + 1).position(|byte| *byte == b'.').map(|place| dot + 1 + place);
+        let stop = text.iter().position(|byte| bad(byte) || matches!(*byte, EOL | b' ')).unwrap_or(text.len());
+        let stop = second.map_or(stop, |second| second.min(stop));
+        let (primary, extension) = (&text[..dot.min(stop)], text.get(dot + 1..stop).unwrap_or(b""));
+        let stars = |field: &[u8]| field.iter().position(|byte| *byte == b'*');
+        let mut names: Vec<(bool, &str)> = Vec::new();
+        match text.get(stop).copied() {
+            None => {
+                assert_eq!(status, PAST_AREA);
+                let place = match (primary.len(), extension.len(), dot < stop) {
+                    (0, _, false) => "colon",
+                    (8, _, false) => "eighth",
+                    (_, 0, true) => "dot",
+                    (_, 3, true) => "third",
+                    _ => "name",
+                };
+                return self.note(format!("D, the area ends behind the {place}"));
+            }
+            Some(EOL | b' ') => {
+                names.extend([
+                    (text[stop] == EOL, "ended by an EOL"),
+                    (text[stop] == b' ', "ended by a blank"),
+                    (stop + 1 == text.len(), "ended by the area's last byte"),
+                    (stop == 0, "empty"),
+                    (&text[..stop] == b".", "a dot alone"),
+                ]);
+            }
+            Some(byte) => {
+                assert!(status == BAD_NAME || aux1 & W != 0 && status == BAD_COMMAND);
+                names.extend([
+                    (stop == 0, "bad, its first byte"),
+                    (primary.len() >= 8 && dot >= stop, "bad behind the eighth"),
+                    (extension.len() >= 3, "bad behind the third"),
+                    (stars(primary).is_some() && dot >= stop || stars(extension).is_some(), "bad behind *"),
+                    (byte == b'.', "bad, a second dot"),
+                    (stop + 1 == text.len(), "bad, the area's last byte"),
+                ]);
+                if aux1 & W != 0 {
+                    self.note(format!("D, {name} with W and a bad name"));
+                }
+            }
+        }
+        let pattern = pattern(&text[..stop]).filter(|_| matches!(text[stop], EOL | b' '));
+        let drive = if digits == 0 { 0 } else { usize::from(specification[1] - b'1') };
+        let stick = &self.player.stick;
+        let matching = |entry: usize| matches(&pattern.unwrap_or_default(), &stick.entry(drive, entry)[NAME_AT..]);
+        let found = pattern.and_then(|pattern| stick.find(drive, &pattern, 0));
+        if let Some(entry) = found {
+            let bytes = &stick.entry(drive, entry)[NAME_AT..];
+            let blank = |place: usize| bytes.get(place) == Some(&b' ');
+            names.extend([
+                (primary.len() == 8 && stars(primary).is_none(), "of 8"),
+                (primary.len() > 8 && stars(primary).is_none(), "past 8"),
+                (stars(primary).is_some_and(|star| star >= 8), "* past 8"),
+                (stars(primary).is_some_and(|star| star + 1 < primary.len()), "a byte behind *"),
+                (extension.len() == 3 && stars(extension).is_none(), "of 3 behind the dot"),
+                (extension.len() > 3 && stars(extension).is_none(), "past 3"),
+                (stars(extension).is_some_and(|star| star >= 3), "* past 3"),
+                (dot >= stop, "without a dot"),
+                (dot < stop && extension.is_empty(), "with an empty extension"),
+                (dot < stop && primary.is_empty(), "with an empty primary"),
+                (
+                    primary.iter().enumerate().any(|(place, byte)| *byte == b'?' && place < 8 && blank(place)),
+                    "? for a blank",
+                ),
+                (primary.len() < 8 && primary.ends_with(b"?") && blank(primary.len() - 1), "? past the name's end"),
+                (stars(primary).is_some_and(|star| star < 8 && !blank(star)), "* for a name's rest"),
+                (stars(primary).is_some_and(|star| star < 8 && blank(star)), "* for no more"),
+            ]);
+        }
+        let ended = (0..ENTRIES).find(|&entry| stick.entry(drive, entry)[0] == 0);
+        let end = ended.unwrap_or(ENTRIES);
+        let gone = |entry: usize| stick.entry(drive, entry)[0] & DELETED != 0 && matching(entry);
+        let of_entries = [
+            (found == Some(0), "match in entry 0"),
+            (found == Some(63), "match in entry 63"),
+            (found.is_none() && ended.is_none(), "none in 64 entries"),
+            (found.is_none() && ended.is_some(), "none before the end"),
+            (
+                found.is_none()
+                    && (end..ENTRIES).any(|entry| is_in_use(stick.entry(drive, entry)[0]) && matching(entry)),
+                "a match behind the end",
+            ),
+            (found.is_none() && (0..end).any(gone), "a deleted match"),
+            (found.is_some_and(|found| (0..found).any(gone)), "a deleted match before another"),
+            (
+                (0..found.unwrap_or(end)).any(|entry| stick.entry(drive, entry)[0] & 0xC0 == 0 && matching(entry)),
+                "an entry neither in use nor deleted that matches",
+            ),
+            (
+                found.is_some_and(|found| stick.find(drive, &pattern.expect("good"), found + 1).is_some()),
+                "a second match",
+            ),
+        ];
+        let directory = aux1 == DIRECTORY;
+        let locked = found.is_some_and(|found| stick.entry(drive, found)[0] & LOCKED != 0);
+        let of_command = [
+            (directory && found.is_some(), "of the directory"),
+            (directory && found.is_none() && pattern.is_some(), "of the directory, no match"),
+            (!directory && aux1 & W == 0 && locked, "of a locked file"),
+            (aux1 & (R | W) == 0 && found.is_some(), "with neither bit"),
+        ];
+        let opens = aux1 & W == 0 && !directory && pattern.is_some();
+        let first = found.map(|found| {
+            let bytes = &stick.entry(drive, found)[FIRST_SECTOR_AT..];
+            usize::from(bytes[0]) + 256 * usize::from(bytes[1])
+        });
+        let of_stick = if (command, status) == (OPEN, SUCCESS) {
+            let all: Vec<(usize, File, Place)> = (0..2)
+                .flat_map(|port| (0..8).map(move |iocb| (port, iocb)))
+                .filter_map(|(port, iocb)| {
+                    Some((port, stick.ports[port].blocks[iocb]?, stick.ports[port].places[iocb]?))
+                })
+                .collect();
+            let mut files: Vec<(u8, usize)> = all
+                .iter()
+                .filter_map(|(_, file, place)| match place {
+                    Place::File { entry, .. } => Some((file.number, *entry)),
+                    _ => None,
+                })
+                .collect();
+            let opened = files.len();
+            files.sort();
+            files.dedup();
+            let drives = (1..=4).filter(|number| all.iter().any(|(_, file, _)| file.number == *number)).count();
+            vec![
+                (all.iter().filter(|(of, ..)| *of == port).count() == 8, "all blocks of a port"),
+                ((0..2).all(|port| all.iter().any(|(of, ..)| *of == port)), "both ports"),
+                (drives == 4, "all drives at once"),
+                (files.len() < opened, "two blocks in one file"),
+            ]
+        } else {
+            Vec::new()
+        };
+        for (_, what) in of_stick.into_iter().filter(|(met, _)| *met) {
+            self.note(format!("D, {what}"));
+        }
+        for (_, what) in names.into_iter().filter(|(met, _)| *met) {
+            self.note(format!("D, name, {what}"));
+        }
+        for (_, what) in of_entries.into_iter().filter(|(met, _)| *met && opens) {
+            self.note(format!("D, directory, {what}"));
+        }
+        for (_, what) in of_command.into_iter().filter(|(met, _)| *met) {
+            self.note(format!("D, {name} {what}"));
+        }
+        if (command, status) == (OPEN, SUCCESS) {
+            let whole = specification[..2 + digits + stop + 1].to_vec();
+            self.specified.insert((port, iocb), (port * AREA + address, whole));
+            self.refused.remove(&(port, iocb));
+            self.last_read.remove(&(port, iocb));
+            if let (Some(first), true) = (first, opens) {
+                self.note_sector("first", first);
+                let (low, stick) = (first % 1_024, &self.player.stick);
+                let own = |low: usize| usize::from(stick.sector(drive, low)[LINK_AT] >> 2) == found.expect("found");
+                if first > 1_023 && (1..=719).contains(&low) && own(low) {
+                    self.note("D, first above 1,023, its low bits those of a sector of the file".to_string());
+                }
+            }
+        }
+    }
+
+    fn note_sector(&mut self, what: &str, sector: usize) {
+        let name = match sector {
+            0 => "0",
+            719 => "719",
+            720 => "720",
+            721.. => "above 720",
+            _ if is_reserved(sector) => "reserved",
+            _ => return,
+        };
+        self.note(format!("D, {what} {name}"));
+    }
+
+    /// Bytes written into the images, seen by blocks that have them open.
+    fn written_to_images(&mut self, op: &Op) {
+        let Op::Write { at, bytes, .. } = op else { unreachable!("bytes are written") };
+        let (from, to) = (*at as usize, *at as usize + bytes.len());
+        let within = |start: usize, length: usize| from < start + length && to > start;
+        let mut names = Vec::new();
+        for port in &self.player.stick.ports {
+            for (file, place) in port.blocks.iter().zip(&port.places) {
+                let Some((drive, place)) = file.map(File::drive).zip(*place) else { continue };
+                match place {
+                    Place::File { entry, sector, place, .. } => names.extend([
+                        (
+                            (1..=719).contains(&sector) && place > 0 && within(sector_at(drive, sector), SECTOR),
+                            "W into a sector that is read",
+                        ),
+                        (within(sector_at(drive, 361) + ENTRY * entry, 1), "W into an open file's entry"),
+                    ]),
+                    Place::Directory { .. } => {
+                        names.push((within(sector_at(drive, 361), 1_024), "W into a directory that is listed"));
+                    }
+                }
+            }
+        }
+        for (_, what) in names.into_iter().filter(|(met, _)| *met) {
+            self.note(format!("D, {what}"));
+        }
+        self.player.play(op, &mut Vec::new());
+    }
+
+    /// A read of a file; its place as it was before. The chain is walked anew, sector by sector.
+    fn read_file(&mut self, port: usize, run: &Run, before: Place) {
+        let Place::File { entry, sector, place, begun } = before else { unreachable!("a file") };
+        let (drive, iocb, n) = (run.file.drive(), run.call.iocb, run.call.length);
+        let after = self.player.stick.ports[port].places[usize::from(iocb)].expect("open");
+        let status = self.status(port);
+        let dropped = n > 0 && run.count == n;
+        let (refused, key) = (after == before, (port, iocb));
+        let link = |bytes: &[u8]| 256 * usize::from(bytes[125] & 3) + usize::from(bytes[126]);
+        // The sectors from the place on, up to the one that has the character or refuses it.
+        let mut walked = vec![sector];
+        let (mut at, mut steps) = (sector, 0);
+        let bytes_of = |stick: &Stick, sector: usize| stick.sector(drive, sector).to_vec();
+        let why = loop {
+            if at == 0 {
+                break "88";
+            } else if at > 719 {
+                break "A4, above 719";
+            } else if begun + steps > 719 {
+                break "A4, a 720th sector";
+            }
+            let bytes = bytes_of(&self.player.stick, at);
+            if usize::from(bytes[125] >> 2) != entry {
+                break "A4, file number";
+            } else if bytes[127] > 125 {
+                break "A4, count";
+            } else if (if steps == 0 { place } else { 0 }) < usize::from(bytes[127]) {
+                break "";
+            }
+            at = link(&bytes);
+            walked.push(at);
+            steps += 1;
+        };
+        assert_eq!(refused, !why.is_empty());
+        for (_, next) in walked.windows(2).map(|pair| (pair[0], pair[1])) {
+            self.note_sector("link", next);
+        }
+        // What was before this read.
+        if let Some((status_then, then)) = self.refused.remove(&key) {
+            let again = refused && status == Some(status_then) && then == before;
+            let name = if again {
+                format!("{status_then:02X}, and {status_then:02X} again")
+            } else {
+                format!("{status_then:02X}, then read on")
+            };
+            if again || !refused {
+                self.note(format!("D, {name}"));
+            }
+        }
+        if let Some((then, goes_on)) = self.last_read.remove(&key) {
+            if then == before && !refused {
+                let request = if goes_on { "one request" } else { "the next request" };
+                self.note(format!("D, a character behind the last, in {request}"));
+                let same = after == Place::File { entry, sector, place: place + 1, begun };
+                self.note(format!("D, {} behind the last", if same { "count grown" } else { "link changed" }));
+            }
+        }
+        if refused {
+            let status = status.expect("a refusal ends it");
+            assert_eq!(status, if why == "88" { END_OF_FILE } else { BAD_CHAIN });
+            self.refused.insert(key, (status, before));
+            let bytes = if (1..=719).contains(&at) { bytes_of(&self.player.stick, at) } else { vec![0; SECTOR] };
+            let numbers = usize::from(bytes[125] >> 2) ^ entry;
+            let names = [
+                (
+                    why.starts_with("A4, above") || why == "A4, a 720th sector" || why == "A4, file number",
+                    why.to_string(),
+                ),
+                (why == "A4, count", format!("A4, count {}", bytes[127])),
+                (why == "A4, file number" && numbers & 0x3E != 0, "A4, file number, all other bits".to_string()),
+                (why == "A4, a 720th sector" && begun == 1, "A4, a 720th sector, all empty".to_string()),
+                (begun == 1 && steps == 0 && place == 0, format!("{status:02X} at the first sector")),
+                (status == BAD_CHAIN && steps == 0 && place > 0, "A4 in the middle of a sector".to_string()),
+                (dropped, format!("{status:02X} while a record is dropped")),
+                (status == END_OF_FILE && steps > 1, "88 behind empty sectors".to_string()),
+                (status == END_OF_FILE && begun + steps == 720, "88 in the 719th sector".to_string()),
+            ];
+            for (_, what) in names.into_iter().filter(|(met, _)| *met) {
+                self.note(format!("D, {what}"));
+            }
+            return;
+        }
+        let bytes = bytes_of(&self.player.stick, at);
+        let count = usize::from(bytes[127]);
+        let Place::File { place: behind_place, begun: begun_now, .. } = after else { unreachable!("a file") };
+        // What comes behind it.
+        let next = self.player.stick.next_on_disk(drive, after);
+        let empty = {
+            let next = if behind_place < count { 0 } else { link(&bytes) };
+            (1..=719).contains(&next) && bytes_of(&self.player.stick, next)[127] == 0 && begun_now < 719
+        };
+        let behind = match next {
+            Ok(_) => "a character",
+            Err(END_OF_FILE) if empty => "empty sectors and the end",
+            Err(END_OF_FILE) => "the end",
+            Err(_) if empty => "empty sectors and a bad one",
+            Err(_) => "a bad sector",
+        };
+        let last = behind.ends_with("the end");
+        let way = self.way(run, status);
+        let expected = match last {
+            _ if dropped => RECORD_CUT,
+            true => LAST_CHARACTER,
+            false => SUCCESS,
+        };
+        assert!(status.is_none_or(|status| status == expected), "{way}, then {behind}: {status:02X?}");
+        let old = if (1..=719).contains(&sector) { bytes_of(&self.player.stick, sector)[127] } else { 0 };
+        let names = [
+            (true, format!("{way}, then {behind}")),
+            (behind_place == count, format!("the last character of {count} in a sector")),
+            (entry == 63, "file number 63".to_string()),
+            (begun_now == 718, "a character in the 718th sector".to_string()),
+            (begun_now == 719, "a character in the 719th sector".to_string()),
+            (begun_now == 719 && behind_place == 125, "the last of all".to_string()),
+            (steps == 1, "a character over a link".to_string()),
+            (steps > 1, "a character over empty sectors".to_string()),
+            (steps == 1 && at == sector, "a character over a link to the same sector".to_string()),
+            (steps == 1 && at < sector, "a character over a link back".to_string()),
+            (steps > 0 && place > 1 && place == usize::from(old), "count fallen to the place".to_string()),
+            (steps > 0 && place > usize::from(old), "count fallen below the place".to_string()),
+            (last && n == 1 && !dropped, "the last character, all of the request".to_string()),
+            (
+                last && !dropped && n > 0 && run.call.address + run.count + 1 == AREA,
+                "the last character at the area's end".to_string(),
+            ),
+        ];
+        for (_, what) in names.into_iter().filter(|(met, _)| *met) {
+            self.note(format!("D, {what}"));
+        }
+        if last {
+            self.last_read.insert(key, (after, status.is_none()));
+        }
+    }
+
+    /// A read of a directory; its place as it was before.
+    fn read_listing(&mut self, port: usize, run: &Run, before: Place) {
+        let Place::Directory { pattern, entry, place } = before else { unreachable!("a directory") };
+        let (drive, iocb, n) = (run.file.drive(), run.call.iocb, run.call.length);
+        let stick = &self.player.stick;
+        let status = self.status(port);
+        let (at, specification) = &self.specified[&(port, iocb)];
+        let overwritten = stick.area[*at..*at + specification.len()] != specification[..];
+        if entry == LISTING_END {
+            assert_eq!(status, Some(END_OF_FILE));
+            return self.note("D, listing, 88 behind it".to_string());
+        }
+        let dropped = n > 0 && run.count == n;
+        let found = match place {
+            0 if entry < 64 => stick.find(drive, &pattern, entry).unwrap_or(64),
+            _ => entry,
+        };
+        let length = if found < 64 { 18 } else { 17 };
+        let (first, eol) = (place == 0, place + 1 == length);
+        let passed = |what: fn(u8) -> bool| {
+            first
+                && (entry..found.min(63))
+                    .any(|entry| stick.entry(drive, entry)[0] != 0 && what(stick.entry(drive, entry)[0]))
+        };
+        let word = |bytes: &[u8]| usize::from(bytes[0]) + 256 * usize::from(bytes[1]);
+        let mut names = vec![
+            (passed(|flag| flag & DELETED != 0), "a deleted entry passed over"),
+            (passed(is_in_use), "an entry of another name passed over"),
+            (eol && status == Some(SUCCESS) && n == length && run.count + 1 == n, "a record that just fits"),
+            (eol && dropped && n > 0, "a record cut"),
+        ];
+        if found < 64 {
+            let bytes = stick.entry(drive, found);
+            let count = word(&bytes[1..]);
+            let odd = |byte: &u8| !(byte.is_ascii_uppercase() || byte.is_ascii_digit() || *byte == b' ');
+            names.extend([
+                (first, "first character"),
+                (first && bytes[0] & LOCKED != 0, "first character, locked"),
+                (eol, "EOL"),
+                (eol && found == 63, "EOL of entry 63"),
+                (place == 14 && count >= 1_000, "count from 1,000 on"),
+                (place == 14 && count < 10, "count below 10"),
+                (!first && !is_in_use(bytes[0]), "an entry that is not in use any more"),
+                (!first && !matches(&pattern, &bytes[NAME_AT..]), "an entry of another name now"),
+                ((2..13).contains(&place) && odd(&bytes[NAME_AT + place - 2]), "a byte that no name has"),
+            ]);
+            assert!(status.is_none_or(|status| status == SUCCESS || dropped));
+        } else {
+            let bytes = stick.sector(drive, 360);
+            let free = word(&bytes[3..]);
+            let map: u32 = bytes[10..100].iter().map(|byte| byte.count_ones()).sum();
+            names.extend([
+                (first && entry == 0, "the free record, no match before it"),
+                (first && (1..64).contains(&entry), "the free record behind the last match"),
+                (first && entry == 64, "the free record behind entry 63"),
+                (eol, "the free record's EOL"),
+                (first && free >= 1_000, "the free count from 1,000 on"),
+                (first && free != map as usize, "the free count not that of the map"),
+                (eol && run.call.command == GET_CHARACTERS && status == Some(LAST_CHARACTER), "all and no more"),
+            ]);
+            let expected = match eol {
+                _ if dropped => RECORD_CUT,
+                true => LAST_CHARACTER,
+                false => SUCCESS,
+            };
+            assert!(status.is_none_or(|status| status == expected), "{status:02X?}");
+        }
+        for (_, what) in names.into_iter().filter(|(met, _)| *met) {
+            self.note(format!("D, listing, {what}"));
+        }
+        if found == 64 && eol && !dropped {
+            self.note("D, the last character of the free record".to_string());
+        }
+        if overwritten && first {
+            self.note("D, the specification overwritten, the directory read on".to_string());
+        }
+    }
+
+    /// What a read that gave a character comes to.
+    fn way(&self, run: &Run, status: Option<u8>) -> &'static str {
+        let n = run.call.length;
+        let dropped = n > 0 && run.count == n;
+        match (run.call.command, n, status) {
+            (GET_CHARACTERS, 0, _) => "GET CHARACTERS of 0",
+            (_, 0, _) => "GET RECORD of 0",
+            (GET_CHARACTERS, _, Some(_)) => "GET CHARACTERS up to n",
+            (GET_CHARACTERS, _, None) => "GET CHARACTERS before n",
+            (_, _, Some(_)) if dropped => "GET RECORD, a dropped EOL",
+            (_, _, None) if dropped => "GET RECORD, dropped before an EOL",
+            (_, _, Some(_)) if run.count + 1 < n => "GET RECORD, an EOL with room to spare",
+            (_, _, Some(_)) => "GET RECORD, an EOL that just fits",
+            (_, _, None) => "GET RECORD, before an EOL",
         }
     }
 
@@ -573,17 +1315,7 @@ impl Watch<'_> {
             return;
         }
         let dropped = n > 0 && run.count == n;
-        let way = match (run.call.command, n, status) {
-            (GET_CHARACTERS, 0, _) => "GET CHARACTERS of 0",
-            (_, 0, _) => "GET RECORD of 0",
-            (GET_CHARACTERS, _, Some(_)) => "GET CHARACTERS up to n",
-            (GET_CHARACTERS, _, None) => "GET CHARACTERS before n",
-            (_, _, Some(_)) if dropped => "GET RECORD, a dropped EOL",
-            (_, _, None) if dropped => "GET RECORD, dropped before an EOL",
-            (_, _, Some(_)) if run.count + 1 < n => "GET RECORD, an EOL with room to spare",
-            (_, _, Some(_)) => "GET RECORD, an EOL that just fits",
-            (_, _, None) => "GET RECORD, before an EOL",
-        };
+        let way = self.way(run, status);
         let stick = &self.player.stick;
         let behind = if place > 0 { "the same record" } else { what_is(&stick.tape, record) };
         let last = is_end(behind);
@@ -664,7 +1396,7 @@ impl Watch<'_> {
             }
         }
         // An OPEN whose specification is good.
-        if command == OPEN && matches!(status, Some(SUCCESS | BAD_COMMAND | SCREEN_MODE)) {
+        if command == OPEN && matches!(status, Some(SUCCESS | BAD_COMMAND | SCREEN_MODE | NO_FILE)) {
             let letter = self.player.stick.area[port * AREA + address];
             self.note(format!("{} AUX1 {aux1:02X}", letter as char));
             let (mode, screen) = (self.player.stick.console.mode, &self.player.stick.screen);
@@ -792,7 +1524,16 @@ impl Watch<'_> {
 
 /// The boundaries that a script comes to, and how often; what was played.
 fn watch(script: &[Op], reached: &mut BTreeMap<String, u64>) -> Figures {
-    let mut watch = Watch { player: Player::new(), reached, plain: [None; 2], bad: None, warned: None };
+    let mut watch = Watch {
+        player: Player::new(),
+        reached,
+        plain: [None; 2],
+        bad: None,
+        warned: None,
+        specified: BTreeMap::new(),
+        refused: BTreeMap::new(),
+        last_read: BTreeMap::new(),
+    };
     for op in script {
         if !watch.play(op) {
             break;
@@ -823,13 +1564,27 @@ fn each_boundary_is_reached() {
     // Each status of C was seen, and no other.
     assert_eq!(figures.tape.keys().copied().collect::<Vec<u8>>(), TAPE_STATUSES);
     assert!(figures.tape_waits > 0);
+    // So of D.
+    assert_eq!(figures.disk.keys().copied().collect::<Vec<u8>>(), DISK_STATUSES);
+    assert!(figures.disk_waits > 0);
     // Other devices never give $03.
-    assert_eq!(figures.replies[&(0x90, LAST_CHARACTER)], figures.tape[&LAST_CHARACTER]);
+    let last = figures.tape[&LAST_CHARACTER] + figures.disk[&LAST_CHARACTER];
+    assert_eq!(figures.replies[&(0x90, LAST_CHARACTER)], last);
+    // Nor $A4 to $AA.
+    for status in [BAD_CHAIN, BAD_NAME, FILE_LOCKED, NO_FILE] {
+        assert_eq!(figures.replies[&(0x90, status)], figures.disk[&status]);
+    }
 }
 
 /// What some messages on port 0 come to, of the boundaries alone.
 fn of_messages(messages: &[Vec<u8>]) -> Vec<String> {
-    let mut ops = Vec::new();
+    of_diskette(&[], messages)
+}
+
+/// The same with bytes written into the images before.
+fn of_diskette(parts: &[(usize, Vec<u8>)], messages: &[Vec<u8>]) -> Vec<String> {
+    let write = |(at, bytes): &(usize, Vec<u8>)| Op::Write { buffer: 6, at: *at as u32, bytes: bytes.clone() };
+    let mut ops: Vec<Op> = parts.iter().map(write).collect();
     for message in messages {
         ops.extend(message.iter().map(|&byte| Op::Take { port: 0, byte }));
         ops.push(Op::Ticks { port: 0, count: 65_535 });
@@ -915,5 +1670,98 @@ fn what_is_reached() {
             assert_eq!(reached.contains(&format!("mode 3, {name}")), last, "{length}: {name}");
         }
         assert_eq!(reached.contains(&"mode 3, EOL in the last row".to_string()), !last, "{length}");
+    }
+}
+
+/// The same of D: names, entries, links and counts at their boundaries, and beside them.
+#[test]
+fn what_is_reached_on_diskettes() {
+    let read = |name: &[u8], n: usize| {
+        let specification = [b"D:", name, &[EOL]].concat();
+        vec![load(0, &specification), call(0, OPEN, 0, 0, [R, 0, 0]), call(0, GET_CHARACTERS, 100, n, [0; 3])]
+    };
+    let only = |reached: &[String], of: &[&str]| -> Vec<String> {
+        of.iter().filter(|name| reached.contains(&format!("D, {name}"))).map(|name| name.to_string()).collect()
+    };
+    // A sector of 124, 125 and 126, and a link to 0, 719 and 720.
+    for (count, next, expected) in [
+        (124, 0, &["link 0", "the last character of 124 in a sector"][..]),
+        (125, 719, &["the last character of 125 in a sector", "link 719"]),
+        (125, 720, &["the last character of 125 in a sector", "link 720", "A4, above 719"]),
+        (126, 0, &["A4, count 126", "A4 at the first sector"]),
+    ] {
+        let mut diskette = Diskette::new();
+        diskette.add(IN_USE, b"A          ", &[(4, vec![b'A'; 125])]);
+        let mut parts = diskette.parts(0);
+        parts.push((sector_at(0, 4) + LINK_AT, [&link(0, next)[..], &[count]].concat()));
+        let reached = of_diskette(&parts, &read(b"A", 200));
+        let all = [
+            "link 0",
+            "link 719",
+            "link 720",
+            "the last character of 124 in a sector",
+            "the last character of 125 in a sector",
+            "A4, count 126",
+            "A4, above 719",
+            "A4 at the first sector",
+            "A4, a 720th sector",
+        ];
+        let mut expected: Vec<&str> = expected.to_vec();
+        if next == 719 {
+            // Sector 719 is empty and the last.
+            expected.push("link 0");
+        }
+        let mut found = only(&reached, &all);
+        found.sort();
+        expected.sort();
+        assert_eq!(found, expected, "count {count}, link {next}");
+    }
+    // A ring, read to its 718th, 719th and 720th sector.
+    for (n, expected) in [
+        (718, &["a character in the 718th sector"][..]),
+        (719, &["a character in the 718th sector", "a character in the 719th sector"]),
+        (720, &["a character in the 718th sector", "a character in the 719th sector", "A4, a 720th sector"]),
+    ] {
+        let mut diskette = Diskette::new();
+        diskette.add(IN_USE, b"A          ", &[(4, vec![b'A'])]);
+        let mut parts = diskette.parts(0);
+        parts.push((sector_at(0, 4) + LINK_AT, link(0, 4).to_vec()));
+        let reached = of_diskette(&parts, &read(b"A", n));
+        let all = ["a character in the 718th sector", "a character in the 719th sector", "A4, a 720th sector"];
+        assert_eq!(only(&reached, &all), expected, "{n} characters");
+    }
+    // Names of seven, eight and nine, and the entry that they match.
+    for (name, entries, expected) in [
+        (&b"ABCDEFG"[..], 1, &[][..]),
+        (b"ABCDEFGH", 1, &["name, of 8", "directory, match in entry 0"][..]),
+        (b"ABCDEFGHI", 63, &["name, past 8"]),
+        (b"ABCDEFGH.", 64, &["name, of 8", "name, with an empty extension", "directory, match in entry 63"]),
+        (b"ABCDEFGHI-", 64, &["name, bad behind the eighth"]),
+        (b"ABCDEFG-", 64, &[]),
+    ] {
+        let mut diskette = Diskette::new();
+        for _ in 1..entries {
+            diskette.add(DELETED, b"ABCDEFGH   ", &[]);
+        }
+        diskette.add(IN_USE, b"ABCDEFGH   ", &[]);
+        let reached = of_diskette(&diskette.parts(0), &read(name, 1)[..2]);
+        let all = [
+            "name, of 8",
+            "name, past 8",
+            "name, with an empty extension",
+            "name, bad behind the eighth",
+            "directory, match in entry 0",
+            "directory, match in entry 63",
+        ];
+        assert_eq!(only(&reached, &all), expected, "{name:?}");
+    }
+    // The name's end as the area's last byte, and one behind it.
+    for (specification, status) in
+        [(&b"D:A\x9B"[..], "name, ended by the area's last byte"), (b"D:A", "the area ends behind the name")]
+    {
+        let address = AREA - specification.len();
+        let reached = of_diskette(&[], &[load(address, specification), call(0, OPEN, address, 0, [R, 0, 0])]);
+        let all = ["name, ended by the area's last byte", "the area ends behind the name"];
+        assert_eq!(only(&reached, &all), [status]);
     }
 }

@@ -248,7 +248,10 @@ fn reading_25_26_specifications() {
         (b"E12:", NO_DEVICE),
         (b"E1X", NO_DEVICE),
         (b"e:", NO_DEVICE),
-        (b"D:", NO_DEVICE),
+        (b"R:", NO_DEVICE),
+        (b"D", PAST_AREA),
+        (b"D4", PAST_AREA),
+        (b"D5", NO_DEVICE),
     ] {
         let mut bench = Bench::new();
         assert_eq!(bench.load(0, AREA - data.len(), data), SUCCESS);

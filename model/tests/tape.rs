@@ -148,7 +148,7 @@ fn reading_0_6_0_7_tape_is_a_group_of_its_own() {
         }
     }
     // .. and what is refused before the group does not. (A block that is open on C never waits: no other is.)
-    for (specification, status) in [(&b"C9:"[..], NO_DEVICE), (b"D:", NO_DEVICE), (b"C", NO_DEVICE)] {
+    for (specification, status) in [(&b"C9:"[..], NO_DEVICE), (b"R:", NO_DEVICE), (b"C", NO_DEVICE)] {
         let mut bench = tape(W);
         bench.start_long(0);
         assert_eq!(bench.open(1, 3, specification, R, 0), status);
@@ -818,9 +818,10 @@ fn what_w_writes() {
         player.stick
     };
     let fresh = Stick::new();
-    for (buffer, length) in [(0u8, 2 * AREA), (1, SCREEN), (2, PAPER), (4, TAPE)] {
+    for (buffer, length) in [(0u8, 2 * AREA), (1, SCREEN), (2, PAPER), (4, TAPE), (6, IMAGES)] {
         let of = |stick: &Stick| {
-            let buffers = [&stick.area, &stick.screen, &stick.paper, &Vec::new(), &stick.tape];
+            let none = &Vec::new();
+            let buffers = [&stick.area, &stick.screen, &stick.paper, none, &stick.tape, none, &stick.images];
             buffers[usize::from(buffer)].clone()
         };
         for (at, written) in [(0, 3), (length - 3, 3), (length - 2, 2), (length, 0), (0xFF_FFFF, 0)] {
@@ -833,11 +834,12 @@ fn what_w_writes() {
         }
         // And of the others nothing, nor a number.
         let mut stick = write(buffer, 5, &[7, 8, 9]);
-        [&mut stick.area, &mut stick.screen, &mut stick.paper, &mut Vec::new(), &mut stick.tape][usize::from(buffer)]
-            .copy_from_slice(&of(&fresh));
+        let (none, gap) = (&mut Vec::new(), &mut Vec::new());
+        let Stick { area, screen, paper, tape, images, .. } = &mut stick;
+        [area, screen, paper, none, tape, gap, images][usize::from(buffer)].copy_from_slice(&of(&fresh));
         assert_eq!(stick, fresh);
     }
-    for buffer in [3, 5, 6, 7, 8, 9, 255] {
+    for buffer in [3, 5, 7, 8, 9, 255] {
         assert_eq!(write(buffer, 0, &[7, 8, 9]), fresh);
     }
     assert_eq!(write(4, 0, &[]), fresh);

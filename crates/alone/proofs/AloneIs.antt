@@ -6,6 +6,7 @@ use mathlib.Core.List.{List, []}
 use Prim.Native.Nat.{ℕ}
 use native.Mathlib.Omega.{arith}
 use Rattle.base.specs.Choice.{choose}
+use Rattle.names.specs.declared.Name.{Name}
 use Rattle.handler.specs.declared.Asked.{Asked}
 use Rattle.handler.specs.declared.Done.{Done}
 use Rattle.handler.specs.declared.Done.the-variants as done
@@ -51,27 +52,27 @@ use Rattle.alone.proofs.Lines.{device-lines, device-starts, owner-lines
 use Rattle.alone.proofs.Fit.{fit-part}
 
 -- a running request, from wherever it stands
-finishes : {D : Type 0} (H : Asked → Acts D) (port : ℕ) (left : D → ℕ) (Fit : D → Type 0) → ((asked : Asked) → Lines (H asked) left Fit)
-    → (run : Run) (area : List ℕ) (x : D) → Fit x → Spanned run → Finishes H port left run area x
-finishes H port left Fit Z run area x f h =
-    let asked = asksOn port (run .iocb) in
+finishes : {D : Type 0} (H : Asked → Acts D) (port : ℕ) (left : D → ℕ) (Fit : D → Type 0) (run : Run) → Lines (H (asksOn port (run .iocb))) left Fit
+    → (area : List ℕ) (x : D) → Fit x → Spanned run → Finishes H port left run area x
+finishes H port left Fit run Z area x f h =
     record {
-      over = λ n l. finish-is-whole H port (run .iocb) left Fit (Z asked) n run area x f refl h l;
-      runs = λ j d l. runs-at H port (run .iocb) left Fit (Z asked) j run area x d f refl h l;
-      bound = course-bound (H asked) left Fit (Z asked) run area x f h;
+      over = λ n l. finish-is-whole H port (run .iocb) left Fit Z n run area x f refl h l;
+      runs = λ j d l. runs-at H port (run .iocb) left Fit Z j run area x d f refl h l;
+      bound = course-bound (H (asksOn port (run .iocb))) left Fit Z run area x f h;
     }
 
--- "ends within 61,441 further ticks of its port"
+-- "ends within 61,441 further ticks of its port", now 89,876
 pub in-time : {D : Type 0} (H : Asked → Acts D) (port : ℕ) (out : Out) (area : List ℕ) (x : D) (count : ℕ) (course : List (Point D)) (w : Went D)
     → Comes H port out area x count course w → moves H port mostMoves out area x ≡ w
 in-time H port out area x count course w c = c .over mostMoves (c .bound)
 
 pub owner-finishes : (o : Owner) (port : ℕ) (run : Run) (area : List ℕ) (x : Part (groupIn o)) → FitOwn o x → Spans (wayIn (run .kind)) run
-    → Finishes (ownActs o) port (ownerLeft o) run area x
-owner-finishes o port run area x f s = finishes (ownActs o) port (ownerLeft o) (FitOwn o) (owner-lines o) run area x f (span-of (wayIn (run .kind)) run s)
+    → Finishes (ownActs o) port (ownerLeft o port (run .iocb)) run area x
+owner-finishes o port run area x f s =
+    finishes (ownActs o) port (ownerLeft o port (run .iocb)) (FitOwn o) run (owner-lines o port (run .iocb)) area x f (span-of (wayIn (run .kind)) run s)
 
-module _ {D : Type 0} (H : Asked → Acts D) (left : D → ℕ) (Before Fit : D → Type 0) (own : Device) (Z : (asked : Asked) → Lines (H asked) left Fit) (Y : Starts H Before Fit own) where
-  module _ (c : Call) (l : Local) where
+module _ {D : Type 0} (H : Asked → Acts D) (left : D → ℕ) (Before Fit : D → Type 0) (own : Device) (Y : Starts H Before Fit own) where
+  module _ (c : Call) (l : Local) (Z : Lines (H (asksOn (l .number) (c .iocb))) left Fit) where
     -- what ends in its start has no character
     over-comes : (x : D) (status : ℕ) → Comes H (l .number) (overOut status (c .a)) (l .area) x 0 [] (went (l .area) x (overOut status (c .a)))
     over-comes x status = record {
@@ -90,17 +91,17 @@ module _ {D : Type 0} (H : Asked → Acts D) (left : D → ℕ) (Before Fit : D 
     still-ends : (x : D) (status : ℕ) → Ends H (c .iocb) (over c before x status) l (answered c l x status)
     still-ends x status = record { number = refl; table = block-back (l .table) (c .iocb); comes = over-comes x status }
 
-    opening-ends : (then : After) (number name : ℕ) (device : Device) (x : D)
+    opening-ends : (then : After) (number : ℕ) (name : Name) (device : Device) (x : D)
         → Ends H (c .iocb) (openingOf H (l .number) then number name device c before x) l (aloneOpening H left then number name device c l x)
     unfolding openingOf aloneOpening
     opening-ends then number name device x = by (offersOf device (c .aux1))
       where
-        by : (t : Bool) → let y = openedOf (H (asksOpen (l .number) (c .iocb) (c .aux1) (c .aux2) name)) then x in
+        by : (t : Bool) → let y = openedOf (H (asksOpen (l .number) (c .iocb) number (c .aux1) (c .aux2) name)) then x in
             let block = blockAfter (y .says) then (openBlock device number (c .aux1)) before in
             Ends H (c .iocb) (choose t (λ u. over c block (y .leaves) (doneStatus (y .says))) (λ u. over c before x 0x84)) l
             (choose t (λ u. answered c (withOwnBlock (c .iocb) block l) (y .leaves) (doneStatus (y .says))) (λ u. answered c l x 0x84))
         by true =
-            let y = openedOf (H (asksOpen (l .number) (c .iocb) (c .aux1) (c .aux2) name)) then x in
+            let y = openedOf (H (asksOpen (l .number) (c .iocb) number (c .aux1) (c .aux2) name)) then x in
             over-ends (blockAfter (y .says) then (openBlock device number (c .aux1)) before) (y .leaves) (doneStatus (y .says))
         by false = still-ends x 0x84
 
@@ -118,11 +119,11 @@ module _ {D : Type 0} (H : Asked → Acts D) (left : D → ℕ) (Before Fit : D 
         by done.Success y f = record {
           number = refl;
           table = block-back (l .table) (c .iocb);
-          comes = finishes H (l .number) left Fit Z (runOf device kind c) (l .area) y (f refl) p;
+          comes = finishes H (l .number) left Fit (runOf device kind c) Z (l .area) y (f refl) p;
         }
         by (done.Refused status) y f = still-ends y status
 
-    work-ends : (w : Work) (device : Device) (x : D) → Before x → PlannedWork w c
+    work-ends : (w : Work) (device : Device) (x : D) → Before x → PlannedWork w device c
         → Ends H (c .iocb) (workOf H (l .number) w device c before x) l (aloneWork H left w device c l x)
     unfolding workOf aloneWork
     work-ends work.Close device x o p = over-ends closedBlock (H asked .closes x) 0x01
@@ -131,8 +132,8 @@ module _ {D : Type 0} (H : Asked → Acts D) (left : D → ℕ) (Before Fit : D 
     work-ends (work.Open then number name) device x o p = opening-ends then number name device x
     work-ends (work.Transfer kind) device x o p = transfer-ends kind device x o p
 
-  job-ends : (job : Job) (l : Local) (x : D) → Before x → PlannedWork (job .work) (job .call) → JobEnds H job l x (aloneJob H left job l x)
-  job-ends job l x o p = work-ends (job .call) l (job .work) (job .device) x o p
+  job-ends : (job : Job) (l : Local) → Lines (H (asksOn (l .number) (job .call .iocb))) left Fit → (x : D) → Before x → PlannedWork (job .work) (job .device) (job .call) → JobEnds H job l x (aloneJob H left job l x)
+  job-ends job l Z x o p = work-ends (job .call) l Z (job .work) (job .device) x o p
 
 -- what needs no group
 load-is : (address size : ℕ) (room half : List ℕ) → loadedOf address size room half ≡ loaded address (bytesAt room 2 size) half
@@ -140,11 +141,11 @@ unfolding loadedOf loaded
 load-is address size room half = rw (bytes-length room 2 size)
 
 -- a job on its device
-pub device-ends : (job : Job) (l : Local) (x : Part (groupOf (job .device))) → FitPart (groupOf (job .device)) x → PlannedWork (job .work) (job .call)
-    → JobEnds (deviceActs (job .device)) job l x (aloneJob (deviceActs (job .device)) (deviceLeft (job .device)) job l x)
+pub device-ends : (job : Job) (l : Local) (x : Part (groupOf (job .device))) → FitPart (groupOf (job .device)) x → PlannedWork (job .work) (job .device) (job .call)
+    → JobEnds (deviceActs (job .device)) job l x (aloneJob (deviceActs (job .device)) (deviceLeft (job .device) (l .number) (job .call .iocb)) job l x)
 device-ends job l x f p =
     let d = job .device in
-    job-ends (deviceActs d) (deviceLeft d) (FitPart (groupOf d)) (FitOwn (ownerOf d)) d (device-lines d) (device-starts d) job l x f p
+    job-ends (deviceActs d) (deviceLeft d (l .number) (job .call .iocb)) (FitPart (groupOf d)) (FitOwn (ownerOf d)) d (device-starts d) job l (device-lines d (l .number) (job .call .iocb)) x f p
 
 call-is : (q : Plan) (room : List ℕ) (l : Local) (s : Groups) → FitGroups s → Planned q → IsAlone q room l s (alonePlan q [] l s)
 unfolding alonePlan aloneErrand errandOf
@@ -157,7 +158,7 @@ call-is (plan.On job) room l s f h =
     (device-ends job l (getGroup g s) (fit-part g s f) h, refl)
 
 -- For every message and every undamaged console and printer: the start, finished by moves, gives the request alone, reply and all it
--- leaves, in exactly as many moves as it has characters, and at most 61,441.
+-- leaves, in exactly as many moves as it has characters, and at most 89,876.
 pub alone-is : (m : Message) (room : List ℕ) (l : Local) (s : Groups) → FitGroups s
     → IsAlone (planOf m (l .table) (l .area)) room l s (aloneOf (saidOf m room) l s)
 unfolding aloneOf planOf planIn alonePlan aloneErrand errandOf loadOf

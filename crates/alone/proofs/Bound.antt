@@ -1,4 +1,4 @@
--- "ends within 61,441 further ticks": every transfer's course has at most 61,441 points.
+-- "The bound of 61,441 becomes 89,876.": every transfer's course has at most 89,876 points.
 -- Assumes nothing.
 use mathlib.Core.Path.{_≡_, refl}
 use mathlib.Core.Bool.{Bool, true, false}

@@ -118,10 +118,10 @@ module _ (g : ConsoleGroup) (f : Fit8 g) (status byte : ℕ) (says : Gives (H .r
   no-eol = heard .0
 
   after-fit : Fit8 (H .reads g .leaves)
-  after-fit = (owner-lines (owner.Console console.S) (asksOn 0 0) .read-fit g (f .0), heard .1)
+  after-fit = (owner-lines (owner.Console console.S) 0 0 .read-fit g (f .0), heard .1)
 
   after-left : left g ≡ left (H .reads g .leaves) + 1
-  after-left = owner-lines (owner.Console console.S) (asksOn 0 0) .falls g status byte (f .0) says (eqb-false byte eol no-eol)
+  after-left = owner-lines (owner.Console console.S) 0 0 .falls g status byte (f .0) says (eqb-false byte eol no-eol)
 
 module _ (g : ConsoleGroup) (f : Fit8 g) (status : ℕ) (says : H .reads g .says ≡ got.Refused status) where
   the-status : status ≡ 0x8D

@@ -16,6 +16,7 @@ use Rattle.editor.specs.Get as editor-get
 use Rattle.graphics.specs.Picture as graphics
 use Rattle.records.specs.Records.{tapeLength}
 use Rattle.cassette.specs.Cassette.{cassetteGroup, freshCassette}
+use Rattle.disk.specs.Disk.{diskGroup, freshPlaces}
 use Rattle.printer.specs.Printer.{paperLength, printerGroup}
 use Rattle.console.specs.Group.{group, freshGroup, pressedOf}
 use Rattle.console.specs.Handlers.{openE, openS, openOf, prepareE, prepareS, prepareOf, readE, readS, readK, readOf, writeE, writeS, writeOf}
@@ -24,7 +25,7 @@ use Rattle.blocks.specs.Opening.{deviceOf, numberOf, namedOf, specificationOf, 
 use Rattle.replies.specs.Replies.{bytesAt, fetchStatus, fetchReply}
 use Rattle.devices.specs.Groups.{Groups}
 use Rattle.commands.specs.Commands.{commandOf, wayOf}
-use Rattle.plan.specs.Plan.{areaPlan, transferPlan, blockPlan, callPlan, planOf, nameOf, planIn}
+use Rattle.plan.specs.Plan.{areaPlan, transferPlan, blockPlan, callPlan, planOf, nameOf, namedFor, planIn}
 use Rattle.cio.specs.Start.{loadStatus, openedOf, thenOf}
 use Rattle.alone.specs.Transfer.{getOne, putOne, getCharacters, dropLine, getRecord, putCharacters, putRecord, getting, putting, transferred}
 use Rattle.alone.specs.Left.{leftE, leftS, leftK, consoleLeft}
@@ -51,7 +52,7 @@ abbrev hear : List ℕ → Heard → Heard
 hear reply h = record { replies = reply ∷ h .replies; cursor = h .cursor; cells = h .cells }
 
 abbrev pressed : ℕ → Groups → Groups
-pressed code d = record { console = group (pressedOf code (d .console .console)) (d .console .screen); printer = d .printer; cassette = d .cassette }
+pressed code d = record { console = group (pressedOf code (d .console .console)) (d .console .screen); printer = d .printer; cassette = d .cassette; disk = d .disk }
 
 abbrev pub run : List Step → Local → Groups → Heard
 run [] l d = seenAt d
@@ -59,7 +60,7 @@ run (says said ∷ rest) l d = let w = aloneOf said l d in hear (w .reply) (run 
 run (presses code ∷ rest) l d = run rest l (pressed code d)
 
 abbrev fresh : List Step → Heard
-fresh steps = run steps (local 0 closedTable (replicate areaLength 0)) (record { console = freshGroup; printer = printerGroup 0 (replicate paperLength 0); cassette = cassetteGroup freshCassette (replicate 128 0) (replicate tapeLength 0) })
+fresh steps = run steps (local 0 closedTable (replicate areaLength 0)) (record { console = freshGroup; printer = printerGroup 0 (replicate paperLength 0); cassette = cassetteGroup freshCassette (replicate 128 0) (replicate tapeLength 0); disk = diskGroup freshPlaces [] })
 
 abbrev asks : (iocb command address length aux1 aux2 a : ℕ) → Step
 asks iocb command address length aux1 aux2 a =
@@ -119,5 +120,5 @@ pub cases : map fresh scripts ≡
     heard (opened ++ (calls 0x01 0 0x41 ∷ calls 0x88 0 0 ∷ calls 0x01 0 0x61 ∷ [])) (0 ∷ 2 ∷ []) blank ∷
     heard (opened ++ (calls 0x01 0 0x01 ∷ calls 0x88 0 0 ∷ [])) (0 ∷ 2 ∷ []) blank ∷
     heard (opened ++ (calls 0x01 0 5 ∷ [])) (0 ∷ 1 ∷ []) (1 ∷ 0 ∷ 0 ∷ []) ∷ []
-unfolding modes rowOf shapeOf countOf cellOf withCell filled reduced scrolled keys.keys keys-to.entryOf keys-to.keyAnswer keys-to.translateOf keyboard.obeyed keyboard.struckBy keyboard.getOf controls-acts.plainOf controls-acts.actOf editor.newRow editor.openOf controls.lessOf controls.moreOf controls.clearOf controls.backOf controls.onward controls.dataOf controls.doing controls.putOf editor-get.cellsHeld editor-get.endOf editor-get.getAt editor-get.getOf graphics.onward graphics.cellsOpened graphics.openOf graphics.getOf graphics.clearOf graphics.dataOf graphics.putOf openE openS openOf prepareE prepareS prepareOf readE readS readK readOf writeE writeS writeOf deviceOf numberOf namedOf specificationOf offersOf bytesAt fetchStatus fetchReply commandOf wayOf areaPlan transferPlan blockPlan nameOf callPlan planIn planOf loadStatus getOne putOne getCharacters dropLine getRecord putCharacters putRecord getting putting transferred leftE leftS leftK consoleLeft thenOf openedOf aloneOpening aloneTransfer aloneWork loaded aloneErrand alonePlan aloneOf
+unfolding modes rowOf shapeOf countOf cellOf withCell filled reduced scrolled keys.keys keys-to.entryOf keys-to.keyAnswer keys-to.translateOf keyboard.obeyed keyboard.struckBy keyboard.getOf controls-acts.plainOf controls-acts.actOf editor.newRow editor.openOf controls.lessOf controls.moreOf controls.clearOf controls.backOf controls.onward controls.dataOf controls.doing controls.putOf editor-get.cellsHeld editor-get.endOf editor-get.getAt editor-get.getOf graphics.onward graphics.cellsOpened graphics.openOf graphics.getOf graphics.clearOf graphics.dataOf graphics.putOf openE openS openOf prepareE prepareS prepareOf readE readS readK readOf writeE writeS writeOf deviceOf numberOf namedOf specificationOf offersOf bytesAt fetchStatus fetchReply commandOf wayOf areaPlan transferPlan blockPlan nameOf namedFor callPlan planIn planOf loadStatus getOne putOne getCharacters dropLine getRecord putCharacters putRecord getting putting transferred leftE leftS leftK consoleLeft thenOf openedOf aloneOpening aloneTransfer aloneWork loaded aloneErrand alonePlan aloneOf
 cases = refl

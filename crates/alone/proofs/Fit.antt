@@ -10,9 +10,11 @@ fit-part group.Nobody s f = tt
 fit-part group.Console s f = f .console
 fit-part group.Printer s f = f .printer
 fit-part group.Cassette s f = f .cassette
+fit-part group.Disk s f = f .disk
 
 pub fit-put : (g : Group) (s : Groups) (x : Part g) → FitGroups s → FitPart g x → FitGroups (putGroup g s x)
 fit-put group.Nobody s x f h = f
-fit-put group.Console s x f h = record { console = h; printer = f .printer; cassette = f .cassette }
-fit-put group.Printer s x f h = record { console = f .console; printer = h; cassette = f .cassette }
-fit-put group.Cassette s x f h = record { console = f .console; printer = f .printer; cassette = h }
+fit-put group.Console s x f h = record { console = h; printer = f .printer; cassette = f .cassette; disk = f .disk }
+fit-put group.Printer s x f h = record { console = f .console; printer = h; cassette = f .cassette; disk = f .disk }
+fit-put group.Cassette s x f h = record { console = f .console; printer = f .printer; cassette = h; disk = f .disk }
+fit-put group.Disk s x f h = record { console = f .console; printer = f .printer; cassette = f .cassette; disk = h }

@@ -11,6 +11,7 @@ use Rattle.base.proofs.Choices.{choose-go}
 use Rattle.handler.specs.declared.Asked.{Asked}
 use Rattle.handler.specs.declared.Done.{Done}
 use Rattle.handler.specs.declared.Done.the-variants as done
+use Rattle.names.specs.declared.Name.{Name}
 use Rattle.handler.specs.Acts.{Acts, asksOpen, asksOn}
 use Rattle.blocks.specs.declared.ControlBlock.{ControlBlock}
 use Rattle.blocks.specs.declared.Device.{Device}
@@ -18,7 +19,7 @@ use Rattle.blocks.specs.declared.Kind.{Kind}
 use Rattle.blocks.specs.declared.Kind.the-variants.{Get, Put}
 use Rattle.blocks.specs.declared.Run.{Run}
 use Rattle.blocks.specs.Blocks.{closedBlock, openBlock, blockAt}
-use Rattle.blocks.specs.Opening.{offersOf}
+use Rattle.blocks.specs.Opening.{highestOf, offersOf}
 use Rattle.blocks.specs.Made.{splits, madeOf}
 use Rattle.blocks.proofs.Keeps.{with-length, with-made, open-is-made, block-made}
 use Rattle.wire.specs.declared.Call.{Call}
@@ -129,7 +130,7 @@ fit-block iocb block l f m = record {
 }
 
 -- only an OPEN opens its block, and with an AUX1 that its handler takes
-pub after-made : (device : Device) (says : Done) (then : After) (number aux1 : ℕ) (before : ControlBlock) → madeOf before ≡ true → within 1 8 number ≡ true → offersOf device aux1 ≡ true
+pub after-made : (device : Device) (says : Done) (then : After) (number aux1 : ℕ) (before : ControlBlock) → madeOf before ≡ true → within 1 (highestOf device) number ≡ true → offersOf device aux1 ≡ true
     → (says ≡ done.Success → then ≡ after.Stay → splits device aux1 ≡ false) → madeOf (blockAfter says then (openBlock device number aux1) before) ≡ true
 after-made device done.Success after.Stay number aux1 before m n o s = open-is-made device number aux1 n o (s refl refl)
 after-made device done.Success after.Status number aux1 before m n o s = m
@@ -162,17 +163,17 @@ module _ {D : Type 0} (H : Asked → Acts D) (Before Fit : D → Type 0) (device
       let y = H asked .opens x in
       Y .unsplit asked x (stay-says (y .says) (y .leaves) (subst (λ (t : After). openedBy (H asked) t (y .says) (y .leaves) .says ≡ done.Success) s e))
 
-module _ {D : Type 0} (H : Asked → Acts D) (left : D → ℕ) (Before Fit : D → Type 0) (device : Device) (Z : (asked : Asked) → Lines (H asked) left Fit) (Y : Starts H Before Fit device) where
+module _ {D : Type 0} (H : Asked → Acts D) (left : D → ℕ) (Before Fit : D → Type 0) (device : Device) (Y : Starts H Before Fit device) where
   pub record FitOn (w : AloneOn D) : Type 0 where
     pub local : FitLocal (w .local)
     pub on : Before (w .device)
     pub reply : ReplyFits (w .reply)
 
-  module _ (c : Call) (l : Local) (x : D) (f : FitLocal l) (b : Before x) where
-    opening-fit : (then : After) (number name : ℕ) → within 1 8 number ≡ true → FitOn (aloneOpening H left then number name device c l x)
+  module _ (c : Call) (l : Local) (x : D) (Z : Lines (H (asksOn (l .number) (c .iocb))) left Fit) (f : FitLocal l) (b : Before x) where
+    opening-fit : (then : After) (number : ℕ) (name : Name) → within 1 (highestOf device) number ≡ true → FitOn (aloneOpening H left then number name device c l x)
     unfolding aloneOpening
     opening-fit then number name n =
-        let asked = asksOpen (l .number) (c .iocb) (c .aux1) (c .aux2) name in
+        let asked = asksOpen (l .number) (c .iocb) number (c .aux1) (c .aux2) name in
         let y = openedOf (H asked) then x in
         choose-go FitOn (offersOf device (c .aux1)) _ _
         (λ o. record {
@@ -193,11 +194,11 @@ module _ {D : Type 0} (H : Asked → Acts D) (left : D → ℕ) (Before Fit : D 
         by : (says : Done) (y : D) → Before y → (says ≡ done.Success → Fit y)
             → FitOn (onDone says (λ u. replying l (transferred (H asked) left (c .a) kind (c .length) (c .address) 0 (l .area) y)) (λ status. answered c l y status))
         by done.Success y o s =
-            let k = whole-keeps H (l .number) (c .iocb) left Fit (Z asked) (runOf device kind c) (l .area) y (s refl) refl p in
+            let k = whole-keeps H (l .number) (c .iocb) left Fit Z (runOf device kind c) (l .area) y (s refl) refl p in
             record { local = record { area = k .long ∙ f .area; eight = f .eight; made = f .made }; on = Y .used _ (k .device); reply = seven-fit }
         by (done.Refused status) y o s = record { local = f; on = o; reply = seven-fit }
 
-    work-fit : (w : Work) → PlannedWork w c → FitOn (aloneWork H left w device c l x)
+    work-fit : (w : Work) → PlannedWork w device c → FitOn (aloneWork H left w device c l x)
     unfolding aloneWork
     work-fit work.Close p = record { local = fit-block (c .iocb) closedBlock l f refl; on = Y .close-fit asked x b; reply = seven-fit }
     work-fit work.Status p = record { local = f; on = b; reply = seven-fit }
@@ -232,7 +233,7 @@ call-fit (plan.Free e) l s f d p = errand-fit e [] l s f d
 call-fit (plan.On job) l s f d p =
     let own = job .device in
     let g = groupOf own in
-    let w = work-fit (deviceActs own) (deviceLeft own) (FitPart g) (FitOwn (ownerOf own)) own (device-lines own) (device-starts own) (job .call) l (getGroup g s) f (fit-part g s d) (job .work) p in
+    let w = work-fit (deviceActs own) (deviceLeft own (l .number) (job .call .iocb)) (FitPart g) (FitOwn (ownerOf own)) own (device-starts own) (job .call) l (getGroup g s) (device-lines own (l .number) (job .call .iocb)) f (fit-part g s d) (job .work) p in
     record { local = w .local; groups = fit-put g s _ d (w .on); reply = w .reply }
 
 -- a request alone leaves nothing damaged

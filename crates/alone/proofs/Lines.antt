@@ -1,4 +1,4 @@
--- What the theorems ask of a handler, shown of E, S, K, P and C.
+-- What the theorems ask of a handler, shown of E, S, K, P, C and D.
 -- Assumes nothing.
 use mathlib.Core.Path.{_≡_, _∙_, refl, sym, ap}
 use mathlib.Core.Bool.{Bool, true, false, not}
@@ -9,6 +9,7 @@ use native.Mathlib.Numerals.{add-one}
 use native.Mathlib.Omega.{arith}
 use lib.Dec.{leb, ltb}
 use lib.ListN.{getD}
+use lib.Seq.{length-sets}
 use borrow.Author.Tests.{eq-eqb, ne-eqb, ltb-true, leb-true}
 use Rattle.base.specs.Choice.{and, or, within, bit}
 use Rattle.base.proofs.Choices.{pick-eq, pick-lt, choose-go, choose-eq, choose-lt, choose-le, by-test, by-eq, and-left, and-right}
@@ -19,7 +20,7 @@ use Rattle.handler.specs.declared.Got.{Got}
 use Rattle.handler.specs.declared.Got.the-variants as got
 use Rattle.handler.specs.Answer.{Answer, Gives, plain, warns, gotHigh}
 use Rattle.handler.proofs.Giving.{gives-refused, gives-byte}
-use Rattle.handler.specs.Acts.{Acts}
+use Rattle.handler.specs.Acts.{Acts, asksOn}
 use Rattle.keys.specs.declared.keyboard.Keyboard.{Keyboard}
 use Rattle.keys.specs.Translation.{translateOf}
 use Rattle.keys.specs.Keyboard as keys
@@ -39,6 +40,10 @@ use Rattle.cassette.specs.Reads.{success, warned, TapeReads, bad, ended, given}
 use Rattle.cassette.proofs.Laws.{read-closed}
 use Rattle.cassette.proofs.Reading.{read-always}
 use Rattle.cassette.proofs.Keeps as cassette-keeps
+use Rattle.disk.specs.Disk.{placeAt, placeRead, DiskGroup, diskActs}
+use Rattle.disk.specs.Fit.{FitDisk}
+use Rattle.disk.specs.Left.{leftAt}
+use Rattle.disk.proofs.Keeps as disk-keeps
 use Rattle.console.specs.declared.Handler.{Handler}
 use Rattle.console.specs.declared.Handler.the-variants.{E, S, K}
 use Rattle.console.specs.declared.state.Console.{Console}
@@ -56,7 +61,7 @@ use Rattle.devices.specs.declared.Owner.the-variants as owner
 use Rattle.devices.specs.Groups.{Part, ownerOf, groupIn, groupOf, ownActs, deviceActs}
 use Rattle.devices.specs.Fit.{FitPart}
 use Rattle.devices.proofs.Keeps.{opens-fit, specials-fit}
-use Rattle.alone.specs.Left.{leftE, leftS, leftK, consoleLeft, printerLeft, oneMore, readsOf, leftC, ownerLeft, deviceLeft}
+use Rattle.alone.specs.Left.{leftE, leftS, leftK, consoleLeft, printerLeft, oneMore, readsOf, leftC, leftD, ownerLeft, deviceLeft}
 use Rattle.alone.specs.Fit.{UsedBy, FitOwn}
 use Rattle.alone.specs.Moves.{mostMoves, Lines, Starts}
 
@@ -175,38 +180,69 @@ on-more (got.Character byte) n m h = ap suc (h 0x01 byte (plain refl refl))
 on-more (got.Last byte) n m h = ap suc (h 0x03 byte (warns refl refl))
 on-more (got.Refused status) n m h = refl
 
-few-C : (most : ℕ) (g : CassetteGroup) → readsOf most g ≤ most
-unfolding readsOf
-few-C zero g = omega arith
-few-C (suc n) g = go (readOf g .says) (few-C n (readOf g .leaves))
-  where
-    go : (says : Got) → readsOf n (readOf g .leaves) ≤ n → oneMore says (readsOf n (readOf g .leaves)) ≤ suc n
-    go (got.Character byte) h = omega arith
-    go (got.Last byte) h = omega arith
-    go (got.Refused status) h = omega arith
+-- reads one after the other: so many at most, each of which leaves fewer
+module _ {D : Type 0} (reads : D → Answer Got D) where
+  few-reads : (most : ℕ) (x : D) → readsOf reads most x ≤ most
+  unfolding readsOf
+  few-reads zero x = omega arith
+  few-reads (suc n) x = go (reads x .says) (few-reads n (reads x .leaves))
+    where
+      go : (says : Got) → readsOf reads n (reads x .leaves) ≤ n → oneMore says (readsOf reads n (reads x .leaves)) ≤ suc n
+      go (got.Character byte) h = omega arith
+      go (got.Last byte) h = omega arith
+      go (got.Refused status) h = omega arith
 
--- where the tape has no more characters than are asked for, one more changes nothing
-enough : (n : ℕ) (g : CassetteGroup) → FitCassette g → cassetteLeft g ≤ n → readsOf (suc n) g ≡ readsOf n g
-unfolding readsOf
-enough zero g f h = none (readOf g .says) refl
-  where
-    none : (says : Got) → readOf g .says ≡ says → oneMore says (readsOf 0 (readOf g .leaves)) ≡ 0
-    none (got.Character byte) e = absurd (omega (arith, cassette-keeps.read-falls g f 0x01 byte (plain e refl)))
-    none (got.Last byte) e = absurd (omega (arith, cassette-keeps.read-falls g f 0x03 byte (warns e refl)))
-    none (got.Refused status) e = refl
-enough (suc n) g f h =
-    on-more (readOf g .says) (readsOf (suc n) (readOf g .leaves)) (readsOf n (readOf g .leaves))
-    (λ status byte e. enough n (readOf g .leaves) (cassette-keeps.read-fit g f) (omega (arith, cassette-keeps.read-falls g f status byte e)))
+  module _ (Fit : D → Type 0) (most : D → ℕ) (keeps : (x : D) → Fit x → Fit (reads x .leaves)) (fewer : (x : D) → Fit x → (status byte : ℕ) → Gives (reads x .says) status byte → most (reads x .leaves) < most x) where
+    -- where there are no more characters than are asked for, one more changes nothing
+    enough : (n : ℕ) (x : D) → Fit x → most x ≤ n → readsOf reads (suc n) x ≡ readsOf reads n x
+    unfolding readsOf
+    enough zero x f h = none (reads x .says) refl
+      where
+        none : (says : Got) → reads x .says ≡ says → oneMore says (readsOf reads 0 (reads x .leaves)) ≡ 0
+        none (got.Character byte) e = absurd (omega (arith, fewer x f 0x01 byte (plain e refl)))
+        none (got.Last byte) e = absurd (omega (arith, fewer x f 0x03 byte (warns e refl)))
+        none (got.Refused status) e = refl
+    enough (suc n) x f h =
+        on-more (reads x .says) (readsOf reads (suc n) (reads x .leaves)) (readsOf reads n (reads x .leaves))
+        (λ status byte e. enough n (reads x .leaves) (keeps x f) (omega (arith, fewer x f status byte e)))
 
-one-fewer : (n : ℕ) (g : CassetteGroup) (status byte : ℕ) → FitCassette g → cassetteLeft g ≤ suc n → Gives (readOf g .says) status byte → readsOf (suc n) g ≡ suc (readsOf (suc n) (readOf g .leaves))
-unfolding readsOf
-one-fewer n g status byte f h e =
-    more-given (readOf g .says) status byte (readsOf n (readOf g .leaves)) e
-    ∙ sym (ap suc (enough n (readOf g .leaves) (cassette-keeps.read-fit g f) (omega (arith, cassette-keeps.read-falls g f status byte e))))
+    one-fewer : (n : ℕ) (x : D) (status byte : ℕ) → Fit x → most x ≤ suc n → Gives (reads x .says) status byte → readsOf reads (suc n) x ≡ readsOf reads (suc n) (reads x .leaves) + 1
+    unfolding readsOf
+    one-fewer n x status byte f h e =
+        more-given (reads x .says) status byte (readsOf reads n (reads x .leaves)) e
+        ∙ sym (ap suc (enough n (reads x .leaves) (keeps x f) (omega (arith, fewer x f status byte e))))
+        ∙ sym (add-one (readsOf reads (suc n) (reads x .leaves)))
 
 tape-falls : (g : CassetteGroup) (status byte : ℕ) → FitCassette g → Gives (readOf g .says) status byte → leftC g ≡ leftC (readOf g .leaves) + 1
 unfolding leftC
-tape-falls g status byte f e = one-fewer 31999 g status byte f (cassette-keeps.left-bound g) e ∙ sym (add-one (readsOf 32000 (readOf g .leaves)))
+tape-falls g status byte f e =
+    one-fewer readOf FitCassette cassetteLeft cassette-keeps.read-fit (λ x k s b g. omega (arith, cassette-keeps.read-falls x k s b g)) 31999 g status byte f (cassette-keeps.left-bound g) e
+
+-- ---- D: at a block's own place
+module _ (asked : Asked) where
+  abbrev readD : DiskGroup → Answer Got DiskGroup
+  readD = diskActs asked .reads
+
+  abbrev placeIn : DiskGroup → List ℕ
+  placeIn g = placeAt (asked .port) (asked .iocb) (g .places)
+
+  disk-read-fit : (g : DiskGroup) → FitDisk g → FitDisk (readD g .leaves)
+  disk-read-fit g f = record { places = disk-keeps.read-places asked g ∙ f .places; images = f .images }
+
+  disk-fewer : (g : DiskGroup) → FitDisk g → (status byte : ℕ) → Gives (readD g .says) status byte → leftAt (placeIn (readD g .leaves)) < leftAt (placeIn g)
+  disk-fewer g f status byte e =
+      let p = placeIn g in
+      let l = disk-keeps.place-length (asked .port) (asked .iocb) (g .places) (f .places) in
+      let own = disk-keeps.place-own (asked .port) (asked .iocb) (g .places) (placeRead p (g .images) .leaves) (f .places) (disk-keeps.read-length p (g .images) ∙ l) in
+      rw own (omega (arith, disk-keeps.read-falls p (g .images) l status byte e))
+
+  disk-falls : (g : DiskGroup) (status byte : ℕ) → FitDisk g → Gives (readD g .says) status byte → readsOf readD 89875 g ≡ readsOf readD 89875 (readD g .leaves) + 1
+  disk-falls g status byte f e =
+      one-fewer readD FitDisk (λ (x : DiskGroup). leftAt (placeIn x)) disk-read-fit disk-fewer 89874 g status byte f (disk-keeps.left-bound (placeIn g)) e
+
+  -- an act that changes nothing puts the place back
+  disk-still-fit : (g : DiskGroup) → FitDisk g → FitDisk (diskActs asked .closes g)
+  disk-still-fit g f = record { places = simp length-sets (f .places); images = f .images }
 
 -- "A handler status from $80": each refusal of a character has one
 reads-high : (g : CassetteGroup) (a : Answer Got CassetteGroup) → TapeReads g a → gotHigh (a .says)
@@ -238,30 +274,38 @@ read-high (owner.Console K) asked x =
     (λ t. rw t (omega arith))
 read-high owner.Printer asked x = omega arith
 read-high owner.Cassette asked x = tape-read-high x
+read-high owner.Disk asked x = disk-keeps.read-high (placeAt (asked .port) (asked .iocb) (x .places)) (x .images)
 
 -- a device of a group, by its owner
-pub owner-lines : (o : Owner) (asked : Asked) → Lines (ownActs o asked) (ownerLeft o) (FitOwn o)
-unfolding printerLeft leftC
-owner-lines (owner.Console h) asked = record {
+pub owner-lines : (o : Owner) (port iocb : ℕ) → Lines (ownActs o (asksOn port iocb)) (ownerLeft o port iocb) (FitOwn o)
+unfolding printerLeft leftC leftD
+owner-lines (owner.Console h) port iocb = record {
   read-fit = λ g f. (read-fit g (f .0) h (f .1), read-use g (f .0) h (f .1));
   write-fit = λ byte g f. (write-fit g (f .0) h byte (f .1), write-use g (f .0) h byte (f .1));
   falls = λ g status byte f. console-falls h g status byte (f .0) (f .1);
-  high = λ g. read-high (owner.Console h) asked g;
+  high = λ g. read-high (owner.Console h) (asksOn port iocb) g;
   few = λ g f. console-few h g;
 }
-owner-lines owner.Printer asked = record {
+owner-lines owner.Printer port iocb = record {
   read-fit = λ g f. f;
   write-fit = λ byte g f. (printer-keeps.put-fit byte g (f .0), tt);
   falls = λ g status byte f e n. absurd (gives-refused 0x83 e refl);
-  high = λ g. read-high owner.Printer asked g;
+  high = λ g. read-high owner.Printer (asksOn port iocb) g;
   few = λ g f. omega arith;
 }
-owner-lines owner.Cassette asked = record {
+owner-lines owner.Cassette port iocb = record {
   read-fit = λ g f. (cassette-keeps.read-fit g (f .0), tt);
   write-fit = λ byte g f. (cassette-keeps.write-fit byte g (f .0), tt);
   falls = λ g status byte f e n. tape-falls g status byte (f .0) e;
-  high = λ g. read-high owner.Cassette asked g;
-  few = λ g f. omega (arith, few-C 32000 g);
+  high = λ g. read-high owner.Cassette (asksOn port iocb) g;
+  few = λ g f. omega (arith, few-reads readOf 32000 g);
+}
+owner-lines owner.Disk port iocb = record {
+  read-fit = λ g f. (disk-read-fit (asksOn port iocb) g (f .0), tt);
+  write-fit = λ byte g f. (disk-still-fit (asksOn port iocb) g (f .0), tt);
+  falls = λ g status byte f e n. disk-falls (asksOn port iocb) g status byte (f .0) e;
+  high = λ g. read-high owner.Disk (asksOn port iocb) g;
+  few = λ g f. omega (arith, few-reads (readD (asksOn port iocb)) 89875 g);
 }
 
 refused-success : {A : Type 0} (status : ℕ) → Refused status ≡ Success → A
@@ -284,6 +328,7 @@ device-unsplit device.S asked x e = screen-unsplit asked x e
 device-unsplit device.K asked x e = refl
 device-unsplit device.P asked x e = refl
 device-unsplit device.C asked x e = refl
+device-unsplit device.D asked x e = refl
 
 -- what a device's acts before a transfer leave
 module _ (asked : Asked) where
@@ -291,19 +336,22 @@ module _ (asked : Asked) where
   close-fits (owner.Console h) x f = f
   close-fits owner.Printer x f = f
   close-fits owner.Cassette x f = cassette-keeps.close-fit x f
+  close-fits owner.Disk x f = disk-still-fit asked x f
 
   prepare-fits : (o : Owner) (x : Part (groupIn o)) → FitPart (groupIn o) x → FitPart (groupIn o) (ownActs o asked .prepares x .leaves)
   prepare-fits (owner.Console h) x f = prepare-fit x f h
   prepare-fits owner.Printer x f = f
   prepare-fits owner.Cassette x f = f
+  prepare-fits owner.Disk x f = disk-still-fit asked x f
 
   prepare-uses : (o : Owner) (x : Part (groupIn o)) → FitPart (groupIn o) x → ownActs o asked .prepares x .says ≡ Success → UsedBy o (ownActs o asked .prepares x .leaves)
   prepare-uses (owner.Console h) x f e = prepare-use x f h e
   prepare-uses owner.Printer x f e = tt
   prepare-uses owner.Cassette x f e = tt
+  prepare-uses owner.Disk x f e = tt
 
-pub device-lines : (d : Device) (asked : Asked) → Lines (deviceActs d asked) (deviceLeft d) (FitOwn (ownerOf d))
-device-lines d asked = owner-lines (ownerOf d) asked
+pub device-lines : (d : Device) (port iocb : ℕ) → Lines (deviceActs d (asksOn port iocb)) (deviceLeft d port iocb) (FitOwn (ownerOf d))
+device-lines d port iocb = owner-lines (ownerOf d) port iocb
 
 pub device-starts : (d : Device) → Starts (deviceActs d) (FitPart (groupOf d)) (FitOwn (ownerOf d)) d
 device-starts d = record {

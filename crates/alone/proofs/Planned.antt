@@ -1,4 +1,4 @@
--- What the checks let through: a transfer has a length and an address in the area, an opening a number 1 to 8.
+-- What the checks let through: a transfer has a length and an address in the area, an opening a number that its device has.
 -- Assumes nothing.
 use mathlib.Core.Path.{_≡_, refl}
 use mathlib.Core.Bool.{Bool, true, false}
@@ -9,6 +9,8 @@ use lib.Dec.{eqb, leb, ltb}
 use borrow.Author.Tests.{ne-eqb, leb-true}
 use Rattle.base.specs.Choice.{pick, or, within}
 use Rattle.base.proofs.Choices.{pick-go, pick-eq}
+use Rattle.names.specs.declared.Named.{Named}
+use Rattle.names.specs.declared.Named.the-variants.{Past, Found}
 use Rattle.blocks.specs.declared.BlockState.{BlockState}
 use Rattle.blocks.specs.declared.BlockState.the-variants as block
 use Rattle.blocks.specs.declared.ControlBlock.{ControlBlock}
@@ -17,7 +19,7 @@ use Rattle.blocks.specs.declared.Specification.{Specification}
 use Rattle.blocks.specs.declared.Specification.the-variants.{Refused, Names}
 use Rattle.blocks.specs.declared.Way.{Way}
 use Rattle.blocks.specs.declared.Way.the-variants.{One, Characters, Record}
-use Rattle.blocks.specs.Opening.{areaLength, reads, writes, specificationOf}
+use Rattle.blocks.specs.Opening.{areaLength, highestOf, reads, writes, specificationOf}
 use Rattle.blocks.proofs.Keeps.{names-number}
 use Rattle.wire.specs.declared.Call.{Call}
 use Rattle.transfer.specs.Spans.{wayIn}
@@ -32,15 +34,15 @@ use Rattle.plan.specs.declared.Plan.the-variants as plan
 use Rattle.plan.specs.declared.Work.{Work}
 use Rattle.plan.specs.declared.Work.the-variants as work
 use Rattle.commands.specs.Commands.{commandOf, wayOf, kindOf}
-use Rattle.plan.specs.Plan.{openPlan, areaPlan, transferPlan, blockPlan, callPlan}
+use Rattle.plan.specs.Plan.{namedFor, namedPlan, openPlan, areaPlan, transferPlan, blockPlan, callPlan}
 use Rattle.alone.proofs.Span.{Span}
 
-abbrev pub PlannedWork : Work → Call → Type 0
-PlannedWork work.Close c = Unit {0}
-PlannedWork work.Status c = Unit {0}
-PlannedWork work.Special c = Unit {0}
-PlannedWork (work.Open then number name) c = within 1 8 number ≡ true
-PlannedWork (work.Transfer kind) c = Span (wayIn kind) (c .length) (c .address) 0
+abbrev pub PlannedWork : Work → Device → Call → Type 0
+PlannedWork work.Close device c = Unit {0}
+PlannedWork work.Status device c = Unit {0}
+PlannedWork work.Special device c = Unit {0}
+PlannedWork (work.Open then number name) device c = within 1 (highestOf device) number ≡ true
+PlannedWork (work.Transfer kind) device c = Span (wayIn kind) (c .length) (c .address) 0
 
 -- a CALL without a group is a status
 abbrev pub Called : Errand → Type 0
@@ -51,11 +53,15 @@ Called (errand.Bad status) = ⊥
 
 abbrev pub Planned : Plan → Type 0
 Planned (plan.Free e) = Called e
-Planned (plan.On job) = PlannedWork (job .work) (job .call)
+Planned (plan.On job) = PlannedWork (job .work) (job .device) (job .call)
 
-open-planned : (then : After) (s : Specification) (half : List ℕ) (c : Call) → ((device : Device) (number : ℕ) → s ≡ Names device number → within 1 8 number ≡ true) → Planned (openPlan then s half c)
+open-planned : (then : After) (s : Specification) (half : List ℕ) (c : Call) → ((device : Device) (number : ℕ) → s ≡ Names device number → within 1 (highestOf device) number ≡ true) → Planned (openPlan then s half c)
 open-planned then (Refused status) half c n = tt
-open-planned then (Names device number) half c n = n device number refl
+open-planned then (Names device number) half c n = by (namedFor device half (c .address))
+  where
+    by : (named : Named) → Planned (namedPlan then device number named c)
+    by Past = tt
+    by (Found name) = n device number refl
 
 -- a length that is not 0
 some-way : (records : Bool) (n address : ℕ) → (n ≡ 0 → ⊥) → address + n ≤ areaLength → Span (pick records Record Characters) n address 0

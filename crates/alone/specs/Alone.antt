@@ -7,6 +7,7 @@ use Prim.Native.Nat.{ℕ}
 use lib.ListN.{length}
 use lib.Seq.{sets}
 use Rattle.base.specs.Choice.{choose}
+use Rattle.names.specs.declared.Name.{Name}
 use Rattle.handler.specs.declared.Asked.{Asked}
 use Rattle.handler.specs.Answer.{doneStatus}
 use Rattle.handler.specs.Acts.{Acts, asksOpen, asksOn}
@@ -110,11 +111,11 @@ module _ {D : Type 0} where
 module _ {D : Type 0} (H : Asked → Acts D) (left : D → ℕ) where
   -- OPEN, and GET STATUS and SPECIAL on a closed block: "AUX1, mode, handler"; "$84 .. AUX1 not offered"; "A failed open leaves the
   -- block closed"
-  unfoldable pub aloneOpening : After → (number name : ℕ) → Device → Call → Local → D → AloneOn D
+  unfoldable pub aloneOpening : After → (number : ℕ) → Name → Device → Call → Local → D → AloneOn D
   aloneOpening then number name device c l x =
       choose (offersOf device (c .aux1))
       (λ u.
-      let y = openedOf (H (asksOpen (l .number) (c .iocb) (c .aux1) (c .aux2) name)) then x in
+      let y = openedOf (H (asksOpen (l .number) (c .iocb) number (c .aux1) (c .aux2) name)) then x in
       let block = blockAfter (y .says) then (openBlock device number (c .aux1)) (blockAt (l .table) (c .iocb)) in
       answered c (withOwnBlock (c .iocb) block l) (y .leaves) (doneStatus (y .says)))
       (λ u. answered c l x 0x84)
@@ -159,7 +160,7 @@ putBack g s w = alone (w .local) (putGroup g s (w .device)) (w .reply)
 
 -- a job on its device, as it stands in its group
 abbrev pub aloneOnDevice : (job : Job) → Local → Groups → AloneOn (Part (groupOf (job .device)))
-aloneOnDevice job l s = aloneJob (deviceActs (job .device)) (deviceLeft (job .device)) job l (getGroup (groupOf (job .device)) s)
+aloneOnDevice job l s = aloneJob (deviceActs (job .device)) (deviceLeft (job .device) (l .number) (job .call .iocb)) job l (getGroup (groupOf (job .device)) s)
 
 -- the checks' outcome says on what the request works; what it does not name is unchanged
 unfoldable pub alonePlan : Plan → (bytes : List ℕ) → Local → Groups → Alone

@@ -23,6 +23,7 @@ abbrev pub UsedBy : (o : Owner) → Part (groupIn o) → Type 0
 UsedBy (owner.Console h) x = InUse h (x .console)
 UsedBy owner.Printer x = Unit {0}
 UsedBy owner.Cassette x = Unit {0}
+UsedBy owner.Disk x = Unit {0}
 
 -- undamaged, and in use by this handler
 abbrev pub FitOwn : (o : Owner) → Part (groupIn o) → Type 0

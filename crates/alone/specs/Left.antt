@@ -1,15 +1,18 @@
--- For each device, the characters that its record has, where the device stands, before its EOL or a refusal; a tape knows
--- no EOL, and has what comes before a refusal.
+-- For each device, the characters that its record has, where the device stands, before its EOL or a refusal; tape and diskettes know
+-- no EOL, and have what comes before a refusal, a diskette at each block's own place.
 -- Assumes nothing.
 use Prim.Native.Nat.{ℕ, zero, suc, _-_, _*_}
 use lib.Dec.{eqb}
 use Rattle.base.specs.Choice.{pick}
+use Rattle.handler.specs.Answer.{Answer}
+use Rattle.handler.specs.Acts.{asksOn}
 use Rattle.handler.specs.declared.Got.{Got}
 use Rattle.handler.specs.declared.Got.the-variants as got
 use Rattle.cells.specs.Modes.{shapeOf}
 use Rattle.editor.specs.Get.{columnOf, endOf}
 use Rattle.printer.specs.Printer.{PrinterGroup}
 use Rattle.cassette.specs.Cassette.{CassetteGroup, readOf}
+use Rattle.disk.specs.Disk.{DiskGroup, diskActs}
 use Rattle.console.specs.declared.Handler.{Handler}
 use Rattle.console.specs.declared.Handler.the-variants.{E, S, K}
 use Rattle.console.specs.declared.state.Console.{Console}
@@ -40,24 +43,30 @@ consoleLeft K g = leftK (g .console)
 unfoldable pub printerLeft : PrinterGroup → ℕ
 printerLeft g = 0
 
--- C: the characters that can be read one after the other before a refusal; a tape has 250 times 128 at most
+-- C and D: the characters that can be read one after the other before a refusal
 abbrev pub oneMore : Got → ℕ → ℕ
 oneMore (got.Character byte) n = suc n
 oneMore (got.Last byte) n = suc n
 oneMore (got.Refused status) n = 0
 
-unfoldable pub readsOf : (most : ℕ) → CassetteGroup → ℕ
-readsOf zero g = 0
-readsOf (suc n) g = oneMore (readOf g .says) (readsOf n (readOf g .leaves))
+unfoldable pub readsOf : {D : Type 0} → (D → Answer Got D) → (most : ℕ) → D → ℕ
+readsOf reads zero x = 0
+readsOf reads (suc n) x = oneMore (reads x .says) (readsOf reads n (reads x .leaves))
 
+-- a tape has 250 times 128 at most
 unfoldable pub leftC : CassetteGroup → ℕ
-leftC g = readsOf 32000 g
+leftC g = readsOf readOf 32000 g
+
+-- a chain 719 sectors of 125 at most
+unfoldable pub leftD : (port iocb : ℕ) → DiskGroup → ℕ
+leftD port iocb g = readsOf (diskActs (asksOn port iocb) .reads) 89875 g
 
 -- of a device, by its owner
-abbrev pub ownerLeft : (o : Owner) → Part (groupIn o) → ℕ
-ownerLeft (owner.Console h) g = consoleLeft h g
-ownerLeft owner.Printer g = printerLeft g
-ownerLeft owner.Cassette g = leftC g
+abbrev pub ownerLeft : (o : Owner) → (port iocb : ℕ) → Part (groupIn o) → ℕ
+ownerLeft (owner.Console h) port iocb g = consoleLeft h g
+ownerLeft owner.Printer port iocb g = printerLeft g
+ownerLeft owner.Cassette port iocb g = leftC g
+ownerLeft owner.Disk port iocb g = leftD port iocb g
 
-abbrev pub deviceLeft : (device : Device) → Part (groupOf device) → ℕ
+abbrev pub deviceLeft : (device : Device) → (port iocb : ℕ) → Part (groupOf device) → ℕ
 deviceLeft device = ownerLeft (ownerOf device)

@@ -24,9 +24,9 @@ use Rattle.cio.specs.Start.{Begun, repliedWith, errandOf, jobBegun}
 use Rattle.alone.specs.Transfer.{Point, point, TransferEnd, transferred}
 use Rattle.alone.specs.Alone.{Local, withArea, Alone, AloneOn, putBack, aloneOnDevice}
 
--- "ends within 61,441 further ticks of its port"
+-- "ends within 61,441 further ticks of its port"; "The bound of 61,441 becomes 89,876."
 abbrev pub mostMoves : ℕ
-mostMoves = 61441
+mostMoves = 89876
 
 -- so many moves, or fewer where the request ends: H its device's handler, port the number of the port that it runs at
 unfoldable pub moves : {D : Type 0} → (Asked → Acts D) → (port : ℕ) → ℕ → Out → List ℕ → D → Went D
@@ -46,7 +46,7 @@ pub record Lines {D : Type 0} (H : Acts D) (left : D → ℕ) (Fit : D → Type 
   pub falls : (x : D) (status byte : ℕ) → Fit x → Gives (H .reads x .says) status byte → (byte ≡ eol → ⊥) → left x ≡ left (H .reads x .leaves) + 1
   -- "A handler status from $80 ends the request"
   pub high : (x : D) → gotHigh (H .reads x .says)
-  -- a screen has at most 61,440 cells, a tape 32,000 characters
+  -- a screen has at most 61,440 cells, a tape 32,000 characters, a file 89,875
   pub few : (x : D) → Fit x → left x < mostMoves
 
 -- Fit as above; Before: the device is undamaged; device: the handler's own

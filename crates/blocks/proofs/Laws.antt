@@ -17,14 +17,14 @@ use Rattle.blocks.specs.declared.ControlBlock.{ControlBlock}
 use Rattle.blocks.specs.declared.Table.{Table}
 use Rattle.blocks.specs.declared.Gather.{Gather}
 use Rattle.blocks.specs.declared.Device.{Device}
-use Rattle.blocks.specs.declared.Device.the-variants.{E, S, K, P, C}
+use Rattle.blocks.specs.declared.Device.the-variants.{E, S, K, P, C, D}
 use Rattle.blocks.specs.declared.Letter.{Letter}
 use Rattle.blocks.specs.declared.Letter.the-variants.{Unknown, Known}
 use Rattle.blocks.specs.declared.Specification.{Specification}
 use Rattle.blocks.specs.declared.Specification.the-variants.{Refused}
 use Rattle.blocks.specs.declared.Phase.the-variants.{Gathering}
 use Rattle.blocks.specs.Blocks.{closedBlock, closedTable, withBlock, blockAt, freshGather, freshPort}
-use Rattle.blocks.specs.Opening.{deviceOf, colonOf, numberOf, namedOf, specificationOf, reads, writes, offersOf}
+use Rattle.blocks.specs.Opening.{deviceOf, highestOf, colonOf, numberOf, namedOf, specificationOf, reads, writes, offersOf}
 use Rattle.blocks.specs.Made.{splits, madeOpen, madeOf, allMade, tableMade}
 
 -- past the eight blocks; that there are eight is told of what each of them owns
@@ -41,23 +41,30 @@ module _ (X : Type 0) (f : ControlBlock → X) (table : Table) (iocb : ℕ) (eig
 pub fresh-port : (table : Table) (gather : Gather) → table ≡ closedTable → gather ≡ freshGather → record { table = table; phase = Gathering gather } ≡ freshPort
 fresh-port table gather e f = rw (e, f)
 
+pub digit-arm : (known device : Device) → device ≡ known → 0x30 + highestOf known ≡ 0x30 + highestOf device
+digit-arm known device e = rw e
+
 module _ (half : List ℕ) (device : Device) (place byte : ℕ) where
   pub number-low : (s : Specification) → byte < 0x31 → s ≡ colonOf device 1 byte → s ≡ numberOf half device place byte
   unfolding numberOf
   number-low s l e = e ∙ rw (lt-leb 0x31 byte l)
 
-  pub number-high : (s : Specification) → 0x31 ≤ byte → 0x38 < byte → s ≡ colonOf device 1 byte → s ≡ numberOf half device place byte
-  unfolding numberOf
-  number-high s l h e = e ∙ rw (le-leb 0x31 byte l, lt-leb byte 0x38 h)
+  module _ (digit : ℕ) (d : digit ≡ 0x30 + highestOf device) where
+    pub number-high : (s : Specification) → 0x31 ≤ byte → digit < byte → s ≡ colonOf device 1 byte → s ≡ numberOf half device place byte
+    unfolding numberOf
+    number-high s l h e = let k : 0x30 + highestOf device < byte = omega arith in e ∙ rw (le-leb 0x31 byte l, lt-leb byte (0x30 + highestOf device) k)
 
-  module _ (l : 0x31 ≤ byte) (h : byte ≤ 0x38) where
+  module _ (digit : ℕ) (d : digit ≡ 0x30 + highestOf device) (l : 0x31 ≤ byte) (h : byte ≤ digit) where
+    within-digit : byte ≤ 0x30 + highestOf device
+    within-digit = omega arith
+
     pub number-past : 16384 ≤ place → Refused 0xB0 ≡ numberOf half device place byte
     unfolding numberOf
-    number-past o = rw (le-leb 0x31 byte l, le-leb byte 0x38 h, le-ltb place 16384 o)
+    number-past o = rw (le-leb 0x31 byte l, le-leb byte (0x30 + highestOf device) within-digit, le-ltb place 16384 o)
 
     pub number-digit : (next : ℕ) (s : Specification) → place < 16384 → next ≡ getD half place 0 → s ≡ colonOf device (byte - 0x30) next → s ≡ numberOf half device place byte
     unfolding numberOf
-    number-digit next s i e q = q ∙ rw (e, le-leb 0x31 byte l, le-leb byte 0x38 h, lt-ltb place 16384 i)
+    number-digit next s i e q = q ∙ rw (e, le-leb 0x31 byte l, le-leb byte (0x30 + highestOf device) within-digit, lt-ltb place 16384 i)
 
 module _ (half : List ℕ) (letter : Letter) (place : ℕ) where
   pub letter-unknown : letter ≡ Unknown → Refused 0x82 ≡ namedOf half letter place
@@ -96,6 +103,10 @@ module _ (device : Device) (aux1 : ℕ) (t : Bool) where
   unfolding offersOf
   offers-keys d e = rw (d, e)
 
+  pub offers-disk : device ≡ D → t ≡ writes aux1 → not t ≡ offersOf device aux1
+  unfolding offersOf
+  offers-disk d e = rw (d, e)
+
   pub offers-paper : device ≡ P → t ≡ reads aux1 → not t ≡ offersOf device aux1
   unfolding offersOf
   offers-paper d e = rw (d, e)
@@ -122,18 +133,18 @@ module _ (device : Device) (number aux1 : ℕ) where
   open-low l = rw (lt-leb 1 number l)
 
   module _ (l : 1 ≤ number) where
-    pub open-high : 8 < number → false ≡ madeOpen device number aux1
+    pub open-high : highestOf device < number → false ≡ madeOpen device number aux1
     unfolding madeOpen
-    open-high h = rw (le-leb 1 number l, lt-leb number 8 h)
+    open-high h = rw (le-leb 1 number l, lt-leb number (highestOf device) h)
 
-    module _ (h : number ≤ 8) (o : Bool) (e : o ≡ offersOf device aux1) where
+    module _ (h : number ≤ highestOf device) (o : Bool) (e : o ≡ offersOf device aux1) where
       pub open-offered : (s : Bool) → s ≡ splits device aux1 → o ≡ true → not s ≡ madeOpen device number aux1
       unfolding madeOpen
-      open-offered s f q = rw (f, ← e, q, le-leb 1 number l, le-leb number 8 h)
+      open-offered s f q = rw (f, ← e, q, le-leb 1 number l, le-leb number (highestOf device) h)
 
       pub open-refused : o ≡ false → false ≡ madeOpen device number aux1
       unfolding madeOpen
-      open-refused q = rw (← e, q, le-leb 1 number l, le-leb number 8 h)
+      open-refused q = rw (← e, q, le-leb 1 number l, le-leb number (highestOf device) h)
 
 pub block-open : (block : ControlBlock) (device : Device) (number aux1 : ℕ) (r : Bool) → block .state ≡ Open device number aux1 → r ≡ madeOpen device number aux1 → r ≡ madeOf block
 block-open block device number aux1 r e f = f ∙ rw e

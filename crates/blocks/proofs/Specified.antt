@@ -13,12 +13,12 @@ use lib.ListN.{getD}
 use Rattle.base.specs.Choice.{and, or, within, bit}
 use Rattle.base.proofs.Choices.{by-eq, by-lt, and-false}
 use Rattle.blocks.specs.declared.Device.{Device}
-use Rattle.blocks.specs.declared.Device.the-variants.{E, S, K, P, C}
+use Rattle.blocks.specs.declared.Device.the-variants.{E, S, K, P, C, D}
 use Rattle.blocks.specs.declared.Letter.{Letter}
 use Rattle.blocks.specs.declared.Letter.the-variants.{Unknown, Known}
 use Rattle.blocks.specs.declared.Specification.{Specification}
 use Rattle.blocks.specs.declared.Specification.the-variants.{Refused, Names}
-use Rattle.blocks.specs.Opening.{areaLength, letterOf, deviceOf, needed, colonOf, numberOf, namedOf, specificationOf, offersOf}
+use Rattle.blocks.specs.Opening.{areaLength, letterOf, deviceOf, highestOf, needed, colonOf, numberOf, namedOf, specificationOf, offersOf}
 use Rattle.blocks.specs.Specified.{KnownLetter, NumberDigit, behind, Specified, unnumbered, numbered, Malformed, unknown-letter, neither-number-nor-colon, no-colon, NeededPast, letter-past, next-past, colon-past, Specifies, NotOffered}
 use Rattle.blocks.proofs.Keeps.{device-letter}
 
@@ -34,23 +34,25 @@ by-letter byte p q =
     (λ e. by-eq byte 0x53 (λ s. p (known S s))
     (λ s. by-eq byte 0x4B (λ k. p (known K k))
     (λ k. by-eq byte 0x50 (λ o. p (known P o))
-    (λ o. by-eq byte 0x43 (λ c. p (known C c)) (λ c. q (none e s k o c))))))
+    (λ o. by-eq byte 0x43 (λ c. p (known C c))
+    (λ c. by-eq byte 0x44 (λ d. p (known D d)) (λ d. q (none e s k o c d)))))))
   where
-    other : (device : Device) → (byte ≡ 0x45 → ⊥) → (byte ≡ 0x53 → ⊥) → (byte ≡ 0x4B → ⊥) → (byte ≡ 0x50 → ⊥) → (byte ≡ 0x43 → ⊥) → byte ≡ letterOf device → ⊥
-    other E e s k o c = e
-    other S e s k o c = s
-    other K e s k o c = k
-    other P e s k o c = o
-    other C e s k o c = c
+    other : (device : Device) → (byte ≡ 0x45 → ⊥) → (byte ≡ 0x53 → ⊥) → (byte ≡ 0x4B → ⊥) → (byte ≡ 0x50 → ⊥) → (byte ≡ 0x43 → ⊥) → (byte ≡ 0x44 → ⊥) → byte ≡ letterOf device → ⊥
+    other E e s k o c d = e
+    other S e s k o c d = s
+    other K e s k o c d = k
+    other P e s k o c d = o
+    other C e s k o c d = c
+    other D e s k o c d = d
 
-    none : (byte ≡ 0x45 → ⊥) → (byte ≡ 0x53 → ⊥) → (byte ≡ 0x4B → ⊥) → (byte ≡ 0x50 → ⊥) → (byte ≡ 0x43 → ⊥) → KnownLetter byte → ⊥
-    none e s k o c l = other (l .device) e s k o c (l .letter)
+    none : (byte ≡ 0x45 → ⊥) → (byte ≡ 0x53 → ⊥) → (byte ≡ 0x4B → ⊥) → (byte ≡ 0x50 → ⊥) → (byte ≡ 0x43 → ⊥) → (byte ≡ 0x44 → ⊥) → KnownLetter byte → ⊥
+    none e s k o c d l = other (l .device) e s k o c d (l .letter)
 
-by-digit : {P : Type 0} (byte : ℕ) → (NumberDigit byte → P) → ((NumberDigit byte → ⊥) → P) → P
-by-digit byte p q =
+by-digit : {P : Type 0} (device : Device) (byte : ℕ) → (NumberDigit device byte → P) → ((NumberDigit device byte → ⊥) → P) → P
+by-digit device byte p q =
     by-lt byte 0x31
     (λ h. q (λ d. omega (arith, d .digit, d .low)))
-    (λ h. by-lt 0x38 byte
+    (λ h. by-lt (0x30 + highestOf device) byte
     (λ k. q (λ d. omega (arith, d .digit, d .high)))
     (λ k. p (record { number = byte - 0x30; low = omega arith; high = omega arith; digit = omega arith })))
 
@@ -58,27 +60,35 @@ unknown-device : (byte : ℕ) → (KnownLetter byte → ⊥) → deviceOf byte �
 unfolding deviceOf
 unknown-device byte n =
     let not : (device : Device) → byte ≡ letterOf device → ⊥ = λ device e. n (record { device = device; letter = e }) in
-    rw (ne-eqb byte 0x45 (not E), ne-eqb byte 0x53 (not S), ne-eqb byte 0x4B (not K), ne-eqb byte 0x50 (not P), ne-eqb byte 0x43 (not C))
+    rw (ne-eqb byte 0x45 (not E), ne-eqb byte 0x53 (not S), ne-eqb byte 0x4B (not K), ne-eqb byte 0x50 (not P), ne-eqb byte 0x43 (not C), ne-eqb byte 0x44 (not D))
 
 known-device : (byte : ℕ) (device : Device) → byte ≡ letterOf device → deviceOf byte ≡ Known device
 known-device byte device e = ap deviceOf e ∙ device-letter device
 
-digit-within : (byte : ℕ) → NumberDigit byte → within 0x31 0x38 byte ≡ true
-digit-within byte d =
+digit-within : (device : Device) (byte : ℕ) → NumberDigit device byte → within 0x31 (0x30 + highestOf device) byte ≡ true
+digit-within device byte d =
     let l : 0x31 ≤ byte = omega (arith, d .digit, d .low) in
-    let h : byte ≤ 0x38 = omega (arith, d .digit, d .high) in
-    rw (le-leb 0x31 byte l, le-leb byte 0x38 h)
+    let h : byte ≤ 0x30 + highestOf device = omega (arith, d .digit, d .high) in
+    rw (le-leb 0x31 byte l, le-leb byte (0x30 + highestOf device) h)
 
-no-digit : (byte : ℕ) → (NumberDigit byte → ⊥) → within 0x31 0x38 byte ≡ false
-no-digit byte n =
+no-digit : (device : Device) (byte : ℕ) → (NumberDigit device byte → ⊥) → within 0x31 (0x30 + highestOf device) byte ≡ false
+no-digit device byte n =
     by-lt byte 0x31
     (λ h. rw (lt-leb 0x31 byte h))
-    (λ h. by-lt 0x38 byte
-    (λ k. rw (lt-leb byte 0x38 k, and-false (leb 0x31 byte)))
+    (λ h. by-lt (0x30 + highestOf device) byte
+    (λ k. rw (lt-leb byte (0x30 + highestOf device) k, and-false (leb 0x31 byte)))
     (λ k. absurd (n (record { number = byte - 0x30; low = omega arith; high = omega arith; digit = omega arith }))))
 
-colon-digit : (byte : ℕ) → byte ≡ 0x3A → NumberDigit byte → ⊥
-colon-digit byte e d = omega (arith, d .digit, d .high)
+highest : (device : Device) → highestOf device ≤ 8
+highest E = omega arith
+highest S = omega arith
+highest K = omega arith
+highest P = omega arith
+highest C = omega arith
+highest D = omega arith
+
+colon-digit : (device : Device) (byte : ℕ) → byte ≡ 0x3A → NumberDigit device byte → ⊥
+colon-digit device byte e d = omega (arith, d .digit, d .high, highest device)
 
 -- one more than the status of a refusal
 abbrev refusal : Specification → ℕ
@@ -105,15 +115,15 @@ module _ (half : List ℕ) (address : ℕ) where
   nexted : (device : Device) → address + 1 < areaLength → behind half address 0 ≡ letterOf device → says ≡ numberOf half device (address + 1 + 1) (behind half address 1)
   nexted device h e = lettered device (omega arith) e ∙ rw (lt-ltb (address + 1) areaLength h)
 
-  digited : (device : Device) (d : NumberDigit (behind half address 1)) → address + 1 < areaLength → behind half address 0 ≡ letterOf device
+  digited : (device : Device) (d : NumberDigit device (behind half address 1)) → address + 1 < areaLength → behind half address 0 ≡ letterOf device
       → says ≡ needed half (address + 2) (colonOf device (behind half address 1 - 0x30))
   unfolding numberOf
-  digited device d h e = nexted device h e ∙ rw (digit-within (behind half address 1) d, two)
+  digited device d h e = nexted device h e ∙ rw (digit-within device (behind half address 1) d, two)
 
   specified : (device : Device) (number : ℕ) → Specified half address device number → says ≡ Names device number
   unfolding numberOf
   specified device number (unnumbered _ h l c) =
-      nexted device h l ∙ rw (no-digit (behind half address 1) (colon-digit (behind half address 1) c), eq-eqb (behind half address 1) 0x3A c)
+      nexted device h l ∙ rw (no-digit device (behind half address 1) (colon-digit device (behind half address 1) c), eq-eqb (behind half address 1) 0x3A c)
   specified device number (numbered _ _ low high h l d c) =
       let n : behind half address 1 - 0x30 ≡ number = omega arith in
       digited device (record { number = number; low = low; high = high; digit = d }) (omega arith) l
@@ -123,7 +133,7 @@ module _ (half : List ℕ) (address : ℕ) where
   unfolding specificationOf namedOf numberOf
   malformed (unknown-letter h n) = rw (lt-ltb address areaLength h, unknown-device (getD half address 0) (λ k. n (subst KnownLetter first k)))
   malformed (neither-number-nor-colon h k d c) =
-      nexted (k .device) h (k .letter) ∙ rw (no-digit (behind half address 1) d, ne-eqb (behind half address 1) 0x3A c)
+      nexted (k .device) h (k .letter) ∙ rw (no-digit (k .device) (behind half address 1) d, ne-eqb (behind half address 1) 0x3A c)
   malformed (no-colon h k d c) =
       digited (k .device) d (omega arith) (k .letter) ∙ rw (lt-ltb (address + 2) areaLength h, ne-eqb (behind half address 2) 0x3A c)
 
@@ -144,7 +154,7 @@ module _ (half : List ℕ) (address : ℕ) where
       by-lt address areaLength
       (λ h. by-letter (behind half address 0)
       (λ k. by-lt (address + 1) areaLength
-      (λ g. by-digit (behind half address 1)
+      (λ g. by-digit (k .device) (behind half address 1)
       (λ d. by-lt (address + 2) areaLength
       (λ f. by-eq (behind half address 2) 0x3A
       (λ c. is-specified (k .device) (d .number) (numbered (k .device) (d .number) (d .low) (d .high) f (k .letter) (d .digit) c))
@@ -209,6 +219,7 @@ offered-not S aux1 e = absurd (subst T e tt)
 offered-not K aux1 e = not-false (bit 8 aux1) e
 offered-not P aux1 e = not-false (bit 4 aux1) e
 offered-not C aux1 e = both-true (bit 4 aux1) (bit 8 aux1) e
+offered-not D aux1 e = not-false (bit 8 aux1) e
 
 not-offers : (device : Device) (aux1 : ℕ) → NotOffered device aux1 → offersOf device aux1 ≡ false
 unfolding offersOf
@@ -217,6 +228,7 @@ not-offers S aux1 p = absurd p
 not-offers K aux1 p = rw p
 not-offers P aux1 p = rw p
 not-offers C aux1 p = rw (p .0, p .1)
+not-offers D aux1 p = rw p
 
 -- "$84 .. AUX1 not offered"
 pub offers-not : (device : Device) (aux1 : ℕ) → (offersOf device aux1 ≡ false) ↔ NotOffered device aux1

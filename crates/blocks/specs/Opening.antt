@@ -7,7 +7,7 @@ use lib.Dec.{eqb, ltb}
 use lib.ListN.{getD}
 use Rattle.base.specs.Choice.{pick, and, or, within, bit}
 use Rattle.blocks.specs.declared.Device.{Device}
-use Rattle.blocks.specs.declared.Device.the-variants.{E, S, K, P, C}
+use Rattle.blocks.specs.declared.Device.the-variants.{E, S, K, P, C, D}
 use Rattle.blocks.specs.declared.Letter.{Letter}
 use Rattle.blocks.specs.declared.Letter.the-variants.{Unknown, Known}
 use Rattle.blocks.specs.declared.Specification.{Specification}
@@ -17,13 +17,14 @@ use Rattle.blocks.specs.declared.Specification.the-variants.{Refused, Na
 abbrev pub areaLength : ℕ
 areaLength = 16384
 
--- "At the address: E, S, K or P"; "Add C"
+-- "At the address: E, S, K or P"; "Add C"; "Add D1 to D4"
 abbrev pub letterOf : Device → ℕ
 letterOf E = 0x45
 letterOf S = 0x53
 letterOf K = 0x4B
 letterOf P = 0x50
 letterOf C = 0x43
+letterOf D = 0x44
 
 unfoldable pub deviceOf : ℕ → Letter
 deviceOf byte =
@@ -32,7 +33,8 @@ deviceOf byte =
     (pick (eqb byte (letterOf K)) (Known K)
     (pick (eqb byte (letterOf P)) (Known P)
     (pick (eqb byte (letterOf C)) (Known C)
-    Unknown))))
+    (pick (eqb byte (letterOf D)) (Known D)
+    Unknown)))))
 
 -- "a needed byte past the area is $B0"
 abbrev pub needed : List ℕ → ℕ → (ℕ → Specification) → Specification
@@ -42,10 +44,19 @@ needed half place reading = pick (ltb place areaLength) (reading (getD half plac
 abbrev pub colonOf : Device → ℕ → ℕ → Specification
 colonOf device number byte = pick (eqb byte 0x3A) (Names device number) (Refused 0x82)
 
+-- "optionally a digit 1 to 8"; "Add D1 to D4 (above: $82)"
+abbrev pub highestOf : Device → ℕ
+highestOf E = 8
+highestOf S = 8
+highestOf K = 8
+highestOf P = 8
+highestOf C = 8
+highestOf D = 4
+
 -- "optionally a digit 1 to 8 (else 1); a colon": the byte is the one before this place
 unfoldable pub numberOf : List ℕ → Device → ℕ → ℕ → Specification
 numberOf half device place byte =
-    pick (within 0x31 0x38 byte) (needed half place (colonOf device (byte - 0x30))) (colonOf device 1 byte)
+    pick (within 0x31 (0x30 + highestOf device) byte) (needed half place (colonOf device (byte - 0x30))) (colonOf device 1 byte)
 
 -- "An unknown letter is $82 before more is read"; the letter is the one before this place
 unfoldable pub namedOf : List ℕ → Letter → ℕ → Specification
@@ -67,10 +78,11 @@ abbrev pub forced : ℕ → Bool
 forced aux1 = bit 1 aux1
 
 -- "K offers R, P offers W, E and S both; .. E with R needs bit 0, forced read (house)."; "C opens for reading or writing, both at once is
--- $84"
+-- $84"; "Offer OPEN for reading", of D
 unfoldable pub offersOf : Device → ℕ → Bool
 offersOf E aux1 = or (not (reads aux1)) (forced aux1)
 offersOf S aux1 = true
 offersOf K aux1 = not (writes aux1)
 offersOf P aux1 = not (reads aux1)
 offersOf C aux1 = not (and (reads aux1) (writes aux1))
+offersOf D aux1 = not (writes aux1)

@@ -1,8 +1,9 @@
 // A port's own state by value: its eight control blocks and its phase. And what an OPEN reads before any device is asked: its
 // device specification, and whether the device offers its AUX1.
 ghost use mathlib.Core.Path.{_≡_};
+ghost use Prim.Native.Nat.{_+_};
 ghost use Rattle.blocks.specs.Blocks.{closedTable, freshGather, freshPort};
-ghost use Rattle.blocks.specs.Opening.{deviceOf, colonOf, numberOf, namedOf, specificationOf, reads, writes, offersOf};
+ghost use Rattle.blocks.specs.Opening.{deviceOf, highestOf, colonOf, numberOf, namedOf, specificationOf, reads, writes, offersOf};
 
 // The bytes of a port's own area.
 pub const AREA: usize = 16384;
@@ -13,6 +14,7 @@ pub enum Device {
     K,
     P,
     C,
+    D,
 }
 
 pub enum BlockState {
@@ -162,6 +164,9 @@ pub fn device_of(byte: u8) -> Letter
     if byte == b'C' {
         return Letter::Known(Device::C);
     }
+    if byte == b'D' {
+        return Letter::Known(Device::D);
+    }
     Letter::Unknown
 }
 
@@ -175,6 +180,20 @@ fn colon_of(device: Device, number: u8, byte: u8) -> Specification
     Specification::Refused(0x82)
 }
 
+// The digit of a device's highest number.
+fn last_digit(device: Device) -> u8
+    ensures { λ r. ⌜ r ≡ 0x30 + highestOf device ⌝ }
+{
+    match device {
+        Device::E => b'8',
+        Device::S => b'8',
+        Device::K => b'8',
+        Device::P => b'8',
+        Device::C => b'8',
+        Device::D => b'4',
+    }
+}
+
 // After the letter a digit and the colon, or the colon alone; `place` is the next byte's.
 fn number_of(half: &[u8], device: Device, place: usize, byte: u8) -> Specification
     ensures { λ r. ⌜ r ≡ numberOf (now (half .entry)) device place byte ⌝ }
@@ -182,7 +201,7 @@ fn number_of(half: &[u8], device: Device, place: usize, byte: u8) -> Specificati
     if byte < b'1' {
         return colon_of(device, 1, byte);
     }
-    if b'8' < byte {
+    if last_digit(device) < byte {
         return colon_of(device, 1, byte);
     }
     if AREA <= place {
@@ -253,5 +272,6 @@ pub fn offers(device: Device, aux1: u8) -> bool
             }
             true
         }
+        Device::D => !aux1_writes(aux1),
     }
 }

@@ -6,3 +6,4 @@ pub mod TickAnswers
 pub mod Serving
 pub mod Numbers
 pub mod Passing
+pub mod Images

@@ -18,6 +18,7 @@ use Rattle.handler.specs.Acts.{asksOpen}
 use Rattle.console.specs.Group.{group}
 use Rattle.printer.specs.Printer.{printerGroup}
 use Rattle.cassette.specs.Cassette.{cassetteGroup}
+use Rattle.disk.specs.Disk.{diskGroup}
 use Rattle.blocks.specs.declared.Device.{Device}
 use Rattle.blocks.specs.declared.ControlBlock.{ControlBlock}
 use Rattle.blocks.specs.declared.Header.{Header}
@@ -33,7 +34,7 @@ use Rattle.layout.specs.Places.{phasePlace, tablePlace, devicesPlace, devicesLe
 use Rattle.layout.specs.Stick.{Devices, Stick, portAt, otherAt, withPort, withPhase, withTable, partAt, withPart}
 use Rattle.layout.specs.Layout.{headOf, phaseIn, devicesIn, stickIn}
 use Rattle.layout.proofs.Lengths.{head-length, devices-length}
-use Rattle.layout.proofs.Ports.{by-port, own-phase, own-block, own-count, own-devices, own-pending, part-devices, head-devices, part-of, with-part, part-back}
+use Rattle.layout.proofs.Ports.{by-port, own-phase, own-block, own-count, own-devices, own-pending, own-places, part-devices, head-devices, part-of, with-part, part-back}
 use Rattle.layout.proofs.WriteRead.{state-back}
 use Rattle.devices.specs.declared.Group.{Group}
 use Rattle.devices.specs.declared.Owner.{Owner}
@@ -87,7 +88,7 @@ module _ (port : ℕ) (b : Buffers) (c : Called port b) where
   all = groupsAt s (lentBy b)
 
   abbrev held : DevicesLent
-  held = devicesLent (numbersIn (b .state)) (b .screen) (b .paper) (b .tape)
+  held = devicesLent (numbersIn (b .state)) (b .screen) (b .paper) (b .tape) (b .images)
 
   long : roomsPlace ≤ length (b .state)
   long = omega (arith, c .long)
@@ -111,7 +112,7 @@ module _ (port : ℕ) (b : Buffers) (c : Called port b) where
   -- the groups: what is lent of them is what the numbers and the buffers are
   is-lent : held ≡ lentOf all
   is-lent =
-      ap (λ (n : List ℕ). devicesLent n (b .screen) (b .paper) (b .tape))
+      ap (λ (n : List ℕ). devicesLent n (b .screen) (b .paper) (b .tape) (b .images))
       (ap numbersIn (written .is) ∙ part-left devicesPlace devicesLength (headOf s) rooms (omega (arith, head-length s)) ∙ part-devices s)
 
   reads-as : (o : Owner) → getLent (groupIn o) held ≡ getGroup (groupIn o) all
@@ -119,12 +120,14 @@ module _ (port : ℕ) (b : Buffers) (c : Called port b) where
   reads-as (owner.Console h) = ap (λ (d : Devices). group (d .console) (b .screen)) (own-devices (b .state) long)
   reads-as owner.Printer = ap (λ (d : Devices). printerGroup (d .printer .used) (b .paper)) (own-devices (b .state) long)
   reads-as owner.Cassette = ap (λ (d : Devices). cassetteGroup (d .cassette) (d .pending) (b .tape)) (own-devices (b .state) long)
+  reads-as owner.Disk = ap (λ (d : Devices). diskGroup (d .places) (b .images)) (own-devices (b .state) long)
 
   fit : FitGroups all
   fit = record {
     console = record { fit = console-fits s (lentBy b) (c .fits); whole = c .whole };
     printer = record { used = printer-fits s (lentBy b) (c .fits); paper = c .sheet };
     cassette = record { fits = cassette-fits s (lentBy b) (c .fits); pending = own-pending (b .state) long; tape = c .reel };
+    disk = record { places = own-places (b .state) long; images = c .four };
   }
 
   -- bytes with these groups' numbers
@@ -159,10 +162,10 @@ module _ (port : ℕ) (b : Buffers) (c : Called port b) where
         let room1 = room-read state1 (withGroups moved s) rooms w1 port (c .low) in
         let p = landed (goes .out) (partAt roomLength port rooms) in
         let l : length (p .room) ≡ roomLength = landed-long (goes .out) (partAt roomLength port rooms) ∙ room-long (b .state) s rooms written port (c .low) in
-        ap (λ (w : Went DevicesLent). left 0 0 (buffers (landOn port (w .out) (sets (b .state) devicesPlace (w .device .numbers))) (sets (b .area) (areaPlace port) (w .area)) (w .device .screen) (w .device .paper) (w .device .tape))) went-is
-        ∙ ap (λ (x : List ℕ). left 0 0 (buffers (withInPort port (landed (goes .out) x) state1) (sets (b .area) (areaPlace port) (goes .area)) (lentOf moved .screen) (lentOf moved .paper) (lentOf moved .tape))) room1
-        ∙ ap (λ (x : List ℕ). left 0 0 (buffers x (sets (b .area) (areaPlace port) (goes .area)) (lentOf moved .screen) (lentOf moved .paper) (lentOf moved .tape))) (landed-there state1 (withGroups moved s) rooms w1 port (c .low) p l)
-        ∙ ap (λ (x : List ℕ). left 0 0 (buffers (headOf (withPort port (withPhase (p .phase) (portAt port (withGroups moved s))) (withGroups moved s)) ++ withPart roomLength port (p .room) rooms) x (lentOf moved .screen) (lentOf moved .paper) (lentOf moved .tape)))
+        ap (λ (w : Went DevicesLent). left 0 0 (buffers (landOn port (w .out) (sets (b .state) devicesPlace (w .device .numbers))) (sets (b .area) (areaPlace port) (w .area)) (w .device .screen) (w .device .paper) (w .device .tape) (w .device .images))) went-is
+        ∙ ap (λ (x : List ℕ). left 0 0 (buffers (withInPort port (landed (goes .out) x) state1) (sets (b .area) (areaPlace port) (goes .area)) (lentOf moved .screen) (lentOf moved .paper) (lentOf moved .tape) (lentOf moved .images))) room1
+        ∙ ap (λ (x : List ℕ). left 0 0 (buffers x (sets (b .area) (areaPlace port) (goes .area)) (lentOf moved .screen) (lentOf moved .paper) (lentOf moved .tape) (lentOf moved .images))) (landed-there state1 (withGroups moved s) rooms w1 port (c .low) p l)
+        ∙ ap (λ (x : List ℕ). left 0 0 (buffers (headOf (withPort port (withPhase (p .phase) (portAt port (withGroups moved s))) (withGroups moved s)) ++ withPart roomLength port (p .room) rooms) x (lentOf moved .screen) (lentOf moved .paper) (lentOf moved .tape) (lentOf moved .images)))
         (half-there (goes .area) (advance-long (deviceActs (run .device)) port run (areaAt port (lentBy b)) (getGroup (groupIn own) all) ∙ half-long))
 
   -- what needs no group
@@ -172,11 +175,11 @@ module _ (port : ℕ) (b : Buffers) (c : Called port b) where
       let room0 = roomAt port (lentBy b) in
       let half0 = areaAt port (lentBy b) in
       let f = errandOf e room0 half0 in
-      ap (λ (x : List ℕ). let y = errandOf e x (halfIn port (b .area)) in left 0 0 (buffers (withInPort port (y .port) (b .state)) (sets (b .area) (areaPlace port) (y .area)) (b .screen) (b .paper) (b .tape))) room-is
-      ∙ ap (λ (x : List ℕ). let y = errandOf e room0 x in left 0 0 (buffers (withInPort port (y .port) (b .state)) (sets (b .area) (areaPlace port) (y .area)) (b .screen) (b .paper) (b .tape))) half-is
-      ∙ ap (λ (x : List ℕ). left 0 0 (buffers x (sets (b .area) (areaPlace port) (f .area)) (b .screen) (b .paper) (b .tape)))
+      ap (λ (x : List ℕ). let y = errandOf e x (halfIn port (b .area)) in left 0 0 (buffers (withInPort port (y .port) (b .state)) (sets (b .area) (areaPlace port) (y .area)) (b .screen) (b .paper) (b .tape) (b .images))) room-is
+      ∙ ap (λ (x : List ℕ). let y = errandOf e room0 x in left 0 0 (buffers (withInPort port (y .port) (b .state)) (sets (b .area) (areaPlace port) (y .area)) (b .screen) (b .paper) (b .tape) (b .images))) half-is
+      ∙ ap (λ (x : List ℕ). left 0 0 (buffers x (sets (b .area) (areaPlace port) (f .area)) (b .screen) (b .paper) (b .tape) (b .images)))
       (landed-there (b .state) s rooms written port (c .low) (f .port) (errand-room e room0 half0 ∙ room-long (b .state) s rooms written port (c .low)))
-      ∙ ap (λ (x : List ℕ). left 0 0 (buffers (headOf (withPort port (withPhase (f .port .phase) (portAt port s)) s) ++ withPart roomLength port (f .port .room) rooms) x (b .screen) (b .paper) (b .tape)))
+      ∙ ap (λ (x : List ℕ). left 0 0 (buffers (headOf (withPort port (withPhase (f .port .phase) (portAt port s)) s) ++ withPart roomLength port (f .port .room) rooms) x (b .screen) (b .paper) (b .tape) (b .images)))
       (half-there (f .area) (errand-half e room0 half0 ∙ half-long))
 
   -- "A ready port's first tick with the group free starts the request and does all but transfers."
@@ -204,7 +207,7 @@ module _ (port : ℕ) (b : Buffers) (c : Called port b) where
     starting work.Status = tt
     starting work.Special = tt
     starting (work.Open then number name) =
-        let asked = asksOpen port iocb (job .call .aux1) (job .call .aux2) name in
+        let asked = asksOpen port iocb number (job .call .aux1) (job .call .aux2) name in
         let x = getLent (groupIn owns) held in
         let y = ownActs owns asked .opens x .leaves in
         let o = opens-fit owns asked x part-fit in
@@ -230,12 +233,12 @@ module _ (port : ℕ) (b : Buffers) (c : Called port b) where
         let room2 = room-read state2 s2 rooms w2 port (c .low) in
         let p = landed (starts .out) (partAt roomLength port rooms) in
         let l : length (p .room) ≡ roomLength = landed-long (starts .out) (partAt roomLength port rooms) ∙ room-long (b .state) s rooms written port (c .low) in
-        let out : List ℕ → Left = λ (x : List ℕ). left 0 0 (buffers x (b .area) (lentOf begins .screen) (lentOf begins .paper) (lentOf begins .tape)) in
-        ap (λ (x : Begun DevicesLent). left 0 0 (buffers (landOn port (x .out) (withBlockOn port iocb (x .block) (sets (b .state) devicesPlace (x .device .numbers)))) (b .area) (x .device .screen) (x .device .paper) (x .device .tape))) begun-is
+        let out : List ℕ → Left = λ (x : List ℕ). left 0 0 (buffers x (b .area) (lentOf begins .screen) (lentOf begins .paper) (lentOf begins .tape) (lentOf begins .images)) in
+        ap (λ (x : Begun DevicesLent). left 0 0 (buffers (landOn port (x .out) (withBlockOn port iocb (x .block) (sets (b .state) devicesPlace (x .device .numbers)))) (b .area) (x .device .screen) (x .device .paper) (x .device .tape) (x .device .images))) begun-is
         ∙ ap (λ (x : List ℕ). out (withInPort port (landed (starts .out) x) state2)) room2
         ∙ ap out (landed-there state2 s2 rooms w2 port (c .low) p l)
         ∙ ap (λ (x : Stick). out (headOf x ++ withPart roomLength port (p .room) rooms)) (port-again port (c .low) (p .phase) p1 s1)
-        ∙ ap (λ (x : List ℕ). left 0 0 (buffers (headOf (withPort port (withPhase (p .phase) p1) s1) ++ withPart roomLength port (p .room) rooms) x (lentOf begins .screen) (lentOf begins .paper) (lentOf begins .tape))) (sym (area-back port (c .low)))
+        ∙ ap (λ (x : List ℕ). left 0 0 (buffers (headOf (withPort port (withPhase (p .phase) p1) s1) ++ withPart roomLength port (p .room) rooms) x (lentOf begins .screen) (lentOf begins .paper) (lentOf begins .tape) (lentOf begins .images))) (sym (area-back port (c .low)))
       where
         area-back : (n : ℕ) → n < 2 → withPart areaLength n (partAt areaLength n (b .area)) (b .area) ≡ b .area
         area-back n h = part-back n h areaLength (b .area)

@@ -70,9 +70,9 @@ module _ (port : ℕ) (state : List ℕ) (n : ℕ) where
   unfolding consoleHeldOn
   held-none e l = sym (ap (clash group.Console) (holds-none (drop (phasePlace port) state) n e l))
 
-module _ (port : ℕ) (state area screen paper tape : List ℕ) (c : Called port (buffers state area screen paper tape)) (n : ℕ) (e : n ≡ byteAt (drop (phasePlace port) state) 0) where
+module _ (port : ℕ) (state area screen paper tape images : List ℕ) (c : Called port (buffers state area screen paper tape images)) (n : ℕ) (e : n ≡ byteAt (drop (phasePlace port) state) 0) where
   abbrev b : Buffers
-  b = buffers state area screen paper tape
+  b = buffers state area screen paper tape images
 
   abbrev here : List ℕ
   here = drop (phasePlace port) state
@@ -99,30 +99,30 @@ module _ (port : ℕ) (state area screen paper tape : List ℕ) (c : Called port
       → length room ≡ length (part (roomPlace port) (roomPlace port + roomLength - roomPlace port) state)
       → gathered next room ≡ messages.takeOf g (part (roomPlace port) (roomPlace port + roomLength - roomPlace port) state) byte
       → state′ ≡ sets (take (roomPlace port) state ++ (room ++ drop (roomPlace port + roomLength - roomPlace port) (drop (roomPlace port) state))) (phasePlace port) (phaseBytes next)
-      → left 0 0 (buffers state′ area screen paper tape) ≡ leftOf (takeAt port (stickBy b) (lentBy b) byte)
+      → left 0 0 (buffers state′ area screen paper tape images) ≡ leftOf (takeAt port (stickBy b) (lentBy b) byte)
   take-gathers byte g next room state′ z r l q f =
-      take-gathering port state area screen paper tape c (phaseIn here) refl byte g next room state′ (is-gathering here n e z ∙ ap Gathering (sym r)) l q f
+      take-gathering port state area screen paper tape images c (phaseIn here) refl byte g next room state′ (is-gathering here n e z ∙ ap Gathering (sym r)) l q f
 
   pub take-not : (byte : ℕ) → (n ≡ 0 → ⊥) → leftAlone 4 b ≡ leftOf (takeAt port (stickBy b) (lentBy b) byte)
   take-not byte m =
-      by-eq n 1 (λ z. take-ready port state area screen paper tape c (phaseIn here) refl byte (headerIn here) (is-ready here n e z))
-      (λ k. by-eq n 2 (λ z. take-running port state area screen paper tape c (phaseIn here) refl byte (runIn here) (is-running here n e z))
-      (λ l. take-replying port state area screen paper tape c (phaseIn here) refl byte (replyIn here) (is-replying here n e m k l)))
+      by-eq n 1 (λ z. take-ready port state area screen paper tape images c (phaseIn here) refl byte (headerIn here) (is-ready here n e z))
+      (λ k. by-eq n 2 (λ z. take-running port state area screen paper tape images c (phaseIn here) refl byte (runIn here) (is-running here n e z))
+      (λ l. take-replying port state area screen paper tape images c (phaseIn here) refl byte (replyIn here) (is-replying here n e m k l)))
 
   pub give-replies : (r : Reply) (g : Given) (state′ : List ℕ) (number : ℕ) → 3 ≤ n → r ≡ replyIn here → g ≡ giving.giveOf r (part (roomPlace port) (roomPlace port + roomLength - roomPlace port) state)
       → state′ ≡ sets state (phasePlace port) (phaseBytes (g .phase)) → number ≡ 0 + 256 * g .byte
-      → returned number (buffers state′ area screen paper tape) ≡ bothOf (leftOf (giveAt port (stickBy b) (lentBy b)))
+      → returned number (buffers state′ area screen paper tape images) ≡ bothOf (leftOf (giveAt port (stickBy b) (lentBy b)))
   give-replies r g state′ number h i q f k =
-      ap (λ (x : ℕ). returned x (buffers state′ area screen paper tape)) k
+      ap (λ (x : ℕ). returned x (buffers state′ area screen paper tape images)) k
       ∙ ap bothOf
-      (give-replying port state area screen paper tape c (phaseIn here) refl r g state′
+      (give-replying port state area screen paper tape images c (phaseIn here) refl r g state′
       (is-replying here n e (λ z. omega arith) (λ z. omega arith) (λ z. omega arith) ∙ ap Replying (sym i)) q f)
 
   not-replying : n < 3 → leftAlone 5 b ≡ leftOf (giveAt port (stickBy b) (lentBy b))
   not-replying h =
-      by-eq n 0 (λ z. give-gathering port state area screen paper tape c (phaseIn here) refl (gatherIn here) (is-gathering here n e z))
-      (λ m. by-eq n 1 (λ z. give-ready port state area screen paper tape c (phaseIn here) refl (headerIn here) (is-ready here n e z))
-      (λ k. give-running port state area screen paper tape c (phaseIn here) refl (runIn here) (is-running here n e (omega arith))))
+      by-eq n 0 (λ z. give-gathering port state area screen paper tape images c (phaseIn here) refl (gatherIn here) (is-gathering here n e z))
+      (λ m. by-eq n 1 (λ z. give-ready port state area screen paper tape images c (phaseIn here) refl (headerIn here) (is-ready here n e z))
+      (λ k. give-running port state area screen paper tape images c (phaseIn here) refl (runIn here) (is-running here n e (omega arith))))
 
   pub give-not : (number : ℕ) → n < 3 → number ≡ 5 + 256 * 0 → returned number b ≡ bothOf (leftOf (giveAt port (stickBy b) (lentBy b)))
   give-not number h k = ap (λ (x : ℕ). returned x b) k ∙ ap bothOf (not-replying h)

@@ -21,6 +21,7 @@ use Rattle.cells.specs.Cells.{Whole}
 use Rattle.console.specs.Group.{freshGroup}
 use Rattle.printer.specs.Printer.{paperLength}
 use Rattle.records.specs.Records.{tapeLength}
+use Rattle.image.specs.Image.{imagesLength}
 use Rattle.blocks.specs.declared.Port.{Port}
 use Rattle.blocks.specs.Blocks.{freshPort}
 use Rattle.blocks.specs.Opening.{areaLength}
@@ -37,60 +38,67 @@ use Rattle.damage.specs.Fits.{stickFits}
 use Rattle.calls.specs.Stick.{Outcome, outcome, refused, screenLength, lengthsFit, refusalOf}
 use Rattle.calls.specs.Calls.{freshLent, freshCall, guarded, takeAt, takeCall, tickAt, tickCall, giveAt, giveCall, pressAt, pressCall}
 use Rattle.calls.specs.Returned.{returned, answerOf, bothOf}
-use Rattle.calls.specs.Bytes.{Buffers, buffers, Left, left, leftAlone, fiveFit, buffersFit, stickBy, lentBy, undamagedIn, leftOf, bytesRefusal, overBytes, freshBytes, takeBytes, tickBytes, giveBytes, pressBytes}
+use Rattle.calls.specs.Bytes.{Buffers, buffers, Left, left, leftAlone, sixFit, buffersFit, stickBy, lentBy, undamagedIn, leftOf, bytesRefusal, overBytes, freshBytes, takeBytes, tickBytes, giveBytes, pressBytes}
 use Rattle.calls.specs.Parts.{Called, Lengths, Long, portsFresh, freshOn}
 
 -- the lengths, one after the other
-module _ (state area screen paper tape : ℕ) where
-  pub lengths-state : (state ≡ stateLength → ⊥) → false ≡ fiveFit state area screen paper tape
-  unfolding fiveFit
+module _ (state area screen paper tape images : ℕ) where
+  pub lengths-state : (state ≡ stateLength → ⊥) → false ≡ sixFit state area screen paper tape images
+  unfolding sixFit
   lengths-state h = rw (ne-eqb state stateLength h)
 
   module _ (p : state ≡ stateLength) where
-    pub lengths-area : (area ≡ 2 * areaLength → ⊥) → false ≡ fiveFit state area screen paper tape
-    unfolding fiveFit
+    pub lengths-area : (area ≡ 2 * areaLength → ⊥) → false ≡ sixFit state area screen paper tape images
+    unfolding sixFit
     lengths-area h = rw (eq-eqb state stateLength p, ne-eqb area (2 * areaLength) h)
 
     module _ (q : area ≡ 2 * areaLength) where
-      pub lengths-screen : (screen ≡ screenLength → ⊥) → false ≡ fiveFit state area screen paper tape
-      unfolding fiveFit
+      pub lengths-screen : (screen ≡ screenLength → ⊥) → false ≡ sixFit state area screen paper tape images
+      unfolding sixFit
       lengths-screen h = rw (eq-eqb state stateLength p, eq-eqb area (2 * areaLength) q, ne-eqb screen screenLength h)
 
       module _ (r : screen ≡ screenLength) where
-        pub lengths-paper : (paper ≡ paperLength → ⊥) → false ≡ fiveFit state area screen paper tape
-        unfolding fiveFit
+        pub lengths-paper : (paper ≡ paperLength → ⊥) → false ≡ sixFit state area screen paper tape images
+        unfolding sixFit
         lengths-paper h = rw (eq-eqb state stateLength p, eq-eqb area (2 * areaLength) q, eq-eqb screen screenLength r, ne-eqb paper paperLength h)
 
-        pub lengths-tape : paper ≡ paperLength → eqb tape tapeLength ≡ fiveFit state area screen paper tape
-        unfolding fiveFit
-        lengths-tape h = rw (eq-eqb state stateLength p, eq-eqb area (2 * areaLength) q, eq-eqb screen screenLength r, eq-eqb paper paperLength h)
+        pub lengths-tape : paper ≡ paperLength → (tape ≡ tapeLength → ⊥) → false ≡ sixFit state area screen paper tape images
+        unfolding sixFit
+        lengths-tape h n = rw (eq-eqb state stateLength p, eq-eqb area (2 * areaLength) q, eq-eqb screen screenLength r, eq-eqb paper paperLength h, ne-eqb tape tapeLength n)
+
+        pub lengths-images : paper ≡ paperLength → tape ≡ tapeLength → eqb images imagesLength ≡ sixFit state area screen paper tape images
+        unfolding sixFit
+        lengths-images h k = rw (eq-eqb state stateLength p, eq-eqb area (2 * areaLength) q, eq-eqb screen screenLength r, eq-eqb paper paperLength h, eq-eqb tape tapeLength k)
 
 module _ (b : Buffers) where
   pub lengths-of : buffersFit b ≡ true → Lengths b
-  unfolding fiveFit
+  unfolding sixFit
   lengths-of e =
       let s = eqb (length (b .state)) stateLength in
       let a = eqb (length (b .area)) (2 * areaLength) in
       let c = eqb (length (b .screen)) screenLength in
       let d = eqb (length (b .paper)) paperLength in
       let t = eqb (length (b .tape)) tapeLength in
-      let e1 = and-right s (and a (and c (and d t))) e in
-      let e2 = and-right a (and c (and d t)) e1 in
-      let e3 = and-right c (and d t) e2 in
+      let i = eqb (length (b .images)) imagesLength in
+      let e1 = and-right s (and a (and c (and d (and t i)))) e in
+      let e2 = and-right a (and c (and d (and t i))) e1 in
+      let e3 = and-right c (and d (and t i)) e2 in
+      let e4 = and-right d (and t i) e3 in
       record {
-        long = eqb-true _ _ (and-left s (and a (and c (and d t))) e);
-        halves = eqb-true _ _ (and-left a (and c (and d t)) e1);
-        whole = record { all = eqb-true _ _ (and-left c (and d t) e2) };
-        sheet = eqb-true _ _ (and-left d t e3);
-        reel = eqb-true _ _ (and-right d t e3);
+        long = eqb-true _ _ (and-left s (and a (and c (and d (and t i)))) e);
+        halves = eqb-true _ _ (and-left a (and c (and d (and t i))) e1);
+        whole = record { all = eqb-true _ _ (and-left c (and d (and t i)) e2) };
+        sheet = eqb-true _ _ (and-left d (and t i) e3);
+        reel = eqb-true _ _ (and-left t i e4);
+        four = eqb-true _ _ (and-right t i e4);
       }
 
-module _ (state area screen paper tape : List ℕ) (t : Bool) (p : t ≡ buffersFit (buffers state area screen paper tape)) (e : t ≡ true) where
+module _ (state area screen paper tape images : List ℕ) (t : Bool) (p : t ≡ buffersFit (buffers state area screen paper tape images)) (e : t ≡ true) where
   pub headed-by : Headed state
-  headed-by = record { head = omega (arith, lengths-of (buffers state area screen paper tape) (sym p ∙ e) .long) }
+  headed-by = record { head = omega (arith, lengths-of (buffers state area screen paper tape images) (sym p ∙ e) .long) }
 
-  pub all-by : Lengths (buffers state area screen paper tape)
-  all-by = lengths-of (buffers state area screen paper tape) (sym p ∙ e)
+  pub all-by : Lengths (buffers state area screen paper tape images)
+  all-by = lengths-of (buffers state area screen paper tape images) (sym p ∙ e)
 
 module _ (b : Buffers) (port : ℕ) (t : Bool) (p : t ≡ buffersFit b) where
   pub guard-2 : t ≡ false → 2 ≡ bytesRefusal b port
@@ -121,7 +129,7 @@ module _ (b : Buffers) (l : Lengths b) where
   unfolding lengthsFit
   lent-fits =
       let r : length (drop roomsPlace (b .state)) ≡ 2 * roomLength = simp length-drop (omega (arith, l .long)) in
-      rw (eq-eqb (length (drop roomsPlace (b .state))) (2 * roomLength) r, eq-eqb (length (b .area)) (2 * areaLength) (l .halves), eq-eqb (length (b .screen)) screenLength (l .whole .all), eq-eqb (length (b .paper)) paperLength (l .sheet), eq-eqb (length (b .tape)) tapeLength (l .reel))
+      rw (eq-eqb (length (drop roomsPlace (b .state))) (2 * roomLength) r, eq-eqb (length (b .area)) (2 * areaLength) (l .halves), eq-eqb (length (b .screen)) screenLength (l .whole .all), eq-eqb (length (b .paper)) paperLength (l .sheet), eq-eqb (length (b .tape)) tapeLength (l .reel), eq-eqb (length (b .images)) imagesLength (l .four))
 
 -- what a call that is not refused knows
 module _ (b : Buffers) (port r : ℕ) (p : r ≡ bytesRefusal b port) (z : r ≡ 0) where
@@ -140,7 +148,7 @@ module _ (b : Buffers) (port r : ℕ) (p : r ≡ bytesRefusal b port) (z : r ≡
   pub called-by : Bytes (b .state) → Called port b
   called-by w =
       let l = lengths-of b (none .0) in
-      record { low = ltb-true port 2 (none .1 .1); bytes = w; long = l .long; halves = l .halves; whole = l .whole; sheet = l .sheet; reel = l .reel; stands = stands-so; fits = fits-so }
+      record { low = ltb-true port 2 (none .1 .1); bytes = w; long = l .long; halves = l .halves; whole = l .whole; sheet = l .sheet; reel = l .reel; four = l .four; stands = stands-so; fits = fits-so }
 
   -- the call's own part is the call
   module _ (body : Stick → Lent → Outcome) where
@@ -148,8 +156,8 @@ module _ (b : Buffers) (port r : ℕ) (p : r ≡ bytesRefusal b port) (z : r ≡
     unfolding overBytes refusalOf
     over-passed = rw (none .0, stands-so, lent-fits b (lengths-of b (none .0)), fits-so, none .1 .1)
 
-pub called-of : (state : List ℕ) → Known state → (area screen paper tape : List ℕ) (port r : ℕ) → r ≡ bytesRefusal (buffers state area screen paper tape) port → r ≡ 0 → Called port (buffers state area screen paper tape)
-called-of state k area screen paper tape port r p z = called-by (buffers state area screen paper tape) port r p z (bytes-of state k)
+pub called-of : (state : List ℕ) → Known state → (area screen paper tape images : List ℕ) (port r : ℕ) → r ≡ bytesRefusal (buffers state area screen paper tape images) port → r ≡ 0 → Called port (buffers state area screen paper tape images)
+called-of state k area screen paper tape images port r p z = called-by (buffers state area screen paper tape images) port r p z (bytes-of state k)
 
 -- what is refused is left as it was
 module _ (body : Stick → Lent → Outcome) (b : Buffers) (w : Bytes (b .state)) (port r : ℕ) (p : r ≡ bytesRefusal b port) (z : r ≡ 0 → ⊥) where
@@ -157,7 +165,7 @@ module _ (body : Stick → Lent → Outcome) (b : Buffers) (w : Bytes (b .state)
   call s l = guarded (refusalOf s l port) s l (λ u. body s l)
 
   same : Lengths b → stands (b .state) ≡ true → (n : ℕ) → leftAlone n b ≡ leftOf (refused n (stickBy b) (lentBy b))
-  same l e n = ap (λ (x : List ℕ). left n 0 (buffers x (b .area) (b .screen) (b .paper) (b .tape))) (sym (state-back (b .state) w e (omega (arith, l .long))))
+  same l e n = ap (λ (x : List ℕ). left n 0 (buffers x (b .area) (b .screen) (b .paper) (b .tape) (b .images))) (sym (state-back (b .state) w e (omega (arith, l .long))))
 
   pub over-refused : leftAlone r b ≡ overBytes call b
   unfolding overBytes refusalOf bytesRefusal undamagedIn
@@ -177,9 +185,9 @@ module _ (body : Stick → Lent → Outcome) (b : Buffers) (w : Bytes (b .state)
       (λ e. let q : r ≡ 2 = p ∙ rw e in rw (q, e))
 
 -- the calls
-module _ (state area screen paper tape : List ℕ) (port r : ℕ) (p : r ≡ bytesRefusal (buffers state area screen paper tape) port) (z : r ≡ 0) (answer : ℕ) (b′ : Buffers) where
+module _ (state area screen paper tape images : List ℕ) (port r : ℕ) (p : r ≡ bytesRefusal (buffers state area screen paper tape images) port) (z : r ≡ 0) (answer : ℕ) (b′ : Buffers) where
   abbrev held : Buffers
-  held = buffers state area screen paper tape
+  held = buffers state area screen paper tape images
 
   pub take-passed : (byte : ℕ) → left answer 0 b′ ≡ leftOf (takeAt port (stickBy held) (lentBy held) byte) → returned answer b′ ≡ answerOf (takeBytes held port byte)
   unfolding takeBytes takeCall
@@ -193,15 +201,15 @@ module _ (state area screen paper tape : List ℕ) (port r : ℕ) (p : r ≡ byt
   unfolding giveBytes giveCall
   give-passed q = q ∙ ap bothOf (over-passed held port r p z (λ s l. giveAt port s l))
 
-module _ (state area screen paper tape : List ℕ) (r : ℕ) (p : r ≡ bytesRefusal (buffers state area screen paper tape) 0) (z : r ≡ 0) (answer : ℕ) (b′ : Buffers) where
-  pub press-passed : (code : ℕ) → left answer 0 b′ ≡ leftOf (pressAt (stickBy (buffers state area screen paper tape)) (lentBy (buffers state area screen paper tape)) code)
-      → returned answer b′ ≡ answerOf (pressBytes (buffers state area screen paper tape) code)
+module _ (state area screen paper tape images : List ℕ) (r : ℕ) (p : r ≡ bytesRefusal (buffers state area screen paper tape images) 0) (z : r ≡ 0) (answer : ℕ) (b′ : Buffers) where
+  pub press-passed : (code : ℕ) → left answer 0 b′ ≡ leftOf (pressAt (stickBy (buffers state area screen paper tape images)) (lentBy (buffers state area screen paper tape images)) code)
+      → returned answer b′ ≡ answerOf (pressBytes (buffers state area screen paper tape images) code)
   unfolding pressBytes pressCall
-  press-passed code q = ap answerOf (q ∙ over-passed (buffers state area screen paper tape) 0 r p z (λ s l. pressAt s l code))
+  press-passed code q = ap answerOf (q ∙ over-passed (buffers state area screen paper tape images) 0 r p z (λ s l. pressAt s l code))
 
-module _ (state : List ℕ) (k : Known state) (area screen paper tape : List ℕ) (r : ℕ) where
+module _ (state : List ℕ) (k : Known state) (area screen paper tape images : List ℕ) (r : ℕ) where
   abbrev given : Buffers
-  given = buffers state area screen paper tape
+  given = buffers state area screen paper tape images
 
   module _ (port : ℕ) (p : r ≡ bytesRefusal given port) (z : r ≡ 0 → ⊥) where
     pub take-refused : (byte : ℕ) → returned r given ≡ answerOf (takeBytes given port byte)
@@ -260,36 +268,36 @@ module _ (state : List ℕ) (l : Long state) where
       ∙ sets-over [] head ((pb ++ pb) ++ cu) (replicate (2 * roomLength) 0) 0 refl (t ∙ sym all)
       ∙ ap (λ (x : List ℕ). x ++ replicate (2 * roomLength) 0) (append-assoc pb pb cu)
 
-module _ (state area screen paper tape : List ℕ) (l : Lengths (buffers state area screen paper tape)) where
+module _ (state area screen paper tape images : List ℕ) (l : Lengths (buffers state area screen paper tape images)) where
   pub long-state : Long state
   long-state = record { long = l .long }
 
   pub fresh-all-law : (s1 area′ numbers screen′ : List ℕ) → length s1 ≡ length state → s1 ≡ portsFresh state → area′ ≡ replicate (length area) 0 → length numbers ≡ length (part devicesPlace devicesLength s1)
-      → devicesLent numbers screen′ paper tape ≡ lentOf (freshGroups paper tape)
-      → buffers (take devicesPlace s1 ++ (numbers ++ drop devicesLength (drop devicesPlace s1))) area′ screen′ paper tape ≡ freshOn (buffers state area screen paper tape)
+      → devicesLent numbers screen′ paper tape images ≡ lentOf (freshGroups paper tape images)
+      → buffers (take devicesPlace s1 ++ (numbers ++ drop devicesLength (drop devicesPlace s1))) area′ screen′ paper tape images ≡ freshOn (buffers state area screen paper tape images)
   unfolding freshOn
   fresh-all-law s1 area′ numbers screen′ k e f n q =
       let m : length s1 ≡ stateLength = k ∙ l .long in
-      ap (λ (x : List ℕ). buffers x area′ screen′ paper tape)
+      ap (λ (x : List ℕ). buffers x area′ screen′ paper tape images)
       (back devicesPlace devicesLength numbers s1 (n ∙ part-length devicesPlace devicesLength s1 (omega arith)) (omega arith) ∙ ap (λ (x : List ℕ). sets x devicesPlace numbers) e)
-      ∙ ap (λ (x : List ℕ). buffers (sets (portsFresh state) devicesPlace numbers) x screen′ paper tape) (f ∙ ap (λ (x : ℕ). replicate x 0) (l .halves))
-      ∙ ap (λ (x : DevicesLent). buffers (sets (portsFresh state) devicesPlace (x .numbers)) (replicate (2 * areaLength) 0) (x .screen) paper tape) q
+      ∙ ap (λ (x : List ℕ). buffers (sets (portsFresh state) devicesPlace numbers) x screen′ paper tape images) (f ∙ ap (λ (x : ℕ). replicate x 0) (l .halves))
+      ∙ ap (λ (x : DevicesLent). buffers (sets (portsFresh state) devicesPlace (x .numbers)) (replicate (2 * areaLength) 0) (x .screen) paper tape images) q
 
   pub freshens : (s1 : List ℕ) → length s1 ≡ length state → Freshens (part devicesPlace devicesLength s1) screen
   freshens s1 k =
       let m : length s1 ≡ stateLength = k ∙ l .long in
       record { exact = part-length devicesPlace devicesLength s1 (omega arith); whole = l .whole }
 
-module _ (state area screen paper tape : List ℕ) (t : Bool) (p : t ≡ buffersFit (buffers state area screen paper tape)) where
-  pub fresh-refused : t ≡ false → returned 2 (buffers state area screen paper tape) ≡ answerOf (freshBytes (buffers state area screen paper tape))
+module _ (state area screen paper tape images : List ℕ) (t : Bool) (p : t ≡ buffersFit (buffers state area screen paper tape images)) where
+  pub fresh-refused : t ≡ false → returned 2 (buffers state area screen paper tape images) ≡ answerOf (freshBytes (buffers state area screen paper tape images))
   unfolding freshBytes
   fresh-refused e = rw (← p, e)
 
-  pub fresh-done : (b′ : Buffers) → t ≡ true → b′ ≡ freshOn (buffers state area screen paper tape) → returned 0 b′ ≡ answerOf (freshBytes (buffers state area screen paper tape))
+  pub fresh-done : (b′ : Buffers) → t ≡ true → b′ ≡ freshOn (buffers state area screen paper tape images) → returned 0 b′ ≡ answerOf (freshBytes (buffers state area screen paper tape images))
   unfolding freshBytes freshCall freshOn
   fresh-done b′ e q =
-      let b = buffers state area screen paper tape in
+      let b = buffers state area screen paper tape images in
       let l = lengths-of b (sym p ∙ e) in
       ap (returned 0) q
-      ∙ ap (λ (x : List ℕ). returned 0 (buffers x (replicate (2 * areaLength) 0) (freshGroup .screen) paper tape)) (all-written state (record { long = l .long }))
+      ∙ ap (λ (x : List ℕ). returned 0 (buffers x (replicate (2 * areaLength) 0) (freshGroup .screen) paper tape images)) (all-written state (record { long = l .long }))
       ∙ rw (← p, e, lent-fits b l)

@@ -44,9 +44,9 @@ pub held-law : (port : ℕ) (state : List ℕ) (phase : Phase) (g : Group) (t : 
 unfolding consoleHeldOn
 held-law port state phase g t p q r = r ∙ rw (q, p)
 
-module _ (port : ℕ) (state area screen paper tape : List ℕ) (c : Called port (buffers state area screen paper tape)) (phase : Phase) (p : phase ≡ phaseIn (drop (phasePlace port) state)) where
+module _ (port : ℕ) (state area screen paper tape images : List ℕ) (c : Called port (buffers state area screen paper tape images)) (phase : Phase) (p : phase ≡ phaseIn (drop (phasePlace port) state)) where
   abbrev b : Buffers
-  b = buffers state area screen paper tape
+  b = buffers state area screen paper tape images
 
   abbrev s : Stick
   s = stickBy b
@@ -66,7 +66,7 @@ module _ (port : ℕ) (state area screen paper tape : List ℕ) (c : Called port
   took x byte z q =
       as-it-was port b c 4 0
       ∙ ap (λ (y : Stick). leftOf (outcome 4 0 y l)) (sym (port-back port (c .low) s))
-      ∙ ap (λ (y : List ℕ). leftOf (outcome 4 0 (withPort port (portAt port s) s) (lent y area screen paper tape))) (sym (part-back port (c .low) roomLength (l .rooms)))
+      ∙ ap (λ (y : List ℕ). leftOf (outcome 4 0 (withPort port (portAt port s) s) (lent y area screen paper tape images))) (sym (part-back port (c .low) roomLength (l .rooms)))
       ∙ ap (λ (t : Served). leftOf (outcome (t .answer) (t .byte) (withPort port (t .port) s) (withRoom port (t .room) l))) (sym q)
       ∙ ap (λ (y : Phase). let t = takePort y (portAt port s) (roomAt port l) byte in leftOf (outcome (t .answer) (t .byte) (withPort port (t .port) s) (withRoom port (t .room) l))) (own x z)
 
@@ -86,13 +86,13 @@ module _ (port : ℕ) (state area screen paper tape : List ℕ) (c : Called port
       → length room ≡ length (part (roomPlace port) (roomPlace port + roomLength - roomPlace port) state)
       → gathered next room ≡ messages.takeOf g (part (roomPlace port) (roomPlace port + roomLength - roomPlace port) state) byte
       → state′ ≡ sets (take (roomPlace port) state ++ (room ++ drop (roomPlace port + roomLength - roomPlace port) (drop (roomPlace port) state))) (phasePlace port) (phaseBytes next)
-      → left 0 0 (buffers state′ area screen paper tape) ≡ leftOf (takeAt port s l byte)
+      → left 0 0 (buffers state′ area screen paper tape images) ≡ leftOf (takeAt port s l byte)
   unfolding takeAt takePort
   take-gathering byte g next room state′ z n q f =
       let fits : roomPlace port + roomLength ≤ length state = omega (arith, c .low, c .long) in
       let e = lent-length (roomPlace port) roomLength room state fits n in
       let r = q ∙ ap (λ (x : List ℕ). messages.takeOf g x byte) (lent-part (roomPlace port) roomLength state ∙ room-read state s (drop roomsPlace state) w port (c .low)) in
-      ap (λ (x : List ℕ). left 0 0 (buffers x area screen paper tape))
+      ap (λ (x : List ℕ). left 0 0 (buffers x area screen paper tape images))
       (f ∙ ap (λ (x : List ℕ). sets x (phasePlace port) (phaseBytes next)) (lent-back (roomPlace port) roomLength room state fits n)
       ∙ landed-there state s (drop roomsPlace state) w port (c .low) (inPort next room) e)
       ∙ ap (λ (x : Gathered). leftOf (outcome 0 0 (withPort port (withPhase (x .phase) (portAt port s)) s) (withRoom port (x .room) l))) r
@@ -119,18 +119,18 @@ module _ (port : ℕ) (state area screen paper tape : List ℕ) (c : Called port
   give-running r z = gave (Running r) z refl
 
   pub give-replying : (r : Reply) (g : Given) (state′ : List ℕ) → phase ≡ Replying r → g ≡ giving.giveOf r (part (roomPlace port) (roomPlace port + roomLength - roomPlace port) state)
-      → state′ ≡ sets state (phasePlace port) (phaseBytes (g .phase)) → left 0 (g .byte) (buffers state′ area screen paper tape) ≡ leftOf (giveAt port s l)
+      → state′ ≡ sets state (phasePlace port) (phaseBytes (g .phase)) → left 0 (g .byte) (buffers state′ area screen paper tape images) ≡ leftOf (giveAt port s l)
   unfolding giveAt givePort
   give-replying r g state′ z q f =
       let e = q ∙ ap (giving.giveOf r) (lent-part (roomPlace port) roomLength state ∙ room-read state s (drop roomsPlace state) w port (c .low)) in
-      ap (λ (x : List ℕ). left 0 (g .byte) (buffers x area screen paper tape)) (f ∙ written-phase state s (drop roomsPlace state) w port (c .low) (g .phase) .is)
+      ap (λ (x : List ℕ). left 0 (g .byte) (buffers x area screen paper tape images)) (f ∙ written-phase state s (drop roomsPlace state) w port (c .low) (g .phase) .is)
       ∙ ap (λ (x : Given). leftOf (outcome 0 (x .byte) (withPort port (withPhase (x .phase) (portAt port s)) s) l)) e
       ∙ ap (λ (y : Phase). let t = givePort y (portAt port s) (roomAt port l) in leftOf (outcome (t .answer) (t .byte) (withPort port (t .port) s) l)) (own (Replying r) z)
 
 -- a key: either port may hold the console
-module _ (state area screen paper tape : List ℕ) (c : Called 0 (buffers state area screen paper tape)) (code : ℕ) (t : Bool) (p : t ≡ consoleHeldOn 0 state) where
+module _ (state area screen paper tape images : List ℕ) (c : Called 0 (buffers state area screen paper tape images)) (code : ℕ) (t : Bool) (p : t ≡ consoleHeldOn 0 state) where
   abbrev lent-all : Buffers
-  lent-all = buffers state area screen paper tape
+  lent-all = buffers state area screen paper tape images
 
   abbrev stick : Stick
   stick = stickBy lent-all
@@ -162,13 +162,13 @@ module _ (state area screen paper tape : List ℕ) (c : Called 0 (buffers state 
     pub press-held-too : u ≡ true → leftAlone 6 lent-all ≡ leftOf (pressAt stick (lentBy lent-all) code)
     press-held-too f = as-it-was 0 lent-all c 6 0 ∙ ap leftOf (press-by true (sym f ∙ second))
 
-    pub press-free : (state′ : List ℕ) → u ≡ false → state′ ≡ keyOn code state → left 0 0 (buffers state′ area screen paper tape) ≡ leftOf (pressAt stick (lentBy lent-all) code)
+    pub press-free : (state′ : List ℕ) → u ≡ false → state′ ≡ keyOn code state → left 0 0 (buffers state′ area screen paper tape images) ≡ leftOf (pressAt stick (lentBy lent-all) code)
     unfolding keyOn devicesIn
     press-free state′ f k =
         let next = pressedOf code (consoleIn (drop consolePlace (numbersIn state))) in
         let is : next ≡ pressedOf code (stick .devices .console) = ap (λ (d : Devices). pressedOf code (d .console)) (own-devices state (omega (arith, c .long))) in
         let kept = stored state stick (drop roomsPlace state) (written 0 lent-all c) (devicesPlace + consolePlace) (consoleBytes next) (withConsole next stick) (omega (arith, console-length next)) (head-console stick next) in
-        ap (λ (x : List ℕ). left 0 0 (buffers x area screen paper tape)) (k ∙ kept .is)
+        ap (λ (x : List ℕ). left 0 0 (buffers x area screen paper tape images)) (k ∙ kept .is)
         ∙ ap (λ (x : Console). leftOf (outcome 0 0 (withConsole x stick) (lentBy lent-all))) is
         ∙ ap leftOf (press-by false (sym f ∙ second))
 

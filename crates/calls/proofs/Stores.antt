@@ -34,6 +34,7 @@ use Rattle.transfer.specs.declared.Carried.{Carried}
 use Rattle.transfer.specs.declared.Carried.the-variants as carried
 use Rattle.transfer.specs.declared.Next.the-variants.{Off}
 use Rattle.transfer.specs.Transfer.{nextOf, Out, outOf, InPort, inPort, landed}
+use Rattle.moves.specs.Lends.{Goes}
 use Rattle.moves.specs.Move.{Went, went, advanceOf}
 use Rattle.cio.specs.Start.{Begun, begun, Freed, freed, errandOf, jobBegun}
 use Rattle.calls.specs.Bytes.{Buffers, buffers, Left, left, leftAlone}
@@ -93,21 +94,28 @@ module _ (port : ℕ) (area half : List ℕ) (low : port < 2) (h : length area �
   half-back : take (areaPlace port) area ++ (half ++ drop (areaPlace port + areaLength - areaPlace port) (drop (areaPlace port) area)) ≡ sets area (areaPlace port) half
   half-back = lent-back (areaPlace port) areaLength half area (omega (arith, low, h)) l
 
-module _ (port : ℕ) (run : Run) (state area screen paper tape : List ℕ) (g : Going port run (buffers state area screen paper tape)) where
+module _ (port : ℕ) (run : Run) (state area screen paper tape images : List ℕ) (g : Going port run (buffers state area screen paper tape images)) where
+  -- what a move asks of what it is lent
+  pub goes-by : Goes run (part devicesPlace devicesLength state) screen tape
+  goes-by = record {
+    spans = g .spans;
+    lends = record { all = record { long = omega (arith, part-length devicesPlace devicesLength state (omega (arith, g .called .long))) }; whole = g .called .whole; reel = g .called .reel };
+  }
+
   pub advance-law : (half numbers state′ screen′ paper′ tape′ : List ℕ) (out : Out)
       → length half ≡ length (part (areaPlace port) (areaPlace port + areaLength - areaPlace port) area) → length numbers ≡ length (part devicesPlace devicesLength state)
-      → went half (devicesLent numbers screen′ paper′ tape′) out
-      ≡ advanceOf (lentActs (run .device)) port run (part (areaPlace port) (areaPlace port + areaLength - areaPlace port) area) (devicesLent (part devicesPlace devicesLength state) screen paper tape)
+      → went half (devicesLent numbers screen′ paper′ tape′ images) out
+      ≡ advanceOf (lentActs (run .device)) port run (part (areaPlace port) (areaPlace port + areaLength - areaPlace port) area) (devicesLent (part devicesPlace devicesLength state) screen paper tape images)
       → state′ ≡ landOn port out (take devicesPlace state ++ (numbers ++ drop devicesLength (drop devicesPlace state)))
-      → buffers state′ (take (areaPlace port) area ++ (half ++ drop (areaPlace port + areaLength - areaPlace port) (drop (areaPlace port) area))) screen′ paper′ tape′
-      ≡ advanceOn port run (buffers state area screen paper tape)
+      → buffers state′ (take (areaPlace port) area ++ (half ++ drop (areaPlace port + areaLength - areaPlace port) (drop (areaPlace port) area))) screen′ paper′ tape′ images
+      ≡ advanceOn port run (buffers state area screen paper tape images)
   unfolding advanceOn
   advance-law half numbers state′ screen′ paper′ tape′ out l k q e =
-      let s = devicesLent (numbersIn state) screen paper tape in
-      ap (λ (x : List ℕ). buffers x (take (areaPlace port) area ++ (half ++ drop (areaPlace port + areaLength - areaPlace port) (drop (areaPlace port) area))) screen′ paper′ tape′)
+      let s = devicesLent (numbersIn state) screen paper tape images in
+      ap (λ (x : List ℕ). buffers x (take (areaPlace port) area ++ (half ++ drop (areaPlace port + areaLength - areaPlace port) (drop (areaPlace port) area))) screen′ paper′ tape′ images)
       (e ∙ ap (landOn port out) (numbers-back state numbers (g .called .long) k))
-      ∙ ap (λ (x : List ℕ). buffers (landOn port out (sets state devicesPlace numbers)) x screen′ paper′ tape′) (half-back port area half (g .called .low) (g .called .halves) l)
-      ∙ ap (λ (w : Went DevicesLent). buffers (landOn port (w .out) (sets state devicesPlace (w .device .numbers))) (sets area (areaPlace port) (w .area)) (w .device .screen) (w .device .paper) (w .device .tape))
+      ∙ ap (λ (x : List ℕ). buffers (landOn port out (sets state devicesPlace numbers)) x screen′ paper′ tape′ images) (half-back port area half (g .called .low) (g .called .halves) l)
+      ∙ ap (λ (w : Went DevicesLent). buffers (landOn port (w .out) (sets state devicesPlace (w .device .numbers))) (sets area (areaPlace port) (w .area)) (w .device .screen) (w .device .paper) (w .device .tape) (w .device .images))
       (q ∙ ap (λ (x : List ℕ). advanceOf (lentActs (run .device)) port run x s) (lent-part (areaPlace port) areaLength area))
 
 module _ (port : ℕ) (state area : List ℕ) (h : Halves port state area) where
@@ -122,34 +130,34 @@ module _ (port : ℕ) (state area : List ℕ) (h : Halves port state area) where
       ∙ ap (λ (x : ControlBlock). planIn m x (halfIn port area)) (c ∙ ap (λ (k : ℕ). blockOn port k state) i)
       ∙ ap (λ (x : Message). planIn x (blockOn port (iocbOf x) state) (halfIn port area)) f
 
-  pub errand-law : (e : Errand) (half room state′ screen paper tape : List ℕ) (phase : Phase)
+  pub errand-law : (e : Errand) (half room state′ screen paper tape images : List ℕ) (phase : Phase)
       → length half ≡ length (part (areaPlace port) (areaPlace port + areaLength - areaPlace port) area) → length room ≡ length (part (roomPlace port) (roomPlace port + roomLength - roomPlace port) state)
       → freed (inPort phase room) half ≡ errandOf e (part (roomPlace port) (roomPlace port + roomLength - roomPlace port) state) (part (areaPlace port) (areaPlace port + areaLength - areaPlace port) area)
       → state′ ≡ sets (take (roomPlace port) state ++ (room ++ drop (roomPlace port + roomLength - roomPlace port) (drop (roomPlace port) state))) (phasePlace port) (phaseBytes phase)
-      → buffers state′ (take (areaPlace port) area ++ (half ++ drop (areaPlace port + areaLength - areaPlace port) (drop (areaPlace port) area))) screen paper tape ≡ errandOn port e (buffers state area screen paper tape)
+      → buffers state′ (take (areaPlace port) area ++ (half ++ drop (areaPlace port + areaLength - areaPlace port) (drop (areaPlace port) area))) screen paper tape images ≡ errandOn port e (buffers state area screen paper tape images)
   unfolding errandOn
-  errand-law e half room state′ screen paper tape phase l k q f =
+  errand-law e half room state′ screen paper tape images phase l k q f =
       let r : Rooms port state = record { low = h .low; long = h .long } in
-      ap (λ (x : List ℕ). buffers x (take (areaPlace port) area ++ (half ++ drop (areaPlace port + areaLength - areaPlace port) (drop (areaPlace port) area))) screen paper tape)
+      ap (λ (x : List ℕ). buffers x (take (areaPlace port) area ++ (half ++ drop (areaPlace port + areaLength - areaPlace port) (drop (areaPlace port) area))) screen paper tape images)
       (in-port port state r (inPort phase room) room state′ phase k refl f)
-      ∙ ap (λ (x : List ℕ). buffers (withInPort port (inPort phase room) state) x screen paper tape) (half-back port area half (h .low) (h .halves) l)
-      ∙ ap (λ (x : Freed). buffers (withInPort port (x .port) state) (sets area (areaPlace port) (x .area)) screen paper tape)
+      ∙ ap (λ (x : List ℕ). buffers (withInPort port (inPort phase room) state) x screen paper tape images) (half-back port area half (h .low) (h .halves) l)
+      ∙ ap (λ (x : Freed). buffers (withInPort port (x .port) state) (sets area (areaPlace port) (x .area)) screen paper tape images)
       (q ∙ ap (λ (x : List ℕ). errandOf e x (part (areaPlace port) (areaPlace port + areaLength - areaPlace port) area)) (lent-part (roomPlace port) roomLength state)
       ∙ ap (errandOf e (roomIn port state)) (lent-part (areaPlace port) areaLength area))
 
-module _ (port : ℕ) (job : Job) (state area screen paper tape : List ℕ) (c : Called port (buffers state area screen paper tape)) where
+module _ (port : ℕ) (job : Job) (state area screen paper tape images : List ℕ) (c : Called port (buffers state area screen paper tape images)) where
   pub job-law : (b after : ControlBlock) (numbers state′ state″ screen′ paper′ tape′ : List ℕ) (out : Out)
       → b ≡ blockAt (tableIn (drop (tablePlace port) state)) (job .call .iocb) → length numbers ≡ length (part devicesPlace devicesLength state)
-      → begun after (devicesLent numbers screen′ paper′ tape′) out ≡ jobBegun (lentActs (job .device)) port job b (devicesLent (part devicesPlace devicesLength state) screen paper tape)
+      → begun after (devicesLent numbers screen′ paper′ tape′ images) out ≡ jobBegun (lentActs (job .device)) port job b (devicesLent (part devicesPlace devicesLength state) screen paper tape images)
       → state′ ≡ withBlockOn port (job .call .iocb) after (take devicesPlace state ++ (numbers ++ drop devicesLength (drop devicesPlace state)))
-      → state″ ≡ landOn port out state′ → buffers state″ area screen′ paper′ tape′ ≡ jobOn port job (buffers state area screen paper tape)
+      → state″ ≡ landOn port out state′ → buffers state″ area screen′ paper′ tape′ images ≡ jobOn port job (buffers state area screen paper tape images)
   unfolding jobOn
   job-law b after numbers state′ state″ screen′ paper′ tape′ out i l q e f =
       let iocb = job .call .iocb in
-      ap (λ (x : List ℕ). buffers x area screen′ paper′ tape′)
+      ap (λ (x : List ℕ). buffers x area screen′ paper′ tape′ images)
       (f ∙ ap (landOn port out) (e ∙ ap (withBlockOn port iocb after) (numbers-back state numbers (c .long) l)))
-      ∙ ap (λ (x : Begun DevicesLent). buffers (landOn port (x .out) (withBlockOn port iocb (x .block) (sets state devicesPlace (x .device .numbers)))) area (x .device .screen) (x .device .paper) (x .device .tape))
-      (q ∙ ap (λ (x : ControlBlock). jobBegun (lentActs (job .device)) port job x (devicesLent (numbersIn state) screen paper tape)) i)
+      ∙ ap (λ (x : Begun DevicesLent). buffers (landOn port (x .out) (withBlockOn port iocb (x .block) (sets state devicesPlace (x .device .numbers)))) area (x .device .screen) (x .device .paper) (x .device .tape) (x .device .images))
+      (q ∙ ap (λ (x : ControlBlock). jobBegun (lentActs (job .device)) port job x (devicesLent (numbersIn state) screen paper tape images)) i)
 
 module _ (port : ℕ) (p : Plan) (b b′ : Buffers) where
   pub start-free : (e : Errand) → p ≡ plan.Free e → b′ ≡ errandOn port e b → b′ ≡ startOn port p b
@@ -160,11 +168,11 @@ module _ (port : ℕ) (p : Plan) (b b′ : Buffers) where
   unfolding startOn
   start-on job z q = q ∙ rw z
 
-module _ (port : ℕ) (header : Header) (state area screen paper tape : List ℕ) (p : Plan) (t : Bool) (e : p ≡ planOn port header state area) (w : t ≡ waitsOn port p state) where
-  pub ready-waits : t ≡ true → leftAlone 8 (buffers state area screen paper tape) ≡ readyOn port header (buffers state area screen paper tape)
+module _ (port : ℕ) (header : Header) (state area screen paper tape images : List ℕ) (p : Plan) (t : Bool) (e : p ≡ planOn port header state area) (w : t ≡ waitsOn port p state) where
+  pub ready-waits : t ≡ true → leftAlone 8 (buffers state area screen paper tape images) ≡ readyOn port header (buffers state area screen paper tape images)
   unfolding readyOn
   ready-waits z = rw (← e, ← w, z)
 
-  pub ready-starts : (b′ : Buffers) → t ≡ false → b′ ≡ startOn port p (buffers state area screen paper tape) → left 0 0 b′ ≡ readyOn port header (buffers state area screen paper tape)
+  pub ready-starts : (b′ : Buffers) → t ≡ false → b′ ≡ startOn port p (buffers state area screen paper tape images) → left 0 0 b′ ≡ readyOn port header (buffers state area screen paper tape images)
   unfolding readyOn
   ready-starts b′ z q = ap (left 0 0) q ∙ rw (← e, ← w, z)

@@ -48,15 +48,15 @@ module _ (port : ℕ) (b : Buffers) (c : Called port b) where
 
   -- bytes that stand are those of what they stand for
   pub as-it-was : (n byte : ℕ) → left n byte b ≡ leftOf (outcome n byte s l)
-  as-it-was n byte = ap (λ (x : List ℕ). left n byte (buffers x (b .area) (b .screen) (b .paper) (b .tape))) (written port b c .is)
+  as-it-was n byte = ap (λ (x : List ℕ). left n byte (buffers x (b .area) (b .screen) (b .paper) (b .tape) (b .images))) (written port b c .is)
 
   -- a tick that reaches no further than it came
   stays : (n : ℕ) → left n 0 b ≡ leftOf (outcome n 0 (withReach port (reachAt port s l) s) (lentReach port (reachAt port s l) l))
   stays n =
       as-it-was n 0
       ∙ ap (λ (x : Stick). leftOf (outcome n 0 x l)) (sym (port-back port (c .low) s))
-      ∙ ap (λ (x : List ℕ). leftOf (outcome n 0 (withPort port (portAt port s) s) (lent x (l .area) (l .screen) (l .paper) (l .tape)))) (sym (part-back port (c .low) roomLength (l .rooms)))
-      ∙ ap (λ (x : List ℕ). leftOf (outcome n 0 (withPort port (portAt port s) s) (lent (lentReach port (reachAt port s l) l .rooms) x (l .screen) (l .paper) (l .tape)))) (sym (part-back port (c .low) areaLength (l .area)))
+      ∙ ap (λ (x : List ℕ). leftOf (outcome n 0 (withPort port (portAt port s) s) (lent x (l .area) (l .screen) (l .paper) (l .tape) (l .images)))) (sym (part-back port (c .low) roomLength (l .rooms)))
+      ∙ ap (λ (x : List ℕ). leftOf (outcome n 0 (withPort port (portAt port s) s) (lent (lentReach port (reachAt port s l) l .rooms) x (l .screen) (l .paper) (l .tape) (l .images)))) (sym (part-back port (c .low) areaLength (l .area)))
 
   abbrev tickedBy : Ticked → Outcome
   tickedBy t = outcome (t .answer) 0 (withReach port (t .reach) s) (lentReach port (t .reach) l)

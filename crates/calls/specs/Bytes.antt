@@ -9,6 +9,7 @@ use lib.ListN.{length}
 use Rattle.base.specs.Choice.{pick, choose, and}
 use Rattle.printer.specs.Printer.{paperLength}
 use Rattle.records.specs.Records.{tapeLength}
+use Rattle.image.specs.Image.{imagesLength}
 use Rattle.blocks.specs.Opening.{areaLength}
 use Rattle.layout.specs.Places.{stateLength}
 use Rattle.layout.specs.Stick.{Stick, freshStick, Lent}
@@ -18,16 +19,17 @@ use Rattle.damage.specs.Fits.{stickFits}
 use Rattle.calls.specs.Stick.{Outcome, screenLength}
 use Rattle.calls.specs.Calls.{freshCall, takeCall, tickCall, giveCall, pressCall}
 
--- the five lent buffers
+-- the six lent buffers
 pub record Buffers : Type 0 where
   pub state : List ℕ
   pub area : List ℕ
   pub screen : List ℕ
   pub paper : List ℕ
   pub tape : List ℕ
+  pub images : List ℕ
 
-abbrev pub buffers : (state area screen paper tape : List ℕ) → Buffers
-buffers state area screen paper tape = record { state = state; area = area; screen = screen; paper = paper; tape = tape }
+abbrev pub buffers : (state area screen paper tape images : List ℕ) → Buffers
+buffers state area screen paper tape images = record { state = state; area = area; screen = screen; paper = paper; tape = tape; images = images }
 
 -- all that a call over bytes returns and leaves
 pub record Left : Type 0 where
@@ -43,16 +45,17 @@ abbrev pub leftAlone : ℕ → Buffers → Left
 leftAlone answer b = left answer 0 b
 
 -- "2 a lent buffer has another length", the state too
-unfoldable pub fiveFit : (state area screen paper tape : ℕ) → Bool
-fiveFit state area screen paper tape =
-    and (eqb state stateLength) (and (eqb area (2 * areaLength)) (and (eqb screen screenLength) (and (eqb paper paperLength) (eqb tape tapeLength))))
+unfoldable pub sixFit : (state area screen paper tape images : ℕ) → Bool
+sixFit state area screen paper tape images =
+    and (eqb state stateLength)
+    (and (eqb area (2 * areaLength)) (and (eqb screen screenLength) (and (eqb paper paperLength) (and (eqb tape tapeLength) (eqb images imagesLength)))))
 
 abbrev pub buffersFit : Buffers → Bool
-buffersFit b = fiveFit (length (b .state)) (length (b .area)) (length (b .screen)) (length (b .paper)) (length (b .tape))
+buffersFit b = sixFit (length (b .state)) (length (b .area)) (length (b .screen)) (length (b .paper)) (length (b .tape)) (length (b .images))
 
 -- the rooms and the other lent buffers, as a call of the stick is lent them
 abbrev pub lentBy : Buffers → Lent
-lentBy b = lentIn (b .state) (b .area) (b .screen) (b .paper) (b .tape)
+lentBy b = lentIn (b .state) (b .area) (b .screen) (b .paper) (b .tape) (b .images)
 
 -- the stick that the bytes stand for
 abbrev pub stickBy : Buffers → Stick
@@ -64,7 +67,7 @@ undamagedIn b = and (stands (b .state)) (stickFits (stickBy b) (lentBy b))
 
 -- what a call of the stick leaves, as bytes
 abbrev pub leftOf : Outcome → Left
-leftOf o = left (o .answer) (o .byte) (buffers (headOf (o .stick) ++ o .lent .rooms) (o .lent .area) (o .lent .screen) (o .lent .paper) (o .lent .tape))
+leftOf o = left (o .answer) (o .byte) (buffers (headOf (o .stick) ++ o .lent .rooms) (o .lent .area) (o .lent .screen) (o .lent .paper) (o .lent .tape) (o .lent .images))
 
 -- "Order: 2, 3, 1, the rest"
 unfoldable pub bytesRefusal : Buffers → (port : ℕ) → ℕ

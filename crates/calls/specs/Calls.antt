@@ -14,10 +14,10 @@ use Rattle.devices.specs.Groups.{heldOf, clash}
 use Rattle.calls.specs.Port.{Ticked, tickPort, Served, takePort, givePort}
 use Rattle.calls.specs.Stick.{Outcome, outcome, refused, lengthsFit, refusalOf, roomAt, withRoom, reachAt, withReach, lentReach}
 
--- "areas zero, paper used 0 (its bytes as lent)", the tape's bytes as lent too, "screen as after opening E with cells past 960 zero"; the rooms, which are no word of 01,
+-- "areas zero, paper used 0 (its bytes as lent)", the bytes of tape and images as lent too, "screen as after opening E with cells past 960 zero"; the rooms, which are no word of 01,
 -- are zero too
 abbrev pub freshLent : Lent → Lent
-freshLent l = lent (replicate (2 * roomLength) 0) (replicate (2 * areaLength) 0) (freshGroup .screen) (l .paper) (l .tape)
+freshLent l = lent (replicate (2 * roomLength) 0) (replicate (2 * areaLength) 0) (freshGroup .screen) (l .paper) (l .tape) (l .images)
 
 -- "fresh start gives 0 or 2 only"
 unfoldable pub freshCall : Stick → Lent → Outcome

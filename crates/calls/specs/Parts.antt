@@ -13,6 +13,7 @@ use Rattle.base.specs.Parts.{part}
 use Rattle.cells.specs.Cells.{Whole}
 use Rattle.printer.specs.Printer.{paperLength}
 use Rattle.records.specs.Records.{tapeLength}
+use Rattle.image.specs.Image.{imagesLength}
 use Rattle.console.specs.Group.{pressedOf}
 use Rattle.blocks.specs.declared.ControlBlock.{ControlBlock}
 use Rattle.blocks.specs.declared.Header.{Header}
@@ -49,6 +50,7 @@ pub record Called (port : ℕ) (b : Buffers) : Type 0 where
   pub whole : Whole (b .screen)
   pub sheet : length (b .paper) ≡ paperLength
   pub reel : length (b .tape) ≡ tapeLength
+  pub four : length (b .images) ≡ imagesLength
   pub stands : stands (b .state) ≡ true
   pub fits : stickFits (stickBy b) (lentBy b) ≡ true
 
@@ -59,6 +61,7 @@ pub record Lengths (b : Buffers) : Type 0 where
   pub whole : Whole (b .screen)
   pub sheet : length (b .paper) ≡ paperLength
   pub reel : length (b .tape) ≡ tapeLength
+  pub four : length (b .images) ≡ imagesLength
 
 pub record Long (state : List ℕ) : Type 0 where
   pub long : length state ≡ stateLength
@@ -104,9 +107,9 @@ landOn port out state = withInPort port (landed out (roomIn port state)) state
 -- a running request's next character
 unfoldable pub advanceOn : (port : ℕ) → Run → Buffers → Buffers
 advanceOn port run b =
-    let w = advanceOf (lentActs (run .device)) port run (halfIn port (b .area)) (devicesLent (numbersIn (b .state)) (b .screen) (b .paper) (b .tape)) in
+    let w = advanceOf (lentActs (run .device)) port run (halfIn port (b .area)) (devicesLent (numbersIn (b .state)) (b .screen) (b .paper) (b .tape) (b .images)) in
     buffers (landOn port (w .out) (sets (b .state) devicesPlace (w .device .numbers))) (sets (b .area) (areaPlace port) (w .area))
-    (w .device .screen) (w .device .paper) (w .device .tape)
+    (w .device .screen) (w .device .paper) (w .device .tape) (w .device .images)
 
 -- what a ready message comes to
 unfoldable pub planOn : (port : ℕ) → Header → (state area : List ℕ) → Plan
@@ -122,14 +125,14 @@ waitsOn port p state = clash (groupNeeded p) (heldOf (phaseOn (1 - port) state))
 unfoldable pub errandOn : (port : ℕ) → Errand → Buffers → Buffers
 errandOn port e b =
     let f = errandOf e (roomIn port (b .state)) (halfIn port (b .area)) in
-    buffers (withInPort port (f .port) (b .state)) (sets (b .area) (areaPlace port) (f .area)) (b .screen) (b .paper) (b .tape)
+    buffers (withInPort port (f .port) (b .state)) (sets (b .area) (areaPlace port) (f .area)) (b .screen) (b .paper) (b .tape) (b .images)
 
 unfoldable pub jobOn : (port : ℕ) → Job → Buffers → Buffers
 jobOn port job b =
     let iocb = job .call .iocb in
-    let x = jobBegun (lentActs (job .device)) port job (blockOn port iocb (b .state)) (devicesLent (numbersIn (b .state)) (b .screen) (b .paper) (b .tape)) in
+    let x = jobBegun (lentActs (job .device)) port job (blockOn port iocb (b .state)) (devicesLent (numbersIn (b .state)) (b .screen) (b .paper) (b .tape) (b .images)) in
     buffers (landOn port (x .out) (withBlockOn port iocb (x .block) (sets (b .state) devicesPlace (x .device .numbers)))) (b .area)
-    (x .device .screen) (x .device .paper) (x .device .tape)
+    (x .device .screen) (x .device .paper) (x .device .tape) (x .device .images)
 
 unfoldable pub startOn : (port : ℕ) → Plan → Buffers → Buffers
 startOn port (plan.Free e) b = errandOn port e b
@@ -160,5 +163,5 @@ portsFresh state = sets (sets (take roomsPlace state ++ replicate (2 * roomLengt
 
 unfoldable pub freshOn : Buffers → Buffers
 freshOn b =
-    let d = lentOf (freshGroups (b .paper) (b .tape)) in
-    buffers (sets (portsFresh (b .state)) devicesPlace (d .numbers)) (replicate (2 * areaLength) 0) (d .screen) (b .paper) (b .tape)
+    let d = lentOf (freshGroups (b .paper) (b .tape) (b .images)) in
+    buffers (sets (portsFresh (b .state)) devicesPlace (d .numbers)) (replicate (2 * areaLength) 0) (d .screen) (b .paper) (b .tape) (b .images)

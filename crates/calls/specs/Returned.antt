@@ -1,4 +1,4 @@
--- What a call of the port firmware returns and leaves: a number, and the five lent buffers.
+-- What a call of the port firmware returns and leaves: a number, and the six lent buffers.
 -- Assumes nothing.
 use Prim.Native.Nat.{ℕ, _+_, _*_}
 use Rattle.calls.specs.Bytes.{Buffers, Left}

@@ -10,6 +10,7 @@ use Rattle.base.specs.Choice.{pick, and}
 use Rattle.cells.specs.Cells.{Whole}
 use Rattle.printer.specs.Printer.{paperLength}
 use Rattle.records.specs.Records.{tapeLength}
+use Rattle.image.specs.Image.{imagesLength}
 use Rattle.blocks.specs.Opening.{areaLength}
 use Rattle.wire.specs.Messages.{roomLength}
 use Rattle.layout.specs.Stick.{Stick, withDevices, Lent, lent, portAt, withPort, partAt, withPart}
@@ -36,14 +37,16 @@ refused answer stick l = outcome answer 0 stick l
 abbrev pub screenLength : ℕ
 screenLength = 61440
 
--- "2 a lent buffer has another length": two rooms, two halves of the area, a screen, a paper, a tape
+-- "2 a lent buffer has another length": two rooms, two halves of the area, a screen, a paper, a tape, four
+-- images
 unfoldable pub lengthsFit : Lent → Bool
 lengthsFit l =
     and (eqb (length (l .rooms)) (2 * roomLength))
     (and (eqb (length (l .area)) (2 * areaLength))
     (and (eqb (length (l .screen)) screenLength)
     (and (eqb (length (l .paper)) paperLength)
-    (eqb (length (l .tape)) tapeLength))))
+    (and (eqb (length (l .tape)) tapeLength)
+    (eqb (length (l .images)) imagesLength)))))
 
 -- "Order: 2, 3, 1, the rest"; "1 port above 1"; "3 damaged state"
 unfoldable pub refusalOf : Stick → Lent → (port : ℕ) → ℕ
@@ -56,6 +59,7 @@ pub record LengthsFit (l : Lent) : Type 0 where
   pub whole : Whole (l .screen)
   pub paper : length (l .paper) ≡ paperLength
   pub tape : length (l .tape) ≡ tapeLength
+  pub images : length (l .images) ≡ imagesLength
 
 -- what is known of a call that is not refused so
 pub record Guarded (stick : Stick) (l : Lent) : Type 0 where
@@ -70,11 +74,11 @@ abbrev pub roomAt : ℕ → Lent → List ℕ
 roomAt port l = partAt roomLength port (l .rooms)
 
 abbrev pub withRoom : ℕ → List ℕ → Lent → Lent
-withRoom port room l = lent (withPart roomLength port room (l .rooms)) (l .area) (l .screen) (l .paper) (l .tape)
+withRoom port room l = lent (withPart roomLength port room (l .rooms)) (l .area) (l .screen) (l .paper) (l .tape) (l .images)
 
 -- the groups: their numbers are the stick's, their buffers are lent
 abbrev pub groupsAt : Stick → Lent → Groups
-groupsAt s l = groupsOf (s .devices) (l .screen) (l .paper) (l .tape)
+groupsAt s l = groupsOf (s .devices) (l .screen) (l .paper) (l .tape) (l .images)
 
 abbrev pub withGroups : Groups → Stick → Stick
 withGroups g s = withDevices (devicesOf g) s
@@ -89,4 +93,4 @@ withReach port r s = withPort port (r .port) (withGroups (r .groups) s)
 abbrev pub lentReach : ℕ → Reach → Lent → Lent
 lentReach port r l =
     lent (withPart roomLength port (r .room) (l .rooms)) (withPart areaLength port (r .area) (l .area))
-    (r .groups .console .screen) (r .groups .printer .paper) (r .groups .cassette .tape)
+    (r .groups .console .screen) (r .groups .printer .paper) (r .groups .cassette .tape) (r .groups .disk .images)

@@ -37,7 +37,7 @@ module _ {D : Type 0} (H : Asked → Acts D) (port : ℕ) where
   work-stands work.Special device call block x = next-out (Off (doneStatus (H (asksOn port (call .iocb)) .specials x .says)) 0 (call .a))
   work-stands (work.Open then number name) device call block x =
       choose-go (λ (w : Begun D). Stands (w .out)) (offersOf device (call .aux1)) _ _
-      (λ t. next-out (Off (doneStatus (openedOf (H (asksOpen port (call .iocb) (call .aux1) (call .aux2) name)) then x .says)) 0 (call .a)))
+      (λ t. next-out (Off (doneStatus (openedOf (H (asksOpen port (call .iocb) number (call .aux1) (call .aux2) name)) then x .says)) 0 (call .a)))
       (λ t. next-out (Off 0x84 0 (call .a)))
   work-stands (work.Transfer kind) device call block x =
       prepared-stands (H (asksOn port (call .iocb)) .prepares x .says) kind device call

@@ -8,6 +8,7 @@ use Rattle.handler.specs.declared.Asked.{Asked}
 use Rattle.handler.specs.declared.Done.{Done}
 use Rattle.handler.specs.declared.Done.the-variants as done
 use Rattle.handler.specs.Answer.{Answer, answer, doneStatus}
+use Rattle.names.specs.declared.Name.{Name}
 use Rattle.handler.specs.Acts.{Acts, asksOpen, asksOn}
 use Rattle.blocks.specs.declared.Device.{Device}
 use Rattle.blocks.specs.declared.ControlBlock.{ControlBlock}
@@ -74,9 +75,9 @@ module _ {D : Type 0} (A : Acts D) (then : After) (x : D) where
   opened-refused o z status p e = rw (← p, e)
 
 module _ {D : Type 0} (H : Asked → Acts D) (port : ℕ) (device : Device) (call : Call) (b : ControlBlock) (x : D) where
-  module _ (then : After) (number name : ℕ) (o : Bool) (p : o ≡ offersOf device (call .aux1)) where
+  module _ (then : After) (number : ℕ) (name : Name) (o : Bool) (p : o ≡ offersOf device (call .aux1)) where
     pub open-offered : (d : Done) (y : D) (settled : ControlBlock) (status : ℕ) → o ≡ true
-        → answer d y ≡ openedOf (H (asksOpen port (call .iocb) (call .aux1) (call .aux2) name)) then x
+        → answer d y ≡ openedOf (H (asksOpen port (call .iocb) number (call .aux1) (call .aux2) name)) then x
         → settled ≡ blockAfter d then (openBlock device number (call .aux1)) b → status ≡ doneStatus d
         → begun settled y (outOf (Off status 0 (call .a))) ≡ openingOf H port then number name device call b x
     unfolding openingOf
@@ -106,7 +107,7 @@ module _ {D : Type 0} (H : Asked → Acts D) (port : ℕ) (job : Job) (b : Contr
     start-special d y status e q s = rw (e, s, ← a, ← q)
 
   module _ (c : ControlBlock) (y : D) (next : Next) where
-    pub start-open : (then : After) (number name : ℕ) → job .work ≡ work.Open then number name → begun c y (outOf next) ≡ openingOf H port then number name (job .device) (job .call) b x → begun c y (outOf next) ≡ jobBegun H port job b x
+    pub start-open : (then : After) (number : ℕ) (name : Name) → job .work ≡ work.Open then number name → begun c y (outOf next) ≡ openingOf H port then number name (job .device) (job .call) b x → begun c y (outOf next) ≡ jobBegun H port job b x
     unfolding workOf
     start-open then number name e q = q ∙ rw e
 

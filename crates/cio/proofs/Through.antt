@@ -8,6 +8,7 @@ use Rattle.handler.specs.declared.Asked.{Asked}
 use Rattle.handler.specs.declared.Done.{Done}
 use Rattle.handler.specs.declared.Done.the-variants as done
 use Rattle.handler.specs.Answer.{Answer, answer, seen, doneStatus}
+use Rattle.names.specs.declared.Name.{Name}
 use Rattle.handler.specs.Acts.{Acts, asksOpen, asksOn, through}
 use Rattle.blocks.specs.declared.Device.{Device}
 use Rattle.blocks.specs.declared.ControlBlock.{ControlBlock}
@@ -58,17 +59,17 @@ module _ {D E : Type 0} (get : E → D) (put : E → D → E) where
       whole asked = through get put (H asked)
 
       -- an opening's own, and what SPECIAL makes of it, are got back
-      abbrev pub Opens : ℕ → Type 0
-      Opens name =
-          let A = H (asksOpen port (call .iocb) (call .aux1) (call .aux2) name) in
+      abbrev pub Opens : ℕ → Name → Type 0
+      Opens number name =
+          let A = H (asksOpen port (call .iocb) number (call .aux1) (call .aux2) name) in
           let y = A .opens (get s) .leaves in
           Got-back y × Got-back (A .specials y .leaves)
 
-      open-through : (then : After) (number name : ℕ) (o : Bool) → o ≡ offersOf device (call .aux1) → Opens name
+      open-through : (then : After) (number : ℕ) (name : Name) (o : Bool) → o ≡ offersOf device (call .aux1) → Opens number name
           → openingOf whole port then number name device call b s ≡ seenBegun (put s) (openingOf H port then number name device call b (get s))
       unfolding openingOf
       open-through then number name true e k =
-          let A = H (asksOpen port (call .iocb) (call .aux1) (call .aux2) name) in
+          let A = H (asksOpen port (call .iocb) number (call .aux1) (call .aux2) name) in
           rw (← e)
           (ap (λ (y : Answer Done E). over call (blockAfter (y .says) then (openBlock device number (call .aux1)) b) (y .leaves) (doneStatus (y .says))) (opened-through A then (k .0) (k .1)))
       open-through then number name false e k = rw (← e) (ap (λ (t : E). over call b t 0x84) (sym still))
@@ -78,7 +79,7 @@ module _ {D E : Type 0} (get : E → D) (put : E → D → E) where
       Starting work.Close = Unit {0}
       Starting work.Status = Unit {0}
       Starting work.Special = Unit {0}
-      Starting (work.Open then number name) = Opens name
+      Starting (work.Open then number name) = Opens number name
       Starting (work.Transfer kind) = Unit {0}
 
       pub work-through : (w : Work) → Starting w → workOf whole port w device call b s ≡ seenBegun (put s) (workOf H port w device call b (get s))

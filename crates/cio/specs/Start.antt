@@ -10,6 +10,7 @@ use Rattle.handler.specs.declared.Done.{Done}
 use Rattle.handler.specs.declared.Done.the-variants as done
 use Rattle.handler.specs.declared.Asked.{Asked}
 use Rattle.handler.specs.Answer.{doneStatus, Answer, answer}
+use Rattle.names.specs.declared.Name.{Name}
 use Rattle.handler.specs.Acts.{Acts, asksOpen, asksOn}
 use Rattle.blocks.specs.declared.Device.{Device}
 use Rattle.blocks.specs.declared.Kind.{Kind}
@@ -111,11 +112,11 @@ preparedOut (done.Refused status) kind device call = overOut (doneStatus (done.R
 -- H a device's handler, port the number of the port that asks
 module _ {D : Type 0} (H : Asked → Acts D) (port : ℕ) where
   -- "then with the group held AUX1, mode, handler": "$84 .. AUX1 not offered"
-  unfoldable pub openingOf : After → (number name : ℕ) → Device → Call → ControlBlock → D → Begun D
+  unfoldable pub openingOf : After → (number : ℕ) → (name : Name) → Device → Call → ControlBlock → D → Begun D
   openingOf then number name device call block x =
       choose (offersOf device (call .aux1))
       (λ u.
-      let y = openedOf (H (asksOpen port (call .iocb) (call .aux1) (call .aux2) name)) then x in
+      let y = openedOf (H (asksOpen port (call .iocb) number (call .aux1) (call .aux2) name)) then x in
       over call (blockAfter (y .says) then (openBlock device number (call .aux1)) block) (y .leaves) (doneStatus (y .says)))
       (λ u. over call block x 0x84)
 

@@ -6,6 +6,7 @@ use blocks::Kind;
 use blocks::Run;
 use handler::Asked;
 use handler::Done;
+use names::Name;
 use plan::After;
 use plan::Job;
 use plan::Work;
@@ -16,6 +17,7 @@ ghost use Rattle.blocks.specs.Blocks.{openBlock};
 ghost use Rattle.handler.specs.Answer.{answer, doneStatus};
 ghost use Rattle.handler.specs.Acts.{asksOpen, asksOn};
 ghost use Rattle.transfer.specs.Transfer.{outOf};
+ghost use Rattle.layout.specs.Places.{Numbers};
 ghost use Rattle.devices.specs.Lent.{Lends, devicesLent, lentActs};
 ghost use Rattle.cio.specs.Start.{thenOf, openedOf, blockAfter, preparedOut, begun, openingOf, transferOf, jobBegun};
 
@@ -42,10 +44,12 @@ fn status_said(
     screen: &[u8],
     paper: &[u8],
     tape: &[u8],
+    images: &[u8],
 ) -> u8
-    ensures { λ r. ⌜ r ≡ doneStatus (lentActs device asked .statuses (devicesLent (now (numbers .entry)) (now (screen .entry)) (now (paper .entry)) (now (tape .entry)))) ⌝ }
+    requires { ⌜ Numbers (now numbers) ⌝ }
+    ensures { λ r. ⌜ r ≡ doneStatus (lentActs device asked .statuses (devicesLent (now (numbers .entry)) (now (screen .entry)) (now (paper .entry)) (now (tape .entry)) (now (images .entry)))) ⌝ }
 {
-    status_of(devices::status(device, asked, numbers, screen, paper, tape))
+    status_of(devices::status(device, asked, numbers, screen, paper, tape, images))
 }
 
 // After an opening: GET STATUS and SPECIAL answer and close again.
@@ -57,20 +61,21 @@ fn then(
     screen: &mut [u8],
     paper: &mut [u8],
     tape: &mut [u8],
+    images: &[u8],
 ) -> Done
     requires { ⌜ Lends (now numbers) (now screen) (now tape) ⌝ }
-    ensures { λ r. ⌜ answer r (devicesLent (now (numbers .exit)) (now (screen .exit)) (now (paper .exit)) (now (tape .exit))) ≡ thenOf (lentActs device asked) after (devicesLent (now (numbers .entry)) (now (screen .entry)) (now (paper .entry)) (now (tape .entry))) ⌝ }
+    ensures { λ r. ⌜ answer r (devicesLent (now (numbers .exit)) (now (screen .exit)) (now (paper .exit)) (now (tape .exit)) (now (images .entry))) ≡ thenOf (lentActs device asked) after (devicesLent (now (numbers .entry)) (now (screen .entry)) (now (paper .entry)) (now (tape .entry)) (now (images .entry))) ⌝ }
 {
     match after {
         After::Stay => Done::Success,
         After::Status => {
-            let done = devices::status(device, asked, numbers, screen, paper, tape);
-            devices::close(device, asked, numbers, screen, paper, tape);
+            let done = devices::status(device, asked, numbers, screen, paper, tape, images);
+            devices::close(device, asked, numbers, screen, paper, tape, images);
             done
         }
         After::Special => {
-            let done = devices::special(device, asked, numbers, screen, paper, tape);
-            devices::close(device, asked, numbers, screen, paper, tape);
+            let done = devices::special(device, asked, numbers, screen, paper, tape, images);
+            devices::close(device, asked, numbers, screen, paper, tape, images);
             done
         }
     }
@@ -84,13 +89,14 @@ fn open(
     screen: &mut [u8],
     paper: &mut [u8],
     tape: &mut [u8],
+    images: &[u8],
 ) -> Done
     requires { ⌜ Lends (now numbers) (now screen) (now tape) ⌝ }
-    ensures { λ r. ⌜ answer r (devicesLent (now (numbers .exit)) (now (screen .exit)) (now (paper .exit)) (now (tape .exit))) ≡ openedOf (lentActs device asked) after (devicesLent (now (numbers .entry)) (now (screen .entry)) (now (paper .entry)) (now (tape .entry))) ⌝ }
+    ensures { λ r. ⌜ answer r (devicesLent (now (numbers .exit)) (now (screen .exit)) (now (paper .exit)) (now (tape .exit)) (now (images .entry))) ≡ openedOf (lentActs device asked) after (devicesLent (now (numbers .entry)) (now (screen .entry)) (now (paper .entry)) (now (tape .entry)) (now (images .entry))) ⌝ }
 {
-    let done = devices::open(device, asked, numbers, screen, paper, tape);
+    let done = devices::open(device, asked, numbers, screen, paper, tape, images);
     match done {
-        Done::Success => then(after, device, asked, numbers, screen, paper, tape),
+        Done::Success => then(after, device, asked, numbers, screen, paper, tape, images),
         Done::Refused(status) => Done::Refused(status),
     }
 }
@@ -113,16 +119,17 @@ fn opening(
     port: u8,
     after: After,
     number: u8,
-    name: u32,
+    name: Name,
     job: Job,
     block: ControlBlock,
     numbers: &mut [u8],
     screen: &mut [u8],
     paper: &mut [u8],
     tape: &mut [u8],
+    images: &[u8],
 ) -> Begin
     requires { ⌜ Lends (now numbers) (now screen) (now tape) ⌝ }
-    ensures { λ r. ⌜ begun (r .block) (devicesLent (now (numbers .exit)) (now (screen .exit)) (now (paper .exit)) (now (tape .exit))) (outOf (r .next)) ≡ openingOf (lentActs (job .device)) port after number name (job .device) (job .call) block (devicesLent (now (numbers .entry)) (now (screen .entry)) (now (paper .entry)) (now (tape .entry))) ⌝ }
+    ensures { λ r. ⌜ begun (r .block) (devicesLent (now (numbers .exit)) (now (screen .exit)) (now (paper .exit)) (now (tape .exit)) (now (images .entry))) (outOf (r .next)) ≡ openingOf (lentActs (job .device)) port after number name (job .device) (job .call) block (devicesLent (now (numbers .entry)) (now (screen .entry)) (now (paper .entry)) (now (tape .entry)) (now (images .entry))) ⌝ }
 {
     let device = job.device;
     let call = job.call;
@@ -130,6 +137,7 @@ fn opening(
         let asked = Asked {
             port: port,
             iocb: call.iocb,
+            number: number,
             aux1: call.aux1,
             aux2: call.aux2,
             name: name,
@@ -141,7 +149,7 @@ fn opening(
                 aux1: call.aux1,
             },
         };
-        let done = open(after, device, asked, numbers, screen, paper, tape);
+        let done = open(after, device, asked, numbers, screen, paper, tape, images);
         let settled = settle(done, after, opened, block);
         return Begin {
             block: settled,
@@ -184,14 +192,15 @@ fn transfer(
     screen: &mut [u8],
     paper: &mut [u8],
     tape: &mut [u8],
+    images: &[u8],
 ) -> Begin
     requires { ⌜ Lends (now numbers) (now screen) (now tape) ⌝ }
-    ensures { λ r. ⌜ begun (r .block) (devicesLent (now (numbers .exit)) (now (screen .exit)) (now (paper .exit)) (now (tape .exit))) (outOf (r .next)) ≡ transferOf (lentActs (job .device)) port kind (job .device) (job .call) block (devicesLent (now (numbers .entry)) (now (screen .entry)) (now (paper .entry)) (now (tape .entry))) ⌝ }
+    ensures { λ r. ⌜ begun (r .block) (devicesLent (now (numbers .exit)) (now (screen .exit)) (now (paper .exit)) (now (tape .exit)) (now (images .entry))) (outOf (r .next)) ≡ transferOf (lentActs (job .device)) port kind (job .device) (job .call) block (devicesLent (now (numbers .entry)) (now (screen .entry)) (now (paper .entry)) (now (tape .entry)) (now (images .entry))) ⌝ }
 {
     let device = job.device;
     let call = job.call;
     let asked = handler::on_block(port, call.iocb);
-    let done = devices::prepare(device, asked, numbers, screen, paper, tape);
+    let done = devices::prepare(device, asked, numbers, screen, paper, tape, images);
     let next = prepared(done, kind, device, call);
     Begin {
         block: block,
@@ -208,9 +217,10 @@ pub fn start(
     screen: &mut [u8],
     paper: &mut [u8],
     tape: &mut [u8],
+    images: &[u8],
 ) -> Begin
     requires { ⌜ Lends (now numbers) (now screen) (now tape) ⌝ }
-    ensures { λ r. ⌜ begun (r .block) (devicesLent (now (numbers .exit)) (now (screen .exit)) (now (paper .exit)) (now (tape .exit))) (outOf (r .next)) ≡ jobBegun (lentActs (job .device)) port job block (devicesLent (now (numbers .entry)) (now (screen .entry)) (now (paper .entry)) (now (tape .entry))) ⌝ }
+    ensures { λ r. ⌜ begun (r .block) (devicesLent (now (numbers .exit)) (now (screen .exit)) (now (paper .exit)) (now (tape .exit)) (now (images .entry))) (outOf (r .next)) ≡ jobBegun (lentActs (job .device)) port job block (devicesLent (now (numbers .entry)) (now (screen .entry)) (now (paper .entry)) (now (tape .entry)) (now (images .entry))) ⌝ }
 {
     let work = job.work;
     let call = job.call;
@@ -218,21 +228,21 @@ pub fn start(
     let asked = handler::on_block(port, call.iocb);
     match work {
         Work::Close => {
-            devices::close(device, asked, numbers, screen, paper, tape);
+            devices::close(device, asked, numbers, screen, paper, tape, images);
             Begin {
                 block: ControlBlock::CLOSED,
                 next: Next::Off(0x01, 0, call.a),
             }
         }
         Work::Status => {
-            let status = status_said(device, asked, numbers, screen, paper, tape);
+            let status = status_said(device, asked, numbers, screen, paper, tape, images);
             Begin {
                 block: block,
                 next: Next::Off(status, 0, call.a),
             }
         }
         Work::Special => {
-            let done = devices::special(device, asked, numbers, screen, paper, tape);
+            let done = devices::special(device, asked, numbers, screen, paper, tape, images);
             Begin {
                 block: block,
                 next: Next::Off(status_of(done), 0, call.a),
@@ -249,7 +259,18 @@ pub fn start(
             screen,
             paper,
             tape,
+            images,
         ),
-        Work::Transfer(kind) => transfer(port, kind, job, block, numbers, screen, paper, tape),
+        Work::Transfer(kind) => transfer(
+            port,
+            kind,
+            job,
+            block,
+            numbers,
+            screen,
+            paper,
+            tape,
+            images,
+        ),
     }
 }

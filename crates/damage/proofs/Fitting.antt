@@ -1,6 +1,5 @@
--- What is known of an undamaged stick, part by part: each port, the console, the printer, the cassette and its mark,
--- that the ports hold no group both; and of a
--- running request that its numbers span its buffer.
+-- What is known of an undamaged stick, part by part: each port, the console, the printer, the cassette and its mark, the places of
+-- the blocks that have D open, that the ports hold no group both; and of a running request that its numbers span its buffer.
 -- Assumes nothing.
 use mathlib.Core.Path.{_≡_, subst}
 use mathlib.Core.Bool.{Bool, true}
@@ -22,6 +21,7 @@ use Rattle.cassette.specs.Fit.{fitsCassette}
 use Rattle.transfer.specs.Spans.{wayIn, Spans}
 use Rattle.layout.specs.Stick.{Stick, Lent, portAt}
 use Rattle.devices.specs.Marks.{marksFit}
+use Rattle.devices.specs.Placed.{placesFit}
 use Rattle.layout.proofs.Ports.{by-port}
 use Rattle.damage.specs.Fits.{openFor, inUse, spans, runFits, phaseFits, portFits, portsApart, stickFits}
 
@@ -38,8 +38,11 @@ module _ (s : Stick) (l : Lent) (e : stickFits s l ≡ true) where
   abbrev marked : Bool
   marked = marksFit (s .devices .cassette .mark) (s .port0 .table) (s .port1 .table)
 
+  abbrev placed : Bool
+  placed = placesFit (s .devices .places) (s .port0 .table) (s .port1 .table)
+
   abbrev behind-printer : Bool
-  behind-printer = and fitting (and marked (portsApart s))
+  behind-printer = and fitting (and marked (and placed (portsApart s)))
 
   abbrev rest : Bool
   rest = and (leb (s .devices .printer .used) paperLength) behind-printer
@@ -69,13 +72,22 @@ module _ (s : Stick) (l : Lent) (e : stickFits s l ≡ true) where
   past-printer = and-right (leb (s .devices .printer .used) paperLength) behind-printer past-console
 
   pub cassette-fits : fitsCassette (s .devices .cassette) ≡ true
-  cassette-fits = and-left fitting (and marked (portsApart s)) past-printer
+  cassette-fits = and-left fitting (and marked (and placed (portsApart s))) past-printer
+
+  past-cassette : and marked (and placed (portsApart s)) ≡ true
+  past-cassette = and-right fitting (and marked (and placed (portsApart s))) past-printer
 
   pub marks-fit : marksFit (s .devices .cassette .mark) (s .port0 .table) (s .port1 .table) ≡ true
-  marks-fit = and-left marked (portsApart s) (and-right fitting (and marked (portsApart s)) past-printer)
+  marks-fit = and-left marked (and placed (portsApart s)) past-cassette
+
+  past-marks : and placed (portsApart s) ≡ true
+  past-marks = and-right marked (and placed (portsApart s)) past-cassette
+
+  pub places-fit : placesFit (s .devices .places) (s .port0 .table) (s .port1 .table) ≡ true
+  places-fit = and-left placed (portsApart s) past-marks
 
   pub ports-apart : portsApart s ≡ true
-  ports-apart = and-right marked (portsApart s) (and-right fitting (and marked (portsApart s)) past-printer)
+  ports-apart = and-right placed (portsApart s) past-marks
 
 module _ (p : Port) (c : Console) (e : portFits p c ≡ true) where
   pub table-fits : tableMade (p .table) ≡ true

@@ -1,5 +1,6 @@
 pub mod Ands
 pub mod Marks
+pub mod Placed
 pub mod Tables
 pub mod Phases
 pub mod Heads

@@ -4,24 +4,22 @@
 use mathlib.Core.Path.{_≡_, _∙_, refl, sym, ap}
 use mathlib.Core.Bool.{Bool, true, false}
 use mathlib.Core.List.{List, [], _∷_}
-use Prim.Native.Nat.{ℕ, zero, suc, _+_, _*_, _≤_, _<_}
+use Prim.Native.Nat.{ℕ, suc, _+_, _*_, _≤_}
 use native.Mathlib.Nat.{zero-add, zero-mul, one-mul, mul-zero, suc-mul}
 use native.Mathlib.Omega.{arith}
 use borrow.Author.Tests.{eq-eqb, ne-eqb, le-leb, leb-true, eqb-true}
-use lib.Dec.{eqb, leb, ltb}
+use lib.Dec.{eqb, leb}
 use Rattle.base.specs.Choice.{pick, and}
-use Rattle.base.proofs.Choices.{by-eq, by-test, and-left, and-right}
+use Rattle.base.proofs.Choices.{by-eq, and-left, and-right}
 use Rattle.blocks.specs.declared.Device.{Device}
-use Rattle.blocks.specs.declared.Device.the-variants.{E, S, K, P, C}
+use Rattle.blocks.specs.declared.Device.the-variants.{E, S, K, P, C, D}
 use Rattle.blocks.specs.declared.BlockState.{BlockState}
 use Rattle.blocks.specs.declared.BlockState.the-variants as block
 use Rattle.blocks.specs.declared.ControlBlock.{ControlBlock}
 use Rattle.blocks.specs.declared.Table.{Table}
-use Rattle.blocks.specs.Made.{madeOf, allMade}
 use Rattle.cassette.specs.Cassette.{markOf}
 use Rattle.devices.specs.Marks.{tapeOn, tapeAt, markOn, markAt, tapesIn, marksIn, marksFit}
-use Rattle.devices.proofs.Marks.{mark-low, marks-low, marks-high}
-use Rattle.damage.proofs.Ands.{both, zip}
+use Rattle.devices.proofs.Marks.{marks-low, marks-high}
 
 -- a block has C open as this mark says, or not at all
 abbrev pub markedOn : (mark : ℕ) → Device → (aux1 : ℕ) → Bool
@@ -30,6 +28,7 @@ markedOn mark S aux1 = true
 markedOn mark K aux1 = true
 markedOn mark P aux1 = true
 markedOn mark C aux1 = eqb (markOf aux1) mark
+markedOn mark D aux1 = true
 
 abbrev pub markedAt : (mark : ℕ) → BlockState → Bool
 markedAt mark block.Closed = true
@@ -39,18 +38,6 @@ abbrev pub allMarked : (mark : ℕ) → List ControlBlock → Bool
 allMarked mark [] = true
 allMarked mark (b ∷ bs) = and (markedAt mark (b .state)) (allMarked mark bs)
 
--- with that some OPEN makes it
-abbrev pub goodOf : (mark : ℕ) → ControlBlock → Bool
-goodOf mark b = and (madeOf b) (markedAt mark (b .state))
-
-abbrev pub allGood : (mark : ℕ) → List ControlBlock → Bool
-allGood mark [] = true
-allGood mark (b ∷ bs) = and (goodOf mark b) (allGood mark bs)
-
-pub good-is : (mark : ℕ) (bs : List ControlBlock) → allGood mark bs ≡ and (allMade bs) (allMarked mark bs)
-good-is mark [] = refl
-good-is mark (b ∷ bs) = ap (and (goodOf mark b)) (good-is mark bs) ∙ zip (madeOf b) (markedAt mark (b .state)) (allMade bs) (allMarked mark bs)
-
 -- one block: marked so, its mark is this one if it has C open; without C open it is marked anyhow
 on-sum : (mark : ℕ) (device : Device) (aux1 : ℕ) → markedOn mark device aux1 ≡ true → markOn device aux1 ≡ tapeOn device * mark
 on-sum mark E aux1 e = sym (zero-mul mark)
@@ -58,6 +45,7 @@ on-sum mark S aux1 e = sym (zero-mul mark)
 on-sum mark K aux1 e = sym (zero-mul mark)
 on-sum mark P aux1 e = sym (zero-mul mark)
 on-sum mark C aux1 e = eqb-true (markOf aux1) mark e ∙ sym (one-mul mark)
+on-sum mark D aux1 e = sym (zero-mul mark)
 
 at-sum : (mark : ℕ) (s : BlockState) → markedAt mark s ≡ true → markAt s ≡ tapeAt s * mark
 at-sum mark block.Closed e = sym (zero-mul mark)
@@ -69,6 +57,7 @@ on-none mark S aux1 e = refl
 on-none mark K aux1 e = refl
 on-none mark P aux1 e = refl
 on-none mark C aux1 e = absurd (omega arith)
+on-none mark D aux1 e = refl
 
 at-none : (mark : ℕ) (s : BlockState) → tapeAt s ≡ 0 → markedAt mark s ≡ true
 at-none mark block.Closed e = refl
@@ -80,6 +69,7 @@ on-own mark S aux1 e = refl
 on-own mark K aux1 e = refl
 on-own mark P aux1 e = refl
 on-own mark C aux1 e = eq-eqb (markOf aux1) mark e
+on-own mark D aux1 e = refl
 
 at-own : (mark : ℕ) (s : BlockState) → markAt s ≡ mark → markedAt mark s ≡ true
 at-own mark block.Closed e = refl
@@ -91,6 +81,7 @@ on-few S = omega arith
 on-few K = omega arith
 on-few P = omega arith
 on-few C = omega arith
+on-few D = omega arith
 
 at-few : (s : BlockState) → tapeAt s ≤ 1
 at-few block.Closed = omega arith
@@ -132,6 +123,7 @@ one-marked mark (b ∷ bs) e f =
     on-zero K aux1 e = refl
     on-zero P aux1 e = refl
     on-zero C aux1 e = absurd (omega arith)
+    on-zero D aux1 e = refl
 
     at-zero : (s : BlockState) → tapeAt s ≡ 0 → markAt s ≡ 0
     at-zero block.Closed e = refl

@@ -32,7 +32,8 @@ use Rattle.layout.proofs.Tables.{block-there}
 use Rattle.damage.specs.Whole.{gatherWhole, readyWhole, replyWhole, directionWhole, openedWhole, modeWhole, someLeft, bufferWhole, spanWhole, runWhole, phaseWhole, portWhole, consoleWith}
 use Rattle.damage.proofs.Ands as ands
 use Rattle.damage.proofs.Marks.{allMarked}
-use Rattle.damage.proofs.Tables.{table-is, stands-each}
+use Rattle.damage.proofs.Placed.{allPlaced}
+use Rattle.damage.proofs.Tables.{by-six, table-is, stands-each}
 
 directed-is : (kind aux1 : ℕ) → directionWhole kind aux1 ≡ allows (kindIn kind) aux1
 unfolding directionWhole kindIn
@@ -53,7 +54,8 @@ used-is device mode =
     (λ n1. by-eq device 2 (λ z. rw z)
     (λ n2. by-eq device 3 (λ z. rw z)
     (λ n3. by-eq device 4 (λ z. rw z)
-    (λ n4. rw (ne-eqb device 1 n1, ne-eqb device 2 n2, ne-eqb device 3 n3, ne-eqb device 4 n4)))))
+    (λ n4. by-eq device 5 (λ z. rw z)
+    (λ n5. rw (ne-eqb device 1 n1, ne-eqb device 2 n2, ne-eqb device 3 n3, ne-eqb device 4 n4, ne-eqb device 5 n5))))))
 
 -- something left, or left and counted together
 pick-self : (t : Bool) → pick t true false ≡ t
@@ -78,55 +80,43 @@ span-is kind run =
     (λ n3. by-eq kind 4 (λ z. rw z alone)
     (λ n4. rw (ne-eqb kind 0 n0, ne-eqb kind 1 n1, ne-eqb kind 2 n2, ne-eqb kind 3 n3, ne-eqb kind 4 n4) summed)))))
 
--- the numbers 1 to 5
-by-five : (P : ℕ → Type 0) → P 1 → P 2 → P 3 → P 4 → P 5 → (n : ℕ) → 1 ≤ n → n ≤ 5 → P n
-by-five P a b c d e n l h =
-    by-eq n 1 (λ z. rw z a)
-    (λ n1. by-eq n 2 (λ z. rw z b)
-    (λ n2. by-eq n 3 (λ z. rw z c)
-    (λ n3. by-eq n 4 (λ z. rw z d)
-    (λ n4. let z : n ≡ 5 = omega arith in rw z e))))
-
 abbrev Lettered : ℕ → ℕ → Type 0
 Lettered m n = eqb n m ≡ eqb (letterOf (deviceIn m)) (letterOf (deviceIn n))
 
-lettered : (m : ℕ) → Lettered m 1 → Lettered m 2 → Lettered m 3 → Lettered m 4 → Lettered m 5 → (n : ℕ) → 1 ≤ n → n ≤ 5 → Lettered m n
-lettered m = by-five (Lettered m)
-
-letters : (m n : ℕ) → 1 ≤ m → m ≤ 5 → 1 ≤ n → n ≤ 5 → Lettered m n
+letters : (m n : ℕ) → 1 ≤ m → m ≤ 6 → 1 ≤ n → n ≤ 6 → Lettered m n
 unfolding deviceIn
 letters m n lm hm ln hn =
-    by-five (λ (k : ℕ). Lettered k n)
-    (lettered 1 refl refl refl refl refl n ln hn)
-    (lettered 2 refl refl refl refl refl n ln hn)
-    (lettered 3 refl refl refl refl refl n ln hn)
-    (lettered 4 refl refl refl refl refl n ln hn)
-    (lettered 5 refl refl refl refl refl n ln hn)
-    m lm hm
+    by-six (λ (k : ℕ). Lettered k n) m lm hm
+    (by-six (Lettered 1) n ln hn refl refl refl refl refl refl)
+    (by-six (Lettered 2) n ln hn refl refl refl refl refl refl)
+    (by-six (Lettered 3) n ln hn refl refl refl refl refl refl)
+    (by-six (Lettered 4) n ln hn refl refl refl refl refl refl)
+    (by-six (Lettered 5) n ln hn refl refl refl refl refl refl)
+    (by-six (Lettered 6) n ln hn refl refl refl refl refl refl)
 
 -- the block of a running request: where it stands, its device's number says its device
-opened-is : (kind device opened number aux1 : ℕ) → 1 ≤ device → device ≤ 5 → blockStands opened number aux1 ≡ true
+opened-is : (kind device opened number aux1 : ℕ) → 1 ≤ device → device ≤ 6 → blockStands opened number aux1 ≡ true
     → and (eqb opened device) (directionWhole kind aux1) ≡ openFor (kindIn kind) (deviceIn device) (blockOf opened number aux1 .state)
 unfolding blockStands blockOf
 opened-is kind device opened number aux1 l h e =
     by-eq opened 0
     (λ z. let n : opened ≡ device → ⊥ = λ y. omega arith in rw (ne-eqb opened device n, eq-eqb opened 0 z))
     (λ n.
-    let t : ltb opened 6 ≡ true = rw (ne-eqb opened 0 n) at e in
+    let t : ltb opened 7 ≡ true = rw (ne-eqb opened 0 n) at e in
     let low : 1 ≤ opened = omega arith in
-    let high : opened ≤ 5 = omega (arith, ltb-true opened 6 t) in
+    let high : opened ≤ 6 = omega (arith, ltb-true opened 7 t) in
     rw (ne-eqb opened 0 n) (ands.both (letters device opened l h low high) (directed-is kind aux1)))
 
 module _ (kind device : ℕ) (t : runStands kind device ≡ true) where
-  ranged : within 1 5 device ≡ true
+  ranged : within 1 6 device ≡ true
   unfolding runStands
-  ranged = and-right (ltb kind 6) (within 1 5 device) t
+  ranged = and-right (ltb kind 6) (within 1 6 device) t
 
   device-low : 1 ≤ device
-  device-low = leb-true 1 device (and-left (leb 1 device) (leb device 5) ranged)
+  device-low = leb-true 1 device (and-left (leb 1 device) (leb device 6) ranged)
 
-  device-high : device ≤ 5
-  device-high = leb-true device 5 (and-right (leb 1 device) (leb device 5) ranged)
+  device-high : device ≤ 6
+  device-high = leb-true device 6 (and-right (leb 1 device) (leb device 6) ranged)
 
 module _ (b : List ℕ) (e : tableStands (drop phaseLength b) ≡ true) where
   -- the bytes of a block, in the table and in the port
@@ -136,7 +126,7 @@ module _ (b : List ℕ) (e : tableStands (drop phaseLength b) ≡ true) where
   aux1-byte : (i : ℕ) → byteAt (drop phaseLength b) (blockLength * i + 2) ≡ byteAt b (phaseLength + blockLength * i + 2)
   aux1-byte i = getD-drop phaseLength b (blockLength * i + 2) 0 ∙ ap (byteAt b) (let z : phaseLength + (blockLength * i + 2) ≡ phaseLength + blockLength * i + 2 = omega arith in z)
 
-  open-there : (kind device i : ℕ) → 1 ≤ device → device ≤ 5 → i < 8 → openedWhole b kind device i ≡ openFor (kindIn kind) (deviceIn device) (blockAt (tableIn (drop phaseLength b)) i .state)
+  open-there : (kind device i : ℕ) → 1 ≤ device → device ≤ 6 → i < 8 → openedWhole b kind device i ≡ openFor (kindIn kind) (deviceIn device) (blockAt (tableIn (drop phaseLength b)) i .state)
   unfolding openedWhole
   open-there kind device i l h k =
       let t = drop phaseLength b in
@@ -148,7 +138,7 @@ module _ (b : List ℕ) (e : tableStands (drop phaseLength b) ≡ true) where
     abbrev fits : Bool
     fits = runFits (runIn b) (tableIn (drop phaseLength b)) (consoleWith mode)
 
-    runs-low : 1 ≤ byteAt b 2 → byteAt b 2 ≤ 5 → and (ltb (byteAt b 3) 8) (and (openedWhole b (byteAt b 1) (byteAt b 2) (byteAt b 3)) (and (modeWhole (byteAt b 2) mode) (spanWhole (byteAt b 1) (wordAt b 4) (wordAt b 6) (wordAt b 8)))) ≡ fits
+    runs-low : 1 ≤ byteAt b 2 → byteAt b 2 ≤ 6 → and (ltb (byteAt b 3) 8) (and (openedWhole b (byteAt b 1) (byteAt b 2) (byteAt b 3)) (and (modeWhole (byteAt b 2) mode) (spanWhole (byteAt b 1) (wordAt b 4) (wordAt b 6) (wordAt b 8)))) ≡ fits
     unfolding runFits
     runs-low l h =
         by-lt (byteAt b 3) 8
@@ -172,14 +162,15 @@ module _ (b : List ℕ) (e : tableStands (drop phaseLength b) ≡ true) where
         (λ n2. by-eq (byteAt b 0) 3 (λ z. rw (ne-eqb (byteAt b 0) 0 n0, ne-eqb (byteAt b 0) 1 n1, ne-eqb (byteAt b 0) 2 n2, eq-eqb (byteAt b 0) 3 z) (ands.reply rest (unused 0 0 (byteAt b 5) (byteAt b 6)) (replyFits (replyIn b))))
         (λ n3. rw (ne-eqb (byteAt b 0) 0 n0, ne-eqb (byteAt b 0) 1 n1, ne-eqb (byteAt b 0) 2 n2, ne-eqb (byteAt b 0) 3 n3)))))
 
-pub port-is : (b : List ℕ) (mode mark : ℕ) → portWhole b mode mark ≡ and (portStands b) (and (portFits (portIn b) (consoleWith mode)) (allMarked mark (portIn b .table .blocks)))
+pub port-is : (b : List ℕ) (mode mark at : ℕ) → portWhole b mode mark at ≡ and (portStands b) (and (portFits (portIn b) (consoleWith mode)) (and (allMarked mark (portIn b .table .blocks)) (allPlaced b at (portIn b .table .blocks))))
 unfolding portWhole portStands portFits portIn
-port-is b mode mark =
+port-is b mode mark at =
     let t = tableIn (drop phaseLength b) in
     let fits = phaseFits (phaseIn b) t (consoleWith mode) in
-    ap (λ (x : Bool). and x (phaseWhole b mode)) (table-is mark b)
-    ∙ ands.port (phaseStands b) (tableStands (drop phaseLength b)) (and (tableMade t) (allMarked mark (t .blocks))) fits (phaseWhole b mode) (λ e. phase-is b e mode)
-    ∙ ap (and (portStands b)) (ands.last-two (tableMade t) (allMarked mark (t .blocks)) fits)
+    let behind = and (allMarked mark (t .blocks)) (allPlaced b at (t .blocks)) in
+    ap (λ (x : Bool). and x (phaseWhole b mode)) (table-is mark b at)
+    ∙ ands.port (phaseStands b) (tableStands (drop phaseLength b)) (and (tableMade t) behind) fits (phaseWhole b mode) (λ e. phase-is b e mode)
+    ∙ ap (and (portStands b)) (ands.last-two (tableMade t) behind fits)
 
 -- of a console a port asks the mode alone
 phase-mode : (p : Phase) (t : Table) (c : Console) → phaseFits p t (consoleWith (c .mode)) ≡ phaseFits p t c

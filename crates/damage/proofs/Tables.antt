@@ -6,20 +6,34 @@ use mathlib.Core.List.{List}
 use Prim.Native.Nat.{ℕ, zero, suc, _+_, _*_, _%_, _≤_, _<_}
 use native.Mathlib.Nat.{add-zero, zero-add, add-assoc, div-one}
 use native.Mathlib.Omega.{arith}
-use borrow.Author.Tests.{eq-eqb, ne-eqb, le-ltb}
+use borrow.Author.Tests.{eq-eqb, ne-eqb, lt-ltb, le-ltb}
 use lib.Dec.{eqb, leb, ltb}
 use lib.ListN.{drop}
 use lib.Seq.{getD-drop}
 use Rattle.base.specs.Choice.{pick, and, or, within, bit}
-use Rattle.base.proofs.Choices.{and-left, and-right, by-eq}
-use Rattle.blocks.specs.Opening.{offersOf, forced}
-use Rattle.blocks.specs.Made.{splits, madeOpen, madeOf, allMade, tableMade}
+use Rattle.base.specs.Parts.{part}
+use Rattle.base.proofs.Choices.{and-left, and-right, by-eq, by-lt}
+use Rattle.blocks.specs.Opening.{highestOf, offersOf, forced}
+use Rattle.blocks.specs.Made.{splits, madeOpen, tableMade}
+use Rattle.disk.specs.Disk.{placeLength}
+use Rattle.devices.specs.Placed.{placedOn}
 use Rattle.layout.specs.Places.{phaseLength, blockLength}
 use Rattle.layout.specs.Layout.{byteAt, deviceIn, blockOf, blockIn, blocksIn, tableIn}
 use Rattle.layout.specs.Stands.{blockStands, blockStandsIn, blocksStand, tableStands, unused}
-use Rattle.damage.specs.Whole.{aux1Whole, markWhole, openWhole, blockWhole, twoWhole, allFrom, tableWhole}
+use Rattle.damage.specs.Whole.{aux1Whole, highestWhole, markWhole, openWhole, placeWhole, blockWhole, blockWholeIn, twoWhole, allFrom, tableWhole}
 use Rattle.damage.proofs.Ands.{both, and-true, and-assoc, zip}
-use Rattle.damage.proofs.Marks.{markedOn, allMarked, goodOf, allGood, good-is}
+use Rattle.damage.proofs.Marks.{markedOn, allMarked}
+use Rattle.damage.proofs.Placed.{allPlaced, goodOf, allGood, good-is}
+
+-- the numbers 1 to 6
+pub by-six : (P : ℕ → Type 0) (n : ℕ) → 1 ≤ n → n ≤ 6 → P 1 → P 2 → P 3 → P 4 → P 5 → P 6 → P n
+by-six P n l h a b c d e f =
+    by-eq n 1 (λ z. rw z a)
+    (λ n1. by-eq n 2 (λ z. rw z b)
+    (λ n2. by-eq n 3 (λ z. rw z c)
+    (λ n3. by-eq n 4 (λ z. rw z d)
+    (λ n4. by-eq n 5 (λ z. rw z e)
+    (λ n5. let z : n ≡ 6 = omega arith in rw z f)))))
 
 -- E's R needs bit 0
 forces : (r f : Bool) → pick r f true ≡ and (or (not r) f) true
@@ -36,68 +50,105 @@ offered-is device aux1 =
     (λ n1. by-eq device 2 (λ z. rw z)
     (λ n2. by-eq device 3 (λ z. rw z (sym (and-true (not (bit 8 aux1)))))
     (λ n3. by-eq device 4 (λ z. rw z (sym (and-true (not (bit 4 aux1)))))
-    (λ n4. rw (ne-eqb device 1 n1, ne-eqb device 2 n2, ne-eqb device 3 n3, ne-eqb device 4 n4) (sym (and-true (not (and (bit 4 aux1) (bit 8 aux1)))))))))
+    (λ n4. by-eq device 5 (λ z. rw z (sym (and-true (not (and (bit 4 aux1) (bit 8 aux1))))))
+    (λ n5. rw (ne-eqb device 1 n1, ne-eqb device 2 n2, ne-eqb device 3 n3, ne-eqb device 4 n4, ne-eqb device 5 n5) (sym (and-true (not (bit 8 aux1)))))))))
 
--- C's numbers are 5 and above, as far as a number stands for a device
-mark-is : (mark device aux1 : ℕ) → (device ≡ 0 → ⊥) → markWhole mark device aux1 ≡ markedOn mark (deviceIn device) aux1
-unfolding markWhole deviceIn
-mark-is mark device aux1 n0 =
-    by-eq device 1 (λ z. rw z)
-    (λ n1. by-eq device 2 (λ z. rw z)
-    (λ n2. by-eq device 3 (λ z. rw z)
-    (λ n3. by-eq device 4 (λ z. rw z)
-    (λ n4. let l : 5 ≤ device = omega arith in rw (le-ltb device 5 l, ne-eqb device 1 n1, ne-eqb device 2 n2, ne-eqb device 3 n3, ne-eqb device 4 n4)))))
+module _ (device : ℕ) (n0 : device ≡ 0 → ⊥) (h : device < 7) where
+  -- the numbers 1 to 6 stand for the devices
+  by-device : (P : ℕ → Type 0) → P 1 → P 2 → P 3 → P 4 → P 5 → P 6 → P device
+  by-device P = by-six P device (omega arith) (omega arith)
 
-open-is : (mark device number aux1 : ℕ) → (device ≡ 0 → ⊥) → openWhole mark device number aux1 ≡ and (ltb device 6) (and (madeOpen (deviceIn device) number aux1) (markedOn mark (deviceIn device) aux1))
-unfolding openWhole madeOpen
-open-is mark device number aux1 n =
-    ap (and (ltb device 6))
-    (sym (and-assoc (leb 1 number) (leb number 8) (and (aux1Whole device aux1) (markWhole mark device aux1)))
-    ∙ ap (and (within 1 8 number)) (both (offered-is device aux1) (mark-is mark device aux1 n))
-    ∙ sym (and-assoc (within 1 8 number) (and (offersOf (deviceIn device) aux1) (not (splits (deviceIn device) aux1))) (markedOn mark (deviceIn device) aux1)))
+  highest-is : highestWhole device ≡ highestOf (deviceIn device)
+  unfolding highestWhole deviceIn
+  highest-is = by-device (λ (n : ℕ). highestWhole n ≡ highestOf (deviceIn n)) refl refl refl refl refl refl
 
-pub block-is : (mark device number aux1 : ℕ) → blockWhole mark device number aux1 ≡ and (blockStands device number aux1) (goodOf mark (blockOf device number aux1))
+  mark-is : (mark aux1 : ℕ) → markWhole mark device aux1 ≡ markedOn mark (deviceIn device) aux1
+  unfolding markWhole deviceIn
+  mark-is mark aux1 = by-device (λ (n : ℕ). markWhole mark n aux1 ≡ markedOn mark (deviceIn n) aux1) refl refl refl refl refl refl
+
+  place-is : (number aux1 : ℕ) (place : List ℕ) → placeWhole device number aux1 place ≡ placedOn (deviceIn device) number aux1 place
+  unfolding placeWhole deviceIn
+  place-is number aux1 place = by-device (λ (n : ℕ). placeWhole n number aux1 place ≡ placedOn (deviceIn n) number aux1 place) refl refl refl refl refl refl
+
+  -- its number and its AUX1, then its mark and its place
+  known-is : (mark number aux1 : ℕ) (place : List ℕ)
+      → and (and (leb 1 number) (and (leb number (highestWhole device)) (and (aux1Whole device aux1) (markWhole mark device aux1)))) (placeWhole device number aux1 place)
+      ≡ and (madeOpen (deviceIn device) number aux1) (and (markedOn mark (deviceIn device) aux1) (placedOn (deviceIn device) number aux1 place))
+  unfolding madeOpen
+  known-is mark number aux1 place =
+      let d = deviceIn device in
+      let ranged = within 1 (highestOf d) number in
+      let made = and (offersOf d aux1) (not (splits d aux1)) in
+      let marked = markedOn mark d aux1 in
+      both
+      (ap (λ (k : ℕ). and (leb 1 number) (and (leb number k) (and (aux1Whole device aux1) (markWhole mark device aux1)))) highest-is
+      ∙ sym (and-assoc (leb 1 number) (leb number (highestOf d)) (and (aux1Whole device aux1) (markWhole mark device aux1)))
+      ∙ ap (and ranged) (both (offered-is device aux1) (mark-is mark aux1))
+      ∙ sym (and-assoc ranged made marked))
+      (place-is number aux1 place)
+      ∙ and-assoc (and ranged made) marked (placedOn d number aux1 place)
+
+open-is : (mark device number aux1 : ℕ) (place : List ℕ) → (device ≡ 0 → ⊥)
+    → and (openWhole mark device number aux1) (placeWhole device number aux1 place)
+    ≡ and (ltb device 7) (and (madeOpen (deviceIn device) number aux1) (and (markedOn mark (deviceIn device) aux1) (placedOn (deviceIn device) number aux1 place)))
+unfolding openWhole
+open-is mark device number aux1 place n =
+    by-lt device 7
+    (λ h. rw (lt-ltb device 7 h) (known-is device n h mark number aux1 place))
+    (λ h. rw (le-ltb device 7 h))
+
+pub block-is : (mark device number aux1 : ℕ) (place : List ℕ) → blockWhole mark device number aux1 place ≡ and (blockStands device number aux1) (goodOf mark place (blockOf device number aux1))
 unfolding blockWhole blockStands blockOf unused
-block-is mark device number aux1 =
+block-is mark device number aux1 place =
     by-eq device 0 (λ z. rw (eq-eqb device 0 z) (sym (and-true (and (eqb number 0) (eqb aux1 0)))))
-    (λ z. rw (ne-eqb device 0 z) (open-is mark device number aux1 z))
+    (λ z. rw (ne-eqb device 0 z) (open-is mark device number aux1 place z))
 
 -- twice as many
 double : ℕ → ℕ
 double zero = zero
 double (suc n) = suc (suc (double n))
 
-module _ (mark : ℕ) (b : List ℕ) where
-  two-is : (place : ℕ) → twoWhole mark b place ≡ and (and (blockStandsIn b place) (blockStandsIn b (place + blockLength))) (and (goodOf mark (blockIn b place)) (goodOf mark (blockIn b (place + blockLength))))
+-- of a list of bytes the blocks from a place on, each with its place in the whole list
+module _ (mark : ℕ) (b : List ℕ) (from : ℕ) where
+  abbrev t : List ℕ
+  t = drop from b
+
+  there : (place at : ℕ) → blockWholeIn mark b (from + place) at ≡ blockWhole mark (byteAt t place) (byteAt t (place + 1)) (byteAt t (place + 2)) (part at placeLength b)
+  there place at = simp (getD-drop, add-assoc)
+
+  one-is : (place at : ℕ) → blockWholeIn mark b (from + place) at ≡ and (blockStandsIn t place) (goodOf mark (part at placeLength b) (blockIn t place))
+  one-is place at = there place at ∙ block-is mark (byteAt t place) (byteAt t (place + 1)) (byteAt t (place + 2)) (part at placeLength b)
+
+  two-is : (place at : ℕ) → twoWhole mark b (from + place) at
+      ≡ and (and (blockStandsIn t place) (blockStandsIn t (place + blockLength)))
+      (and (goodOf mark (part at placeLength b) (blockIn t place)) (goodOf mark (part (at + placeLength) placeLength b) (blockIn t (place + blockLength))))
   unfolding twoWhole
-  two-is place =
-      both (block-is mark (byteAt b place) (byteAt b (place + 1)) (byteAt b (place + 2))) (block-is mark (byteAt b (place + blockLength)) (byteAt b (place + blockLength + 1)) (byteAt b (place + blockLength + 2)))
-      ∙ zip (blockStandsIn b place) (goodOf mark (blockIn b place)) (blockStandsIn b (place + blockLength)) (goodOf mark (blockIn b (place + blockLength)))
+  two-is place at =
+      let next = place + blockLength in
+      let beyond = at + placeLength in
+      both (one-is place at) (ap (λ (k : ℕ). blockWholeIn mark b k beyond) (add-assoc from place blockLength) ∙ one-is next beyond)
+      ∙ zip (blockStandsIn t place) (goodOf mark (part at placeLength b) (blockIn t place)) (blockStandsIn t next) (goodOf mark (part beyond placeLength b) (blockIn t next))
 
   -- pairs of blocks, one after the other, are twice as many blocks
-  pairs-are : (place n : ℕ) → allFrom (twoWhole mark b) (2 * blockLength) place n ≡ and (blocksStand b place (double n)) (allGood mark (blocksIn b place (double n)))
+  pairs-are : (place at n : ℕ) → allFrom (twoWhole mark b) (2 * blockLength) (2 * placeLength) (from + place) at n ≡ and (blocksStand t place (double n)) (allGood mark b at (blocksIn t place (double n)))
   unfolding allFrom blocksStand blocksIn double
-  pairs-are place zero = refl
-  pairs-are place (suc n) =
+  pairs-are place at zero = refl
+  pairs-are place at (suc n) =
       let next = place + blockLength in
-      let stand = blocksStand b (next + blockLength) (double n) in
-      let made = allGood mark (blocksIn b (next + blockLength) (double n)) in
+      let beyond = at + placeLength in
+      let one = goodOf mark (part at placeLength b) (blockIn t place) in
+      let other = goodOf mark (part beyond placeLength b) (blockIn t next) in
+      let stand = blocksStand t (next + blockLength) (double n) in
+      let made = allGood mark b (beyond + placeLength) (blocksIn t (next + blockLength) (double n)) in
       let same : place + 2 * blockLength ≡ next + blockLength = omega arith in
-      let behind = pairs-are (place + 2 * blockLength) n ∙ ap (λ (k : ℕ). and (blocksStand b k (double n)) (allGood mark (blocksIn b k (double n)))) same in
-      both (two-is place) behind
-      ∙ zip (and (blockStandsIn b place) (blockStandsIn b next)) (and (goodOf mark (blockIn b place)) (goodOf mark (blockIn b next))) stand made
-      ∙ both (and-assoc (blockStandsIn b place) (blockStandsIn b next) stand) (and-assoc (goodOf mark (blockIn b place)) (goodOf mark (blockIn b next)) made)
-
-  -- the same of a list that begins elsewhere
-  two-there : (from place : ℕ) → twoWhole mark b (from + place) ≡ twoWhole mark (drop from b) place
-  unfolding twoWhole
-  two-there from place = simp (getD-drop, add-assoc)
-
-  pairs-there : (from place n : ℕ) → allFrom (twoWhole mark b) (2 * blockLength) (from + place) n ≡ allFrom (twoWhole mark (drop from b)) (2 * blockLength) place n
-  unfolding allFrom
-  pairs-there from place zero = refl
-  pairs-there from place (suc n) =
-      both (two-there from place) (rw (add-assoc from place (2 * blockLength)) (pairs-there from (place + 2 * blockLength) n))
+      let same-at : at + 2 * placeLength ≡ beyond + placeLength = omega arith in
+      both (two-is place at)
+      (ap (λ (k : ℕ). allFrom (twoWhole mark b) (2 * blockLength) (2 * placeLength) k (at + 2 * placeLength) n) (add-assoc from place (2 * blockLength))
+      ∙ pairs-are (place + 2 * blockLength) (at + 2 * placeLength) n
+      ∙ ap (λ (k : ℕ). and (blocksStand t k (double n)) (allGood mark b (at + 2 * placeLength) (blocksIn t k (double n)))) same
+      ∙ ap (λ (k : ℕ). and stand (allGood mark b k (blocksIn t (next + blockLength) (double n)))) same-at)
+      ∙ zip (and (blockStandsIn t place) (blockStandsIn t next)) (and one other) stand made
+      ∙ both (and-assoc (blockStandsIn t place) (blockStandsIn t next) stand) (and-assoc one other made)
 
 module _ (b : List ℕ) where
   -- each block of a table that stands
@@ -113,9 +164,7 @@ module _ (b : List ℕ) where
   stands-each i e h = rw (zero-add (blockLength * i)) at (each 0 8 i e h)
 
 -- the table of a port's bytes
-pub table-is : (mark : ℕ) (b : List ℕ)
-    → tableWhole mark b ≡ and (tableStands (drop phaseLength b)) (and (tableMade (tableIn (drop phaseLength b))) (allMarked mark (tableIn (drop phaseLength b) .blocks)))
+pub table-is : (mark : ℕ) (b : List ℕ) (at : ℕ)
+    → tableWhole mark b at ≡ and (tableStands (drop phaseLength b)) (and (tableMade (tableIn (drop phaseLength b))) (and (allMarked mark (tableIn (drop phaseLength b) .blocks)) (allPlaced b at (tableIn (drop phaseLength b) .blocks))))
 unfolding tableWhole double
-table-is mark b =
-    let bs = tableIn (drop phaseLength b) .blocks in
-    pairs-there mark b phaseLength 0 4 ∙ pairs-are mark (drop phaseLength b) 0 4 ∙ ap (and (tableStands (drop phaseLength b))) (good-is mark bs)
+table-is mark b at = pairs-are mark b phaseLength 0 at 4 ∙ ap (and (tableStands (drop phaseLength b))) (good-is mark b at (tableIn (drop phaseLength b) .blocks))

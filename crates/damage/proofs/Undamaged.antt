@@ -57,6 +57,7 @@ module _ (s : Stick) (l : Lent) (w : Typed s) (e : stickFits s l ≡ true) where
     table0 = w .table0;
     table1 = w .table1;
     pending = w .pending;
+    places = w .places;
   }
 
   pub undamaged-read : (r : List ℕ) → stickIn (headOf s ++ r) ≡ s

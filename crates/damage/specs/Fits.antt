@@ -2,7 +2,9 @@
 -- group held by a port that runs no request needing it, a mode 0 cursor off rows 0 to 23 or columns 2 to 39, or a running request
 -- whose block, group, mode or buffer does not fit it." A port holds the group of the device that its running request is on, and
 -- no other, so that a group held without need has no state. How wide a number is, and that a table has eight blocks, the types
--- say. Of the tape (document 02, Ask 1): its numbers out of their ranges, two open C blocks, or blocks at odds with its mark.
+-- say. Of the tape (document 02, Ask 1): its numbers out of their ranges, two open C blocks, or blocks at odds with its mark. Of the
+-- diskettes (Ask 12): "Damaged: a D block with number above 4 or W; file number above 63, place above 125, ..": of a block that has D
+-- open its place does not fit it.
 -- Assumes nothing.
 use mathlib.Core.Bool.{Bool, true, false, not}
 use Prim.Native.Nat.{ℕ}
@@ -10,7 +12,7 @@ use lib.Dec.{eqb, leb, ltb}
 use Rattle.base.specs.Choice.{and}
 use Rattle.printer.specs.Printer.{paperLength}
 use Rattle.blocks.specs.declared.Device.{Device}
-use Rattle.blocks.specs.declared.Device.the-variants.{E, S, K, P, C}
+use Rattle.blocks.specs.declared.Device.the-variants.{E, S, K, P, C, D}
 use Rattle.blocks.specs.declared.BlockState.{BlockState}
 use Rattle.blocks.specs.declared.BlockState.the-variants as block
 use Rattle.blocks.specs.declared.Kind.{Kind}
@@ -31,6 +33,7 @@ use Rattle.transfer.specs.Spans.{wayIn, spanFits}
 use Rattle.layout.specs.Stick.{Stick, Lent}
 use Rattle.devices.specs.Groups.{heldOf, clash}
 use Rattle.devices.specs.Marks.{marksFit}
+use Rattle.devices.specs.Placed.{placesFit}
 
 -- reading needs R, writing W
 abbrev pub allows : Kind → (aux1 : ℕ) → Bool
@@ -49,6 +52,7 @@ inUse S mode = ltb 0 mode
 inUse K mode = true
 inUse P mode = true
 inUse C mode = true
+inUse D mode = true
 
 -- what is left and what is counted lie in the area
 abbrev pub spans : Kind → Run → Bool
@@ -83,4 +87,5 @@ stickFits s l =
     (and (fitOf (s .devices .console))
     (and (leb (s .devices .printer .used) paperLength)
     (and (fitsCassette (s .devices .cassette))
-    (and (marksFit (s .devices .cassette .mark) (s .port0 .table) (s .port1 .table)) (portsApart s))))))
+    (and (marksFit (s .devices .cassette .mark) (s .port0 .table) (s .port1 .table))
+    (and (placesFit (s .devices .places) (s .port0 .table) (s .port1 .table)) (portsApart s)))))))

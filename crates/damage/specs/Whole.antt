@@ -3,20 +3,23 @@
 -- Assumes nothing.
 use mathlib.Core.Bool.{Bool, true, false, not}
 use mathlib.Core.List.{List}
-use Prim.Native.Nat.{ℕ, zero, suc, _+_, _*_, _%_}
+use Prim.Native.Nat.{ℕ, zero, suc, _+_, _*_, _-_, _%_}
 use lib.Dec.{eqb, leb, ltb}
 use lib.ListN.{drop}
 use Rattle.base.specs.Choice.{pick, and, within, bit}
+use Rattle.base.specs.Parts.{part}
 use Rattle.blocks.specs.Opening.{areaLength, reads, writes}
 use Rattle.cells.specs.Modes.{shapeOf}
 use Rattle.printer.specs.Printer.{paperLength}
 use Rattle.cassette.specs.Cassette.{markOf}
 use Rattle.cassette.specs.Fit.{fitsCassette}
+use Rattle.disk.specs.Disk.{placeLength}
+use Rattle.disk.specs.Fit.{placeFits}
 use Rattle.console.specs.declared.state.Console.{Console}
 use Rattle.console.specs.Group.{freshConsole, withMode}
 use Rattle.wire.specs.Messages.{wordAt}
 use Rattle.wire.specs.Fits.{gatherFits, replyFits}
-use Rattle.layout.specs.Places.{phaseLength, blockLength, portLength, devicesPlace, consolePlace, printerPlace, cassettePlace, portPlace}
+use Rattle.layout.specs.Places.{phaseLength, blockLength, portLength, devicesPlace, consolePlace, printerPlace, cassettePlace, diskPlace, portPlace}
 use Rattle.layout.specs.Layout.{byteAt, gatherIn, replyIn, cassetteIn}
 use Rattle.layout.specs.Stands.{unused, restUnused, runStands}
 
@@ -33,33 +36,47 @@ aux1Whole device aux1 =
     pick (eqb device 1) (pick (bit 4 aux1) (eqb (aux1 % 2) 1) true)
     (pick (eqb device 2) (not (bit 16 aux1))
     (pick (eqb device 3) (not (bit 8 aux1))
-    (pick (eqb device 4) (not (bit 4 aux1)) (not (and (bit 4 aux1) (bit 8 aux1))))))
+    (pick (eqb device 4) (not (bit 4 aux1))
+    (pick (eqb device 5) (not (and (bit 4 aux1) (bit 8 aux1))) (not (bit 8 aux1))))))
+
+-- "Add D1 to D4": the highest number of a device
+unfoldable pub highestWhole : (device : ℕ) → ℕ
+highestWhole device = pick (eqb device 6) 4 8
 
 -- a block that has C open has it open as the cassette's mark says
 unfoldable pub markWhole : (mark device aux1 : ℕ) → Bool
-markWhole mark device aux1 = pick (ltb device 5) true (eqb (markOf aux1) mark)
+markWhole mark device aux1 = pick (eqb device 5) (eqb (markOf aux1) mark) true
 
 unfoldable pub openWhole : (mark device number aux1 : ℕ) → Bool
 openWhole mark device number aux1 =
-    and (ltb device 6) (and (leb 1 number) (and (leb number 8) (and (aux1Whole device aux1) (markWhole mark device aux1))))
+    and (ltb device 7)
+    (and (leb 1 number)
+    (and (leb number (highestWhole device)) (and (aux1Whole device aux1) (markWhole mark device aux1))))
 
-unfoldable pub blockWhole : (mark device number aux1 : ℕ) → Bool
-blockWhole mark device number aux1 = pick (eqb device 0) (unused 0 0 number aux1) (openWhole mark device number aux1)
+-- "Each block has its own place.": that of a block that has D open fits it
+unfoldable pub placeWhole : (device number aux1 : ℕ) → List ℕ → Bool
+placeWhole device number aux1 place = pick (eqb device 6) (placeFits number aux1 place) true
 
-abbrev pub blockWholeIn : (mark : ℕ) → List ℕ → ℕ → Bool
-blockWholeIn mark b place = blockWhole mark (byteAt b place) (byteAt b (place + 1)) (byteAt b (place + 2))
+unfoldable pub blockWhole : (mark device number aux1 : ℕ) → List ℕ → Bool
+blockWhole mark device number aux1 place =
+    pick (eqb device 0) (unused 0 0 number aux1) (and (openWhole mark device number aux1) (placeWhole device number aux1 place))
 
-unfoldable pub twoWhole : (mark : ℕ) → List ℕ → ℕ → Bool
-twoWhole mark b place = and (blockWholeIn mark b place) (blockWholeIn mark b (place + blockLength))
+-- the block whose bytes begin at one number, its place at another
+abbrev pub blockWholeIn : (mark : ℕ) → List ℕ → (place at : ℕ) → Bool
+blockWholeIn mark b place at =
+    blockWhole mark (byteAt b place) (byteAt b (place + 1)) (byteAt b (place + 2)) (part at placeLength b)
 
--- a test of `count` places, from one on, each `step` behind the one before
-unfoldable pub allFrom : (test : ℕ → Bool) (step place count : ℕ) → Bool
-allFrom test step place zero = true
-allFrom test step place (suc count) = and (test place) (allFrom test step (place + step) count)
+unfoldable pub twoWhole : (mark : ℕ) → List ℕ → (place at : ℕ) → Bool
+twoWhole mark b place at = and (blockWholeIn mark b place at) (blockWholeIn mark b (place + blockLength) (at + placeLength))
+
+-- a test of `count` places, from one on, each `step` behind the one before, with a second number that goes on by `stride`
+unfoldable pub allFrom : (test : ℕ → ℕ → Bool) (step stride place at count : ℕ) → Bool
+allFrom test step stride place at zero = true
+allFrom test step stride place at (suc count) = and (test place at) (allFrom test step stride (place + step) (at + stride) count)
 
 -- a port's parts, of a list that begins with its bytes
-unfoldable pub tableWhole : (mark : ℕ) → List ℕ → Bool
-tableWhole mark b = allFrom (twoWhole mark b) (2 * blockLength) phaseLength 4
+unfoldable pub tableWhole : (mark : ℕ) → List ℕ → (at : ℕ) → Bool
+tableWhole mark b at = allFrom (twoWhole mark b) (2 * blockLength) (2 * placeLength) phaseLength at 4
 
 unfoldable pub gatherWhole : List ℕ → Bool
 gatherWhole b = and (restUnused b) (gatherFits (gatherIn b))
@@ -110,8 +127,8 @@ phaseWhole b mode =
     (pick (eqb (byteAt b 0) 2) (runWhole b mode)
     (pick (eqb (byteAt b 0) 3) (replyWhole b) false)))
 
-unfoldable pub portWhole : List ℕ → (mode mark : ℕ) → Bool
-portWhole b mode mark = and (tableWhole mark b) (phaseWhole b mode)
+unfoldable pub portWhole : List ℕ → (mode mark at : ℕ) → Bool
+portWhole b mode mark at = and (tableWhole mark b at) (phaseWhole b mode)
 
 -- the cursor: in mode 0, and in the modes of S
 unfoldable pub textWhole : (row column : ℕ) → Bool
@@ -144,7 +161,7 @@ devicesWhole b =
 -- of a port's bytes, how many of the next `count` blocks have C open
 unfoldable pub tapesFrom : List ℕ → (place count : ℕ) → ℕ
 tapesFrom b place zero = 0
-tapesFrom b place (suc count) = pick (ltb (byteAt b place) 5) 0 1 + tapesFrom b (place + blockLength) count
+tapesFrom b place (suc count) = pick (eqb (byteAt b place) 5) 1 0 + tapesFrom b (place + blockLength) count
 
 unfoldable pub tapesWhole : List ℕ → Bool
 tapesWhole b =
@@ -153,7 +170,7 @@ tapesWhole b =
 
 -- the two ports hold no group both: the number of a device's group
 unfoldable pub groupWhole : ℕ → ℕ
-groupWhole device = pick (eqb device 4) 2 (pick (within 1 3 device) 1 3)
+groupWhole device = pick (eqb device 4) 2 (pick (eqb device 5) 3 (pick (within 1 3 device) 1 4))
 
 unfoldable pub apartGroups : (one other : ℕ) → Bool
 apartGroups one other = not (eqb (groupWhole one) (groupWhole other))
@@ -164,13 +181,20 @@ apartWhole b =
     (pick (eqb (byteAt b (portPlace 1)) 2) (apartGroups (byteAt b (portPlace 0 + 2)) (byteAt b (portPlace 1 + 2))) true)
     true
 
+-- where the places of a port's eight blocks begin, counted from the port's first byte; and how much further those of the other port
+abbrev pub ownPlaces : ℕ
+ownPlaces = devicesPlace + diskPlace
+
+abbrev pub nextPlaces : ℕ
+nextPlaces = 8 * placeLength - portLength
+
 -- the head
-abbrev pub portAtWhole : List ℕ → (place : ℕ) → Bool
-portAtWhole b place = portWhole (drop place b) (modeIn b) (markIn b)
+abbrev pub portAtWhole : List ℕ → (place at : ℕ) → Bool
+portAtWhole b place at = portWhole (drop place b) (modeIn b) (markIn b) at
 
 unfoldable pub headWhole : List ℕ → Bool
 headWhole b =
-    and (allFrom (portAtWhole b) portLength (portPlace 0) 2)
+    and (allFrom (portAtWhole b) portLength nextPlaces (portPlace 0) ownPlaces 2)
     (and (devicesWhole (drop devicesPlace b)) (and (tapesWhole b) (apartWhole b)))
 
 -- a console in this mode: of a console the ports' tests ask its mode alone

@@ -8,6 +8,7 @@ use Prim.Native.Nat.{ℕ, _*_}
 use native.Mathlib.Omega.{arith}
 use lib.ListN.{replicate, length-replicate}
 use Rattle.printer.specs.Printer.{paperLength}
+use Rattle.image.specs.Image.{imagesLength}
 use Rattle.records.specs.Records.{tapeLength}
 use Rattle.blocks.specs.Opening.{areaLength}
 use Rattle.layout.specs.Places.{stateLength}
@@ -39,7 +40,7 @@ use Rattle.demands.proofs.Run.{after-fresh, run-begins, two-same, aside
 use Rattle.demands.proofs.Demands.{demands}
 
 abbrev pub zeroBytes : Buffers
-zeroBytes = buffers (replicate stateLength 0) (zeros .area) (zeros .screen) (zeros .paper) (zeros .tape)
+zeroBytes = buffers (replicate stateLength 0) (zeros .area) (zeros .screen) (zeros .paper) (zeros .tape) (zeros .images)
 
 zeros-fitting : Lengths zeroBytes
 zeros-fitting = record {
@@ -48,6 +49,7 @@ zeros-fitting = record {
   whole = record { all = length-replicate {A = ℕ} screenLength 0 };
   sheet = length-replicate {A = ℕ} paperLength 0;
   reel = length-replicate {A = ℕ} tapeLength 0;
+  four = length-replicate {A = ℕ} imagesLength 0;
 }
 
 busy-ok : OkCalls real busyCalls
@@ -64,16 +66,16 @@ above-one b g =
 
 -- a call that is lent no paper, and what is there after it: the other buffers as it left them, and the paper that was not lent
 abbrev torn : Buffers → Buffers
-torn b = buffers (b .state) (b .area) (b .screen) [] (b .tape)
+torn b = buffers (b .state) (b .area) (b .screen) [] (b .tape) (b .images)
 
 abbrev mended : Buffers → Buffers
-mended b = let e = leaves (tick-call (torn b) 0) .buffers in buffers (e .state) (e .area) (e .screen) (b .paper) (e .tape)
+mended b = let e = leaves (tick-call (torn b) 0) .buffers in buffers (e .state) (e .area) (e .screen) (b .paper) (e .tape) (e .images)
 
 torn-two : (b : Buffers) → leaves (tick-call (torn b) 0) .number ≡ 2
 torn-two b = exact (any-tick (tick-call (torn b) 0)) .lengths .1 (λ f. let e : 0 ≡ paperLength = f .sheet in omega arith)
 
 torn-aside : (b : Buffers) → Aside b (torn b) (leaves (tick-call (torn b) 0) .buffers) (mended b)
-torn-aside b = record { state = lent-on refl; area = lent-on refl; screen = lent-on refl; paper = not-lent; tape = lent-on refl }
+torn-aside b = record { state = lent-on refl; area = lent-on refl; screen = lent-on refl; paper = not-lent; tape = lent-on refl; images = lent-on refl }
 
 mended-same : (b : Buffers) → mended b ≡ b
 mended-same b = aside-same (two-same (any-tick (tick-call (torn b) 0)) (torn-two b)) (torn-aside b)

@@ -13,8 +13,9 @@ use Rattle.base.proofs.Choices.{by-test}
 use Rattle.blocks.specs.declared.Gather as blocks
 use Rattle.blocks.specs.declared.Phase.{Phase}
 use Rattle.blocks.specs.declared.Phase.the-variants as phase
-use Rattle.records.specs.Records.{tapeLength}
+use Rattle.image.specs.Image.{imagesLength}
 use Rattle.wire.specs.Messages.{roomLength}
+use Rattle.disk.specs.Disk.{placesLength}
 use Rattle.layout.specs.Places.{roomsPlace, stateLength, pendingLength}
 use Rattle.layout.specs.Stick.{Stick, freshStick, Lent, lent}
 use Rattle.layout.specs.Layout.{headOf, stickIn}
@@ -28,7 +29,7 @@ use Rattle.calls.specs.Stick.{Outcome, outcome, LengthsFit}
 use Rattle.calls.specs.Calls.{freshLent, freshCall, takeCall, tickCall, giveCall, pressCall}
 use Rattle.calls.specs.Bytes.{Buffers, buffers, Left, leftAlone, buffersFit, stickBy, lentBy, leftOf, overBytes, freshBytes, takeBytes, tickBytes, giveBytes, pressBytes}
 use Rattle.calls.specs.Parts.{Lengths}
-use Rattle.calls.proofs.Passing.{lengths-of, lengths-tape}
+use Rattle.calls.proofs.Passing.{lengths-of, lengths-images}
 use Rattle.rules.proofs.FreshStart.{fresh-undamaged, fresh-lengths, fresh-done}
 use Rattle.serial.specs.Machine.{port-0, port-1}
 use Rattle.serial.specs.Core.{CoreCall, take, tick, give, press, number}
@@ -50,8 +51,8 @@ use Rattle.demands.specs.Bytes.{standsFor, leftBy, doneWith, callBytes, 
 module _ (b : Buffers) where
   pub lengths-true : Lengths b → buffersFit b ≡ true
   lengths-true f =
-      sym (lengths-tape (length (b .state)) (length (b .area)) (length (b .screen)) (length (b .paper)) (length (b .tape)) (f .long) (f .halves) (f .whole .all) (f .sheet))
-      ∙ eq-eqb (length (b .tape)) tapeLength (f .reel)
+      sym (lengths-images (length (b .state)) (length (b .area)) (length (b .screen)) (length (b .paper)) (length (b .tape)) (length (b .images)) (f .long) (f .halves) (f .whole .all) (f .sheet) (f .reel))
+      ∙ eq-eqb (length (b .images)) imagesLength (f .four)
 
   pub lengths-false : (Lengths b → ⊥) → buffersFit b ≡ false
   lengths-false n = by-test (buffersFit b) (λ t. absurd (n (lengths-of b t))) (λ t. t)
@@ -79,7 +80,7 @@ module _ (b : Buffers) where
 
   -- the rooms are what is behind the head
   pub lent-lengths : Lengths b → LengthsFit (lentBy b)
-  lent-lengths f = record { rooms = long (b .state) (f .long); area = f .halves; whole = f .whole; paper = f .sheet; tape = f .reel }
+  lent-lengths f = record { rooms = long (b .state) (f .long); area = f .halves; whole = f .whole; paper = f .sheet; tape = f .reel; images = f .four }
     where
       long : (xs : List ℕ) → length xs ≡ stateLength → length (drop roomsPlace xs) ≡ 2 * roomLength
       long xs e = let d = length-drop roomsPlace xs in omega (arith, d, e)
@@ -115,11 +116,12 @@ always-typed w r =
       table0 = e .0;
       table1 = e .1;
       pending = linked.always-shaped w r .pending;
+      places = linked.always-shaped w r .places;
     }
 
 -- what a call leaves, written and read again
 abbrev writtenOf : World → Buffers
-writtenOf w = buffers (headOf (w .stick) ++ w .buffers .rooms) (w .buffers .area) (w .buffers .screen) (w .buffers .paper) (w .buffers .tape)
+writtenOf w = buffers (headOf (w .stick) ++ w .buffers .rooms) (w .buffers .area) (w .buffers .screen) (w .buffers .paper) (w .buffers .tape) (w .buffers .images)
 
 module _ (w : World) (t : Typed (w .stick)) (g : Sound w) where
   rooms-back : drop roomsPlace (headOf (w .stick) ++ w .buffers .rooms) ≡ w .buffers .rooms
@@ -130,7 +132,7 @@ module _ (w : World) (t : Typed (w .stick)) (g : Sound w) where
 
   pub read-back : standsFor (writtenOf w) ≡ w
   read-back =
-      let l = w .buffers in λ i. record { stick = stick-back i; buffers = lent (rooms-back i) (l .area) (l .screen) (l .paper) (l .tape) }
+      let l = w .buffers in λ i. record { stick = stick-back i; buffers = lent (rooms-back i) (l .area) (l .screen) (l .paper) (l .tape) (l .images) }
 
   pub written : HeadAndRooms (writtenOf w)
   written = record {
@@ -150,10 +152,10 @@ module _ (b : Buffers) (g : HeadAndRooms b) where
 
   pub written-lengths : Sound (standsFor b) → Lengths b
   written-lengths h =
-      record { long = g .long; halves = h .lengths .area; whole = h .lengths .whole; sheet = h .lengths .paper; reel = h .lengths .tape }
+      record { long = g .long; halves = h .lengths .area; whole = h .lengths .whole; sheet = h .lengths .paper; reel = h .lengths .tape; four = h .lengths .images }
 
   pub back-written : writtenOf (standsFor b) ≡ b
-  back-written = ap (λ (xs : List ℕ). buffers xs (b .area) (b .screen) (b .paper) (b .tape)) (g .whole)
+  back-written = ap (λ (xs : List ℕ). buffers xs (b .area) (b .screen) (b .paper) (b .tape) (b .images)) (g .whole)
 
   module _ (h : Sound (standsFor b)) where
     over-is : (call : Stick → Lent → Outcome) → overBytes call b ≡ leftOf (call (stickBy b) (lentBy b))
@@ -190,7 +192,7 @@ module _ (b : Buffers) (s : AfterFresh b) where
   leaves-is = sym (ap (λ (l : Left). l .buffers) (fresh-fitting (s .before) fresh-fits ∙ ap leftOf done)) ∙ s .leaves
 
   leaves-typed : Typed (leaves .stick)
-  leaves-typed = record { length0 = omega arith; length1 = omega arith; table0 = refl; table1 = refl; pending = length-replicate {A = ℕ} pendingLength 0 }
+  leaves-typed = record { length0 = omega arith; length1 = omega arith; table0 = refl; table1 = refl; pending = length-replicate {A = ℕ} pendingLength 0; places = length-replicate {A = ℕ} placesLength 0 }
 
   leaves-sound : Sound leaves
   leaves-sound = record {

@@ -12,6 +12,32 @@ use Rattle.base.proofs.byte_at.Reads as base-byte-at-reads
 use Rattle.base.proofs.set_byte.Kinds as base-set-byte-kinds
 use Rattle.base.proofs.set_byte.Reads as base-set-byte-reads
 use Rattle.base.proofs.Decided as base
+use Rattle.names.proofs.none.Kinds as names-none-kinds
+use Rattle.names.proofs.none.Reads as names-none-reads
+use Rattle.names.proofs.name_at.Kinds as names-name-at-kinds
+use Rattle.names.proofs.name_at.Reads as names-name-at-reads
+use Rattle.names.proofs.matches.Kinds as names-matches-kinds
+use Rattle.names.proofs.matches.Reads as names-matches-reads
+use Rattle.names.proofs.Decided as names
+use Rattle.image.proofs.sector_byte.Kinds as image-sector-byte-kinds
+use Rattle.image.proofs.sector_byte.Reads as image-sector-byte-reads
+use Rattle.image.proofs.entry_byte.Kinds as image-entry-byte-kinds
+use Rattle.image.proofs.entry_byte.Reads as image-entry-byte-reads
+use Rattle.image.proofs.flag.Kinds as image-flag-kinds
+use Rattle.image.proofs.flag.Reads as image-flag-reads
+use Rattle.image.proofs.in_use.Kinds as image-in-use-kinds
+use Rattle.image.proofs.in_use.Reads as image-in-use-reads
+use Rattle.image.proofs.is_locked.Kinds as image-is-locked-kinds
+use Rattle.image.proofs.is_locked.Reads as image-is-locked-reads
+use Rattle.image.proofs.first.Kinds as image-first-kinds
+use Rattle.image.proofs.first.Reads as image-first-reads
+use Rattle.image.proofs.count.Kinds as image-count-kinds
+use Rattle.image.proofs.count.Reads as image-count-reads
+use Rattle.image.proofs.find.Kinds as image-find-kinds
+use Rattle.image.proofs.find.Reads as image-find-reads
+use Rattle.image.proofs.stand_of.Kinds as image-stand-of-kinds
+use Rattle.image.proofs.stand_of.Reads as image-stand-of-reads
+use Rattle.image.proofs.Decided as image
 use Rattle.handler.proofs.on_block.Kinds as handler-on-block-kinds
 use Rattle.handler.proofs.on_block.Reads as handler-on-block-reads
 use Rattle.handler.proofs.Decided as handler
@@ -103,6 +129,27 @@ use Rattle.cassette.proofs.Cassette.read.Reads as cassette-read-reads
 use Rattle.cassette.proofs.Cassette.write.Kinds as cassette-write-kinds
 use Rattle.cassette.proofs.Cassette.write.Reads as cassette-write-reads
 use Rattle.cassette.proofs.Decided as cassette
+use Rattle.listing.proofs.record_character.Kinds as listing-record-character-kinds
+use Rattle.listing.proofs.record_character.Reads as listing-record-character-reads
+use Rattle.listing.proofs.record_length.Kinds as listing-record-length-kinds
+use Rattle.listing.proofs.record_length.Reads as listing-record-length-reads
+use Rattle.listing.proofs.read.Kinds as listing-read-kinds
+use Rattle.listing.proofs.read.Reads as listing-read-reads
+use Rattle.listing.proofs.Decided as listing
+use Rattle.files.proofs.word.Kinds as files-word-kinds
+use Rattle.files.proofs.word.Reads as files-word-reads
+use Rattle.files.proofs.read.Kinds as files-read-kinds
+use Rattle.files.proofs.read.Reads as files-read-reads
+use Rattle.files.proofs.Decided as files
+use Rattle.disk.proofs.status.Kinds as disk-status-kinds
+use Rattle.disk.proofs.status.Reads as disk-status-reads
+use Rattle.disk.proofs.fits.Kinds as disk-fits-kinds
+use Rattle.disk.proofs.fits.Reads as disk-fits-reads
+use Rattle.disk.proofs.open.Kinds as disk-open-kinds
+use Rattle.disk.proofs.open.Reads as disk-open-reads
+use Rattle.disk.proofs.read.Kinds as disk-read-kinds
+use Rattle.disk.proofs.read.Reads as disk-read-reads
+use Rattle.disk.proofs.Decided as disk
 use Rattle.console.proofs.state.Console.fresh.Kinds as console-state-fresh-kinds
 use Rattle.console.proofs.state.Console.fresh.Reads as console-state-fresh-reads
 use Rattle.console.proofs.state.Console.editor.Kinds as console-editor-kinds
@@ -274,6 +321,13 @@ use Rattle.recorder.proofs.write.Reads as recorder-write-reads
 use Rattle.recorder.proofs.fits.Kinds as recorder-fits-kinds
 use Rattle.recorder.proofs.fits.Reads as recorder-fits-reads
 use Rattle.recorder.proofs.Decided as recorder
+use Rattle.drives.proofs.open.Kinds as drives-open-kinds
+use Rattle.drives.proofs.open.Reads as drives-open-reads
+use Rattle.drives.proofs.read.Kinds as drives-read-kinds
+use Rattle.drives.proofs.read.Reads as drives-read-reads
+use Rattle.drives.proofs.status.Kinds as drives-status-kinds
+use Rattle.drives.proofs.status.Reads as drives-status-reads
+use Rattle.drives.proofs.Decided as drives
 use Rattle.devices.proofs.owner_of.Kinds as devices-owner-of-kinds
 use Rattle.devices.proofs.owner_of.Reads as devices-owner-of-reads
 use Rattle.devices.proofs.group_of.Kinds as devices-group-of-kinds
@@ -374,9 +428,27 @@ base-decided =
     promise base-byte-at-kinds.ps base-byte-at-kinds.r base-byte-at-reads.Pre base-byte-at-reads.Learnt base.byte-at-decides base.byte-at-allows (
     promise base-set-byte-kinds.ps base-set-byte-kinds.r base-set-byte-reads.Pre base-set-byte-reads.Learnt base.set-byte-decides base.set-byte-allows none)
 
+pub names-decided : Promises
+names-decided =
+    promise names-none-kinds.ps names-none-kinds.r names-none-reads.Pre names-none-reads.Learnt names.none-decides names.none-allows (
+    promise names-name-at-kinds.ps names-name-at-kinds.r names-name-at-reads.Pre names-name-at-reads.Learnt names.name-at-decides names.name-at-allows (
+    promise names-matches-kinds.ps names-matches-kinds.r names-matches-reads.Pre names-matches-reads.Learnt names.matches-decides names.matches-allows base-decided))
+
+pub image-decided : Promises
+image-decided =
+    promise image-sector-byte-kinds.ps image-sector-byte-kinds.r image-sector-byte-reads.Pre image-sector-byte-reads.Learnt image.sector-byte-decides image.sector-byte-allows (
+    promise image-entry-byte-kinds.ps image-entry-byte-kinds.r image-entry-byte-reads.Pre image-entry-byte-reads.Learnt image.entry-byte-decides image.entry-byte-allows (
+    promise image-flag-kinds.ps image-flag-kinds.r image-flag-reads.Pre image-flag-reads.Learnt image.flag-decides image.flag-allows (
+    promise image-in-use-kinds.ps image-in-use-kinds.r image-in-use-reads.Pre image-in-use-reads.Learnt image.in-use-decides image.in-use-allows (
+    promise image-is-locked-kinds.ps image-is-locked-kinds.r image-is-locked-reads.Pre image-is-locked-reads.Learnt image.is-locked-decides image.is-locked-allows (
+    promise image-first-kinds.ps image-first-kinds.r image-first-reads.Pre image-first-reads.Learnt image.first-decides image.first-allows (
+    promise image-count-kinds.ps image-count-kinds.r image-count-reads.Pre image-count-reads.Learnt image.count-decides image.count-allows (
+    promise image-find-kinds.ps image-find-kinds.r image-find-reads.Pre image-find-reads.Learnt image.find-decides image.find-allows (
+    promise image-stand-of-kinds.ps image-stand-of-kinds.r image-stand-of-reads.Pre image-stand-of-reads.Learnt image.stand-of-decides image.stand-of-allows names-decided))))))))
+
 pub handler-decided : Promises
 handler-decided =
-    promise handler-on-block-kinds.ps handler-on-block-kinds.r handler-on-block-reads.Pre handler-on-block-reads.Learnt handler.on-block-decides handler.on-block-allows base-decided
+    promise handler-on-block-kinds.ps handler-on-block-kinds.r handler-on-block-reads.Pre handler-on-block-reads.Learnt handler.on-block-decides handler.on-block-allows image-decided
 
 pub keys-decided : Promises
 keys-decided =
@@ -442,6 +514,24 @@ cassette-decided =
     promise cassette-read-kinds.ps cassette-read-kinds.r cassette-read-reads.Pre cassette-read-reads.Learnt cassette.read-decides cassette.read-allows (
     promise cassette-write-kinds.ps cassette-write-kinds.r cassette-write-reads.Pre cassette-write-reads.Learnt cassette.write-decides cassette.write-allows records-decided))))
 
+pub listing-decided : Promises
+listing-decided =
+    promise listing-record-character-kinds.ps listing-record-character-kinds.r listing-record-character-reads.Pre listing-record-character-reads.Learnt listing.record-character-decides listing.record-character-allows (
+    promise listing-record-length-kinds.ps listing-record-length-kinds.r listing-record-length-reads.Pre listing-record-length-reads.Learnt listing.record-length-decides listing.record-length-allows (
+    promise listing-read-kinds.ps listing-read-kinds.r listing-read-reads.Pre listing-read-reads.Learnt listing.read-decides listing.read-allows cassette-decided))
+
+pub files-decided : Promises
+files-decided =
+    promise files-word-kinds.ps files-word-kinds.r files-word-reads.Pre files-word-reads.Learnt files.word-decides files.word-allows (
+    promise files-read-kinds.ps files-read-kinds.r files-read-reads.Pre files-read-reads.Learnt files.read-decides files.read-allows listing-decided)
+
+pub disk-decided : Promises
+disk-decided =
+    promise disk-status-kinds.ps disk-status-kinds.r disk-status-reads.Pre disk-status-reads.Learnt disk.status-decides disk.status-allows (
+    promise disk-fits-kinds.ps disk-fits-kinds.r disk-fits-reads.Pre disk-fits-reads.Learnt disk.fits-decides disk.fits-allows (
+    promise disk-open-kinds.ps disk-open-kinds.r disk-open-reads.Pre disk-open-reads.Learnt disk.open-decides disk.open-allows (
+    promise disk-read-kinds.ps disk-read-kinds.r disk-read-reads.Pre disk-read-reads.Learnt disk.read-decides disk.read-allows files-decided)))
+
 pub console-decided : Promises
 console-decided =
     promise console-state-fresh-kinds.ps console-state-fresh-kinds.r console-state-fresh-reads.Pre console-state-fresh-reads.Learnt console.state-fresh-decides console.state-fresh-allows (
@@ -456,7 +546,7 @@ console-decided =
     promise console-read-screen-kinds.ps console-read-screen-kinds.r console-read-screen-reads.Pre console-read-screen-reads.Learnt console.read-screen-decides console.read-screen-allows (
     promise console-read-keyboard-kinds.ps console-read-keyboard-kinds.r console-read-keyboard-reads.Pre console-read-keyboard-reads.Learnt console.read-keyboard-decides console.read-keyboard-allows (
     promise console-write-editor-kinds.ps console-write-editor-kinds.r console-write-editor-reads.Pre console-write-editor-reads.Learnt console.write-editor-decides console.write-editor-allows (
-    promise console-write-screen-kinds.ps console-write-screen-kinds.r console-write-screen-reads.Pre console-write-screen-reads.Learnt console.write-screen-decides console.write-screen-allows cassette-decided))))))))))))
+    promise console-write-screen-kinds.ps console-write-screen-kinds.r console-write-screen-reads.Pre console-write-screen-reads.Learnt console.write-screen-decides console.write-screen-allows disk-decided))))))))))))
 
 pub acts-decided : Promises
 acts-decided =
@@ -555,6 +645,12 @@ recorder-decided =
     promise recorder-write-kinds.ps recorder-write-kinds.r recorder-write-reads.Pre recorder-write-reads.Learnt recorder.write-decides recorder.write-allows (
     promise recorder-fits-kinds.ps recorder-fits-kinds.r recorder-fits-reads.Pre recorder-fits-reads.Learnt recorder.fits-decides recorder.fits-allows transfer-decided))))
 
+pub drives-decided : Promises
+drives-decided =
+    promise drives-open-kinds.ps drives-open-kinds.r drives-open-reads.Pre drives-open-reads.Learnt drives.open-decides drives.open-allows (
+    promise drives-read-kinds.ps drives-read-kinds.r drives-read-reads.Pre drives-read-reads.Learnt drives.read-decides drives.read-allows (
+    promise drives-status-kinds.ps drives-status-kinds.r drives-status-reads.Pre drives-status-reads.Learnt drives.status-decides drives.status-allows recorder-decided))
+
 pub devices-decided : Promises
 devices-decided =
     promise devices-owner-of-kinds.ps devices-owner-of-kinds.r devices-owner-of-reads.Pre devices-owner-of-reads.Learnt devices.owner-of-decides devices.owner-of-allows (
@@ -572,7 +668,7 @@ devices-decided =
     promise devices-console-of-kinds.ps devices-console-of-kinds.r devices-console-of-reads.Pre devices-console-of-reads.Learnt devices.console-of-decides devices.console-of-allows (
     promise devices-set-console-kinds.ps devices-set-console-kinds.r devices-set-console-reads.Pre devices-set-console-reads.Learnt devices.set-console-decides devices.set-console-allows (
     promise devices-printer-of-kinds.ps devices-printer-of-kinds.r devices-printer-of-reads.Pre devices-printer-of-reads.Learnt devices.printer-of-decides devices.printer-of-allows (
-    promise devices-set-printer-kinds.ps devices-set-printer-kinds.r devices-set-printer-reads.Pre devices-set-printer-reads.Learnt devices.set-printer-decides devices.set-printer-allows recorder-decided)))))))))))))))
+    promise devices-set-printer-kinds.ps devices-set-printer-kinds.r devices-set-printer-reads.Pre devices-set-printer-reads.Learnt devices.set-printer-decides devices.set-printer-allows drives-decided)))))))))))))))
 
 pub judge-decided : Promises
 judge-decided =

@@ -6,6 +6,9 @@ use mathlib.Core.List.{List}
 use Prim.Native.Nat.{ℕ}
 use native.Mathlib.Omega.{arith}
 use lib.ListN.{length, take}
+use Rattle.disk.proofs.Reading.{read-warns}
+use Rattle.disk.proofs.Chains.{file-gives}
+use Rattle.disk.proofs.Listings.{directory-gives}
 use Rattle.layout.specs.Places.{roomsPlace, stateLength}
 use Rattle.layout.specs.Layout.{headOf, stickIn}
 use Rattle.layout.specs.Stands.{stands}
@@ -16,7 +19,7 @@ use Rattle.layout.proofs.WriteRead.{head-back}
 use Rattle.damage.proofs.Undamaged.{in-bytes}
 use Rattle.calls.specs.Returned.{Returned}
 use Rattle.serial.proofs.Follows as follow
-use Rattle.rules.proofs.Warned.{request-warns, only-tape-warns}
+use Rattle.rules.proofs.Warned.{request-warns, others-never-warn}
 use Rattle.machine.specs.Real.{real}
 use Rattle.machine.proofs.Lawful.{lawful}
 use Rattle.machine.proofs.Demanded.{one-reading}
@@ -28,7 +31,7 @@ use Rattle.demands.specs.Demands.{Demands}
 use Rattle.demands.proofs.Bytes.{bytes-follow, always-undamaged, always-numbers}
 use Rattle.demands.proofs.Translated.{translated}
 use Rattle.demands.proofs.Over.{fresh-all, paper-stays, tape-stays}
-use Rattle.demands.proofs.Told.{exact, any-still, kept, give-says, never-3, call-is}
+use Rattle.demands.proofs.Told.{exact, any-still, kept, images-kept, give-says, never-3, call-is}
 use Rattle.demands.proofs.Made.{fresh-open, take-open, tick-open, give-open, press-open, translate-open, can-call}
 use Rattle.demands.proofs.Run.{linked}
 
@@ -58,7 +61,7 @@ demands = record {
       course bytes (follow.demand2 real bytes bytes-follow lawful .later) (follow.never-damaged real bytes bytes-follow lawful);
   demand2-needs = needs;
   warns = request-warns;
-  only-tape-warns = only-tape-warns;
+  others-never-warn = others-never-warn;
   demand3 = follow.demand3 real bytes bytes-follow lawful;
   demand3-unfinished = follow.unfinished real bytes bytes-follow lawful;
   one-reading = one-reading;
@@ -66,6 +69,10 @@ demands = record {
   undamaged = always-undamaged;
   never-3 = never-3;
   kept = kept;
+  disk-warns = λ place images l. read-warns place images l;
+  files = λ images whole unit file first few. file-gives images unit file whole few first;
+  directories = λ images unit name good. directory-gives images unit name good;
+  images-kept = images-kept;
   decodes = λ s w rooms. (read-write s rooms w, (head-stands s rooms, head-length s));
   fits-in = in-bytes;
   one-head = one-head;

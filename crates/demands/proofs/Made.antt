@@ -27,7 +27,7 @@ use Rattle.firmware.proofs.fixlomand_translate.Reads as translate-reads
 use Rattle.serial.specs.Core.{CoreCall, take, tick, give, press}
 use Rattle.machine.specs.Real.{real}
 use Rattle.machine.specs.Sticks.{portNumber}
-use Rattle.demands.specs.Told.{fiveLent, FreshCall, TakeCall, TickCall, GiveCall, PressCall, CallByC, by-take, by-tick, by-give, by-press, RunByC, here, then}
+use Rattle.demands.specs.Told.{sixLent, FreshCall, TakeCall, TickCall, GiveCall, PressCall, CallByC, by-take, by-tick, by-give, by-press, RunByC, here, then}
 use Rattle.demands.specs.Demand1.{Open}
 
 -- "No entry point trusts its caller to have checked"
@@ -53,15 +53,15 @@ translate-open = record { asks-nothing = λ κs a. tt; answers = firmware.transl
 abbrev lentAs : List ℕ → RefT (List ℕ)
 lentAs xs = record { ptr = (0, 0); name = 0; now = xs }
 
-abbrev lifetimes : Lfts 5
-lifetimes = ([], ([], ([], ([], ([], tt)))))
+abbrev lifetimes : Lfts 6
+lifetimes = ([], ([], ([], ([], ([], ([], tt))))))
 
 -- a call with these buffers and numbers, as its claim allows one
-module _ {given : List (PK 5)} {r : RK 5} {Pre : In 5 (fiveLent given)} {Learnt : Out 5 (fiveLent given) r} where
-  abbrev asked : Open (fiveLent given) r Pre Learnt → Buffers → Dens lifetimes given → Told (fiveLent given) r Learnt
+module _ {given : List (PK 6)} {r : RK 6} {Pre : In 6 (sixLent given)} {Learnt : Out 6 (sixLent given) r} where
+  abbrev asked : Open (sixLent given) r Pre Learnt → Buffers → Dens lifetimes given → Told (sixLent given) r Learnt
   asked o b numbers =
-      let a : Dens lifetimes (fiveLent given) =
-      (lentAs (b .state), (lentAs (b .area), (lentAs (b .screen), (lentAs (b .paper), (lentAs (b .tape), numbers))))) in
+      let a : Dens lifetimes (sixLent given) =
+      (lentAs (b .state), (lentAs (b .area), (lentAs (b .screen), (lentAs (b .paper), (lentAs (b .tape), (lentAs (b .images), numbers)))))) in
       let x = o .answers lifetimes a (o .asks-nothing lifetimes a) in
       record { κs = lifetimes; args = a; result = x .0; lasts = x .1 .0; told = x .1 .1 }
 

@@ -16,13 +16,14 @@ use Rattle.layout.specs.Stick.{Stick, freshStick, Lent, lent}
 use Rattle.layout.specs.Layout.{headOf}
 use Rattle.layout.specs.Stands.{stands}
 use Rattle.layout.proofs.Lengths.{head-length}
-use Rattle.layout.proofs.Ports.{own-count, own-pending}
+use Rattle.layout.proofs.Ports.{own-count, own-pending, own-places}
 use Rattle.damage.specs.Fits.{stickFits}
 use Rattle.calls.specs.Stick.{Outcome, refused}
 use Rattle.calls.specs.Calls.{freshCall, takeCall, tickCall, giveCall, pressCall}
 use Rattle.calls.specs.Bytes.{Buffers, buffers, Left, left, leftAlone, buffersFit, stickBy, lentBy, leftOf, overBytes, freshBytes, takeBytes, tickBytes, giveBytes, pressBytes}
 use Rattle.calls.specs.Parts.{Lengths}
 use Rattle.calls.proofs.Passing.{lengths-of}
+use Rattle.calls.proofs.Images.{fresh-images, take-call-images, tick-call-images, give-call-images, press-call-images}
 use Rattle.rules.specs.Shape.{Shaped}
 use Rattle.rules.specs.Answers.{OtherLength, Damaged, oneOf, TakeAnswers, TickAnswers, GiveAnswers, PressAnswers}
 use Rattle.rules.proofs.Answers.{take-answers, take-still, take-most, tick-answers, tick-still, tick-most, give-answers, give-still, give-most, press-answers, press-still, press-most}
@@ -40,6 +41,7 @@ pub record Ruled (call : Stick → Lent → Outcome) (Answers : Stick → Lent �
   pub three : (s : Stick) (l : Lent) → (call s l .answer ≡ 3) ↔ Damaged s l
   pub still : (s : Stick) (l : Lent) → (call s l .answer ≡ 0 → ⊥) → call s l ≡ refused (call s l .answer) s l
   pub keeps : Ok → (s : Stick) (l : Lent) → Shaped s → stickFits s l ≡ true → stickFits (call s l .stick) (call s l .lent) ≡ true
+  pub images : (s : Stick) (l : Lent) → call s l .lent .images ≡ l .images
 
 take-ruled : (port byte : ℕ) → Ruled (λ s l. takeCall s l port byte) (λ s l. TakeAnswers s l port) (byte < 256)
 take-ruled port byte = record {
@@ -49,6 +51,7 @@ take-ruled port byte = record {
   three = λ s l. take-answers s l port byte .first .damaged;
   still = λ s l. take-still s l port byte;
   keeps = λ h s l. never.never-damaged (never.take-byte l port byte) h s;
+  images = λ s l. take-call-images s l port byte;
 }
 
 tick-ruled : (port : ℕ) → Ruled (λ s l. tickCall s l port) (λ s l. TickAnswers s l port) (Unit {0})
@@ -59,6 +62,7 @@ tick-ruled port = record {
   three = λ s l. tick-answers s l port .first .damaged;
   still = λ s l. tick-still s l port;
   keeps = λ h s l. never.never-damaged (never.tick l port) tt s;
+  images = λ s l. tick-call-images s l port;
 }
 
 give-ruled : (port : ℕ) → Ruled (λ s l. giveCall s l port) (λ s l. GiveAnswers s l port) (Unit {0})
@@ -69,6 +73,7 @@ give-ruled port = record {
   three = λ s l. give-answers s l port .first .damaged;
   still = λ s l. give-still s l port;
   keeps = λ h s l. never.never-damaged (never.give l port) tt s;
+  images = λ s l. give-call-images s l port;
 }
 
 press-ruled : (code : ℕ) → Ruled (λ s l. pressCall s l code) (λ s l. PressAnswers s l) (Unit {0})
@@ -79,6 +84,7 @@ press-ruled code = record {
   three = λ s l. press-answers s l code .damaged;
   still = λ s l. press-still s l code;
   keeps = λ h s l. never.never-damaged (never.press l code) tt s;
+  images = λ s l. press-call-images s l code;
 }
 
 -- where the lengths fit and the bytes stand, the head comes back
@@ -86,11 +92,12 @@ abbrev pub ComesBack : Buffers → Type 0
 ComesBack b = Lengths b → stands (b .state) ≡ true → headOf (stickBy b) ++ drop roomsPlace (b .state) ≡ b .state
 
 -- and so of what is left over bytes: "Numbers 1 to 8 change nothing", and a call that is done leaves what an undamaged stick is
--- written as
+-- written as; no call changes an image
 pub record LeftRuled (b : Buffers) (Ok : Type 0) (l : Left) : Type 0 where
   pub low : l .answer ≤ 8
   pub stays : ComesBack b → (l .answer ≡ 0 → ⊥) → l ≡ leftAlone (l .answer) b
   pub kept : Ok → l .answer ≡ 0 → UndamagedState (l .buffers)
+  pub images : l .buffers .images ≡ b .images
 
 left-undamaged : (o : Outcome) → stickFits (o .stick) (o .lent) ≡ true → UndamagedState (leftOf o .buffers)
 left-undamaged o e =
@@ -98,19 +105,19 @@ left-undamaged o e =
     let r = drop-at (headOf (o .stick)) (l .rooms) roomsPlace (head-length (o .stick)) in
     record {
       stick = o .stick;
-      fits = subst (λ (xs : List ℕ). stickFits (o .stick) (lent xs (l .area) (l .screen) (l .paper) (l .tape)) ≡ true) (sym r) e;
+      fits = subst (λ (xs : List ℕ). stickFits (o .stick) (lent xs (l .area) (l .screen) (l .paper) (l .tape) (l .images)) ≡ true) (sym r) e;
       written = sym (ap (λ (xs : List ℕ). headOf (o .stick) ++ xs) r);
     }
 
 refused-ruled : (b : Buffers) (Ok : Type 0) (n : ℕ) → 1 ≤ n → n ≤ 8 → LeftRuled b Ok (leftAlone n b)
 refused-ruled b Ok n h m =
-    record { low = m; stays = λ w z. refl; kept = λ k z. let e : n ≡ 0 = z in absurd (omega (arith, e, h)) }
+    record { low = m; stays = λ w z. refl; kept = λ k z. let e : n ≡ 0 = z in absurd (omega (arith, e, h)); images = refl }
 
 -- a stick that bytes of their length stand for
 shaped-by : (b : Buffers) → Lengths b → Shaped (stickBy b)
 shaped-by b f =
     let long : roomsPlace ≤ length (b .state) = omega (arith, f .long) in
-    record { table0 = own-count 0 (omega arith) (b .state); table1 = own-count 1 (omega arith) (b .state); pending = own-pending (b .state) long }
+    record { table0 = own-count 0 (omega arith) (b .state); table1 = own-count 1 (omega arith) (b .state); pending = own-pending (b .state) long; places = own-places (b .state) long }
 
 -- by the two tests
 module _ (call : Stick → Lent → Outcome) (b : Buffers) where
@@ -168,12 +175,13 @@ module _ (call : Stick → Lent → Outcome) (b : Buffers) where
           low = k .most s (lentBy b);
           stays =
               λ w z. ap leftOf (k .still s (lentBy b) z)
-              ∙ ap (λ (xs : List ℕ). left (o .answer) 0 (buffers xs (b .area) (b .screen) (b .paper) (b .tape))) (w f t);
+              ∙ ap (λ (xs : List ℕ). left (o .answer) 0 (buffers xs (b .area) (b .screen) (b .paper) (b .tape) (b .images))) (w f t);
           -- a call that is not refused with 3 is of an undamaged stick
           kept = λ h e. by-test (stickFits s (lentBy b))
               (λ u. left-undamaged o (k .keeps h s (lentBy b) (shaped-by b f) u))
               (λ u. let d : Damaged s (lentBy b) = record { lengths = lent-lengths b f; damaged = u } in
               let z : _≡_ {A = ℕ} 3 0 = sym (k .three s (lentBy b) .1 d) ∙ e in absurd (omega (arith, z)));
+          images = k .images s (lentBy b);
         })
 
 module _ (b : Buffers) where
@@ -241,6 +249,7 @@ module _ (b : Buffers) where
         stays = λ w z. absurd (z (fresh-zero f));
         kept = λ k e. left-undamaged (freshCall freshStick (lentBy b))
             (fresh-guarded (lentBy b) (lent-lengths b f) freshStick .fits);
+        images = fresh-images freshStick (lentBy b);
       })
 
   pub fresh-all : freshBytes b .answer ≡ 0 → freshBytes b .buffers .state ≡ headOf freshStick ++ replicate (2 * roomLength) 0

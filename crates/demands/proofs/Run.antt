@@ -62,7 +62,8 @@ aside-same q t =
     let c = remains-same (ap (λ (x : Buffers). x .screen) q) (t .screen) in
     let p = remains-same (ap (λ (x : Buffers). x .paper) q) (t .paper) in
     let r = remains-same (ap (λ (x : Buffers). x .tape) q) (t .tape) in
-    λ i. buffers (s i) (a i) (c i) (p i) (r i)
+    let d = remains-same (ap (λ (x : Buffers). x .images) q) (t .images) in
+    λ i. buffers (s i) (a i) (c i) (p i) (r i) (d i)
 
 run-comes : {b b′ : Buffers} {cs : List (CoreCall real)} → RunByC b cs b′ → OkCalls real cs → (s : State real bytes)
     → Reached real bytes (s .world) → s .world ≡ b → after real bytes cs s .world ≡ b′

@@ -97,6 +97,10 @@ kept c t z =
     let k = left-by c in
     subst UndamagedState (sym (k .tells .buffers)) (k .ruled .kept t (sym (k .tells .answer) ∙ z))
 
+-- "Offer OPEN for reading": no call changes an image
+pub images-kept : {b : Buffers} {r : Returned} → AnyCall b r → r .buffers .images ≡ b .images
+images-kept c = let k = left-by c in ap (λ (x : Buffers). x .images) (k .tells .buffers) ∙ k .ruled .images
+
 -- the answer and the reply byte stand in give's number
 pub give-says : (o : GiveCall)
     → let l = giveBytes (lends o) (portNamed o) in (answerIn (leaves o) ≡ l .answer) × (replyByteIn (leaves o) ≡ l .byte)

@@ -7,8 +7,12 @@
 use mathlib.Core.Path.{_≡_}
 use mathlib.Core.Bool.{true}
 use mathlib.Core.List.{List, _++_}
-use Prim.Native.Nat.{ℕ, _*_}
+use Prim.Native.Nat.{ℕ, _*_, _<_}
 use lib.ListN.{length, take, replicate}
+use Rattle.names.specs.declared.Name.{Name}
+use Rattle.image.specs.Image.{imagesLength}
+use Rattle.disk.specs.Disk.{placeLength}
+use Rattle.disk.specs.Reads.{ReadWarns, FileGives, DirectoryGives}
 use Rattle.wire.specs.declared.Call.{Call}
 use Rattle.wire.specs.Messages.{roomLength}
 use Rattle.layout.specs.Places.{roomsPlace, stateLength}
@@ -40,7 +44,7 @@ use Rattle.serial.specs.Demand1.{Demand1}
 use Rattle.serial.specs.Demand2.{Demand2}
 use Rattle.serial.specs.Demand3.{Demand3, UnfinishedRule}
 use Rattle.serial.specs.Follows.{Follows}
-use Rattle.rules.specs.Warned.{ReadsNext, RequestWarns, OnlyTapeWarns}
+use Rattle.rules.specs.Warned.{ReadsNext, RequestWarns, OthersNeverWarn}
 use Rattle.machine.specs.Real.{real}
 use Rattle.machine.specs.Statuses.{MarkRule, StatusRule, FieldsRule, NeedsRule}
 use Rattle.machine.specs.Course.{CourseRule}
@@ -80,15 +84,15 @@ pub record Demands : Type 0 where
   pub demand1-run : Demand1 real bytes
   -- 2. "A request or a taken key alone gives the whole reply (a key has none), memory, control blocks, console and paper that the
   -- CIO rules .. give. .. A request waits only while the other port holds the device group it needs. Once started, it moves one
-  -- character a tick and ends within 61,441 further ticks of its port."
+  -- character a tick and ends within 61,441 further ticks of its port." Document 02: "The bound of 61,441 becomes 89,876."
   pub demand2 : Demand2 real bytes
   pub demand2-course : CourseRule bytes
   pub demand2-needs : NeedsRule
   -- Document 02: "A tape read after which the next would give $88 should come with $03. .. other devices never give it.": of requests
   -- alone, which `demand2` links to these calls
   pub warns : (c next : Call) (l : Local) (s : Groups) → ReadsNext c next l s → RequestWarns c next l s
-  pub only-tape-warns : OnlyTapeWarns
-  -- Document 02: "Demands 2 and 3 now read over three groups and the tape."
+  pub others-never-warn : OthersNeverWarn
+  -- Document 02: "Demands 2 and 3 now read over three groups and the tape.", and over the diskettes' group
   -- 3. "The replies made for each port, both memory areas, both control-block tables, the console and the paper are those of the
   -- run in which the started requests and the taken keys go one at a time .. The bytes taken on a port spell its started requests
   -- .. the bytes given on it are those of its own replies"
@@ -109,6 +113,15 @@ pub record Demands : Type 0 where
   pub fits-in : (s : Stick) (l : Lent) → Typed s → stickFits s l ≡ true → InBytes s
   pub one-head : (x y : List ℕ) → Bytes x → Bytes y → length x ≡ stateLength → length y ≡ stateLength
       → stands x ≡ true → stands y ≡ true → stickIn x ≡ stickIn y → take roomsPlace x ≡ take roomsPlace y
+  -- Document 02, Ask 12: "$03 and $88 come as from tape.", of each read of D that gives a character
+  pub disk-warns : (place images : List ℕ) → length place ≡ placeLength → ReadWarns place images
+  -- a file's reads give its chain's bytes, in order: "next or first 0 ends the file"; "A link above 719, a wrong file number, a data count
+  -- above 125 or a 720th sector in one chain gives $A4 to the read that meets it."
+  pub files : (images : List ℕ) → length images ≡ imagesLength → (unit file first : ℕ) → unit < 4 → FileGives images unit file first
+  -- "the directory lists every match once in directory order", and then the free-sector record
+  pub directories : (images : List ℕ) (unit : ℕ) (name : Name) → name .good ≡ true → DirectoryGives images unit name
+  -- diskettes are read: no call changes an image
+  pub images-kept : {b : Buffers} {r : Returned} → AnyCall b r → r .buffers .images ≡ b .images
   -- a fresh start writes every byte of the state, whatever it held, and leaves the paper's and the tape's bytes
   pub fresh-is : (o : FreshCall) → leaves o ≡ answerOf (freshBytes (lends o))
   pub fresh-writes : (o : FreshCall) → leaves o .number ≡ 0

@@ -29,19 +29,19 @@ use Rattle.serial.specs.Core.{CoreCall, take, tick, give, press}
 use Rattle.machine.specs.Real.{real}
 use Rattle.machine.specs.Sticks.{portNumber}
 
--- each of the five functions is lent state, area, screen, paper and tape first, and returns a number
-abbrev pub fiveLent : List (PK 5) → List (PK 5)
-fiveLent given =
-    pMutS (rtF (fInt w8)) 0 tt ∷ pMutS (rtF (fInt w8)) 1 tt ∷ pMutS (rtF (fInt w8)) 2 tt ∷ pMutS (rtF (fInt w8)) 3 tt ∷ pMutS (rtF (fInt w8)) 4 tt ∷ given
+-- each of the five functions is lent state, area, screen, paper, tape and images first, and returns a number
+abbrev pub sixLent : List (PK 6) → List (PK 6)
+sixLent given =
+    pMutS (rtF (fInt w8)) 0 tt ∷ pMutS (rtF (fInt w8)) 1 tt ∷ pMutS (rtF (fInt w8)) 2 tt ∷ pMutS (rtF (fInt w8)) 3 tt ∷ pMutS (rtF (fInt w8)) 4 tt ∷ pMutS (rtF (fInt w8)) 5 tt ∷ given
 
-module _ {given : List (PK 5)} {returns : Width} {Learnt : Out 5 (fiveLent given) (rNum returns)} where
+module _ {given : List (PK 6)} {returns : Width} {Learnt : Out 6 (sixLent given) (rNum returns)} where
   -- the buffers that it is lent
-  abbrev pub lends : Told (fiveLent given) (rNum returns) Learnt → Buffers
-  lends o = buffers (now (o .args .0)) (now (o .args .1 .0)) (now (o .args .1 .1 .0)) (now (o .args .1 .1 .1 .0)) (now (o .args .1 .1 .1 .1 .0))
+  abbrev pub lends : Told (sixLent given) (rNum returns) Learnt → Buffers
+  lends o = buffers (now (o .args .0)) (now (o .args .1 .0)) (now (o .args .1 .1 .0)) (now (o .args .1 .1 .1 .0)) (now (o .args .1 .1 .1 .1 .0)) (now (o .args .1 .1 .1 .1 .1 .0))
 
   -- the number that it returns, and the buffers as it leaves them
-  abbrev pub leaves : Told (fiveLent given) (rNum returns) Learnt → Returned
-  leaves o = returned (o .result) (buffers (o .lasts .0) (o .lasts .1 .0) (o .lasts .1 .1 .0) (o .lasts .1 .1 .1 .0) (o .lasts .1 .1 .1 .1 .0))
+  abbrev pub leaves : Told (sixLent given) (rNum returns) Learnt → Returned
+  leaves o = returned (o .result) (buffers (o .lasts .0) (o .lasts .1 .0) (o .lasts .1 .1 .0) (o .lasts .1 .1 .1 .0) (o .lasts .1 .1 .1 .1 .0) (o .lasts .1 .1 .1 .1 .1 .0))
 
 -- the answer is the low byte of the number, a reply byte the high one
 abbrev pub answerIn : Returned → ℕ
@@ -66,15 +66,15 @@ abbrev pub PressCall : Type 0
 PressCall = Told press-kinds.ps press-kinds.r press-reads.Learnt
 
 -- take, tick and give name a port next
-module _ {given : List (PK 5)} {returns : Width} {Learnt : Out 5 (fiveLent (pNum w8 ∷ given)) (rNum returns)} where
-  abbrev pub portNamed : Told (fiveLent (pNum w8 ∷ given)) (rNum returns) Learnt → ℕ
-  portNamed o = o .args .1 .1 .1 .1 .1 .0
+module _ {given : List (PK 6)} {returns : Width} {Learnt : Out 6 (sixLent (pNum w8 ∷ given)) (rNum returns)} where
+  abbrev pub portNamed : Told (sixLent (pNum w8 ∷ given)) (rNum returns) Learnt → ℕ
+  portNamed o = o .args .1 .1 .1 .1 .1 .1 .0
 
 abbrev pub byteOffered : TakeCall → ℕ
-byteOffered o = o .args .1 .1 .1 .1 .1 .1 .0
+byteOffered o = o .args .1 .1 .1 .1 .1 .1 .1 .0
 
 abbrev pub codePressed : PressCall → ℕ
-codePressed o = o .args .1 .1 .1 .1 .1 .0
+codePressed o = o .args .1 .1 .1 .1 .1 .1 .0
 
 -- key translation: "a code, lock .. and inverse", and its answer
 abbrev pub TranslateCall : Type 0
@@ -127,6 +127,7 @@ pub record Aside (b v e b′ : Buffers) : Type 0 where
   pub screen : Remains (b .screen) (v .screen) (e .screen) (b′ .screen)
   pub paper : Remains (b .paper) (v .paper) (e .paper) (b′ .paper)
   pub tape : Remains (b .tape) (v .tape) (e .tape) (b′ .tape)
+  pub images : Remains (b .images) (v .images) (e .images) (b′ .images)
 
 -- "any sequence of calls .., no second fresh start, the same state and lent buffers in every call but those answered 2"
 pub data RunByC : Buffers → List (CoreCall real) → Buffers → Type 0 where

@@ -30,8 +30,12 @@ use Rattle.cassette.specs.Cassette.{freshCassette}
 use Rattle.cassette.specs.Cassette as cassette
 use Rattle.layout.specs.Places.{consolePlace, printerPlace, printerLength, pendingLength, devicesLength, Numbers}
 use Rattle.layout.specs.Stick.{devices}
-use Rattle.layout.specs.Layout.{consoleBytes, printerBytes, cassetteBytes, pendingBytes, devicesBytes, consoleIn, printerIn}
+use Rattle.layout.specs.Layout.{consoleBytes, printerBytes, cassetteBytes, arrayBytes, devicesBytes, consoleIn, printerIn}
 use Rattle.layout.specs.InBytes.{Bytes}
+use Rattle.disk.specs.Disk.{freshPlaces}
+use Rattle.disk.specs.Disk as disk
+use Rattle.drives.specs.Drives.{diskLent, getDisk, putDisk}
+use Rattle.drives.proofs.Laws.{place-still}
 use Rattle.recorder.specs.Recorder.{tapeLent, getTape, putTape}
 use Rattle.recorder.proofs.Laws.{sets-part, tape-still}
 use Rattle.devices.specs.declared.Group.{Group}
@@ -39,7 +43,7 @@ use Rattle.devices.specs.declared.Group.the-variants as groups
 use Rattle.devices.specs.declared.Owner.{Owner}
 use Rattle.devices.specs.declared.Owner.the-variants as owner
 use Rattle.devices.specs.Groups.{groupNumber, clash, ownerOf}
-use Rattle.devices.specs.Lent.{DevicesLent, devicesLent, printerWith, withTape, getLent, putLent, lentActs, lentOf, freshGroups, Lends, Freshens}
+use Rattle.devices.specs.Lent.{DevicesLent, devicesLent, printerWith, withTape, withDisk, getLent, putLent, lentActs, lentOf, freshGroups, Lends, Freshens}
 use Rattle.layout.proofs.WriteRead.{bytes-drop, printer-back, Known, bytes-of}
 
 -- the numbers of two groups compared
@@ -74,33 +78,33 @@ printer-still b w h =
     let l : printerLength ≤ length (drop printerPlace b) = simp length-drop (omega (arith, h .long)) in
     ap (sets b printerPlace) (printer-back (drop printerPlace b) (bytes-drop printerPlace b w) l) ∙ sets-part printerPlace printerLength b (omega (arith, h .long))
 
-module _ (d : Device) (asked : Asked) (o : Owner) (own : o ≡ ownerOf d) (b after screen paper tape : List ℕ) where
+module _ (d : Device) (asked : Asked) (o : Owner) (own : o ≡ ownerOf d) (b after screen paper tape images : List ℕ) where
   abbrev lent : DevicesLent
-  lent = devicesLent b screen paper tape
+  lent = devicesLent b screen paper tape images
 
   module _ (h : Handler) (is : o ≡ owner.Console h) (c n : Console) (t : List ℕ) (in-c : c ≡ consoleIn (drop consolePlace b)) (in-n : after ≡ sets b consolePlace (consoleBytes n)) where
     console-arm : {A : Type 0} (f : ConsoleGroup → Answer A ConsoleGroup) (x : A) → answer x (group n t) ≡ f (group c screen)
-        → answer x (devicesLent after t paper tape) ≡ seen (putLent groups.Console lent) (f (getLent groups.Console lent))
+        → answer x (devicesLent after t paper tape images) ≡ seen (putLent groups.Console lent) (f (getLent groups.Console lent))
     console-arm f x q = rw in-n (ap (seen (putLent groups.Console lent)) (q ∙ ap (λ (y : Console). f (group y screen)) in-c))
 
-    pub open-console : (x : Done) → answer x (group n t) ≡ console.openOf h (asked .aux1) (asked .aux2) (group c screen) → answer x (devicesLent after t paper tape) ≡ lentActs d asked .opens lent
+    pub open-console : (x : Done) → answer x (group n t) ≡ console.openOf h (asked .aux1) (asked .aux2) (group c screen) → answer x (devicesLent after t paper tape images) ≡ lentActs d asked .opens lent
     open-console x q = rw (← own, is) (console-arm (console.openOf h (asked .aux1) (asked .aux2)) x q)
 
-    pub prepare-console : (x : Done) → answer x (group n t) ≡ console.prepareOf h (group c screen) → answer x (devicesLent after t paper tape) ≡ lentActs d asked .prepares lent
+    pub prepare-console : (x : Done) → answer x (group n t) ≡ console.prepareOf h (group c screen) → answer x (devicesLent after t paper tape images) ≡ lentActs d asked .prepares lent
     prepare-console x q = rw (← own, is) (console-arm (console.prepareOf h) x q)
 
-    pub read-console : (x : Got) → answer x (group n t) ≡ console.readOf h (group c screen) → answer x (devicesLent after t paper tape) ≡ lentActs d asked .reads lent
+    pub read-console : (x : Got) → answer x (group n t) ≡ console.readOf h (group c screen) → answer x (devicesLent after t paper tape images) ≡ lentActs d asked .reads lent
     read-console x q = rw (← own, is) (console-arm (console.readOf h) x q)
 
-    pub write-console : (byte : ℕ) (x : Done) → answer x (group n t) ≡ console.writeOf h byte (group c screen) → answer x (devicesLent after t paper tape) ≡ lentActs d asked .writes byte lent
+    pub write-console : (byte : ℕ) (x : Done) → answer x (group n t) ≡ console.writeOf h byte (group c screen) → answer x (devicesLent after t paper tape images) ≡ lentActs d asked .writes byte lent
     write-console byte x q = rw (← own, is) (console-arm (console.writeOf h byte) x q)
 
   module _ (h : Handler) (is : o ≡ owner.Console h) where
     module _ (c : Console) (in-c : c ≡ consoleIn (drop consolePlace b)) (in-n : after ≡ sets b consolePlace (consoleBytes c)) where
-      pub close-console : devicesLent after screen paper tape ≡ lentActs d asked .closes lent
+      pub close-console : devicesLent after screen paper tape images ≡ lentActs d asked .closes lent
       close-console = rw (in-n, in-c, ← own, is)
 
-      pub special-console : answer (done.Refused 0x84) (devicesLent after screen paper tape) ≡ lentActs d asked .specials lent
+      pub special-console : answer (done.Refused 0x84) (devicesLent after screen paper tape images) ≡ lentActs d asked .specials lent
       special-console = rw (in-n, in-c, ← own, is)
 
     pub status-console : done.Success ≡ lentActs d asked .statuses lent
@@ -109,7 +113,7 @@ module _ (d : Device) (asked : Asked) (o : Owner) (own : o ≡ ownerOf d) (b aft
   module _ (is : o ≡ owner.Printer) where
     module _ (w : Known b) (r : Lends b screen tape) where
       still : lent ≡ putLent groups.Printer lent (getLent groups.Printer lent)
-      still = ap (λ (x : List ℕ). devicesLent x screen paper tape) (sym (printer-still b (bytes-of b w) (r .all)))
+      still = ap (λ (x : List ℕ). devicesLent x screen paper tape images) (sym (printer-still b (bytes-of b w) (r .all)))
 
       pub open-printer : answer done.Success lent ≡ lentActs d asked .opens lent
       open-printer = rw (← own, is) (ap (answer done.Success) still)
@@ -127,7 +131,7 @@ module _ (d : Device) (asked : Asked) (o : Owner) (own : o ≡ ownerOf d) (b aft
       special-printer = rw (← own, is) (ap (answer (done.Refused 0x84)) still)
 
     pub write-printer : (p n : Printer) (t : List ℕ) (byte : ℕ) (x : Done) → p ≡ printerIn (drop printerPlace b) → after ≡ sets b printerPlace (printerBytes n)
-        → answer x (printerGroup (n .used) t) ≡ printer.putOf byte (printerGroup (p .used) paper) → answer x (devicesLent after screen t tape) ≡ lentActs d asked .writes byte lent
+        → answer x (printerGroup (n .used) t) ≡ printer.putOf byte (printerGroup (p .used) paper) → answer x (devicesLent after screen t tape images) ≡ lentActs d asked .writes byte lent
     write-printer p n t byte x in-p in-n q = rw (in-n, ← own, is) (ap (seen (putLent groups.Printer lent)) (q ∙ ap (λ (y : Printer). printer.putOf byte (printerGroup (y .used) paper)) in-p))
 
     pub status-printer : done.Success ≡ lentActs d asked .statuses lent
@@ -135,16 +139,16 @@ module _ (d : Device) (asked : Asked) (o : Owner) (own : o ≡ ownerOf d) (b aft
 
   module _ (is : o ≡ owner.Cassette) where
     module _ (t : List ℕ) where
-      pub open-cassette : (x : Done) → answer x (tapeLent after tape) ≡ seen (putTape b) (cassette.openOf (asked .aux1) (getTape b tape)) → answer x (devicesLent after screen paper tape) ≡ lentActs d asked .opens lent
+      pub open-cassette : (x : Done) → answer x (tapeLent after tape) ≡ seen (putTape b) (cassette.openOf (asked .aux1) (getTape b tape)) → answer x (devicesLent after screen paper tape images) ≡ lentActs d asked .opens lent
       open-cassette x q = rw (← own, is) (ap (seen (withTape lent)) q)
 
-      pub close-cassette : tapeLent after t ≡ putTape b (cassette.closeOf (getTape b tape)) → devicesLent after screen paper t ≡ lentActs d asked .closes lent
+      pub close-cassette : tapeLent after t ≡ putTape b (cassette.closeOf (getTape b tape)) → devicesLent after screen paper t images ≡ lentActs d asked .closes lent
       close-cassette q = rw (← own, is) (ap (withTape lent) q)
 
-      pub read-cassette : (x : Got) → answer x (tapeLent after tape) ≡ seen (putTape b) (cassette.readOf (getTape b tape)) → answer x (devicesLent after screen paper tape) ≡ lentActs d asked .reads lent
+      pub read-cassette : (x : Got) → answer x (tapeLent after tape) ≡ seen (putTape b) (cassette.readOf (getTape b tape)) → answer x (devicesLent after screen paper tape images) ≡ lentActs d asked .reads lent
       read-cassette x q = rw (← own, is) (ap (seen (withTape lent)) q)
 
-      pub write-cassette : (byte : ℕ) (x : Done) → answer x (tapeLent after t) ≡ seen (putTape b) (cassette.writeOf byte (getTape b tape)) → answer x (devicesLent after screen paper t) ≡ lentActs d asked .writes byte lent
+      pub write-cassette : (byte : ℕ) (x : Done) → answer x (tapeLent after t) ≡ seen (putTape b) (cassette.writeOf byte (getTape b tape)) → answer x (devicesLent after screen paper t images) ≡ lentActs d asked .writes byte lent
       write-cassette byte x q = rw (← own, is) (ap (seen (withTape lent)) q)
 
     module _ (r : Lends b screen tape) where
@@ -160,19 +164,46 @@ module _ (d : Device) (asked : Asked) (o : Owner) (own : o ≡ ownerOf d) (b aft
     pub status-cassette : done.Success ≡ lentActs d asked .statuses lent
     status-cassette = rw (← own, is)
 
+  module _ (is : o ≡ owner.Disk) where
+    pub open-disk : (x : Done) → answer x (diskLent after images) ≡ seen (putDisk b) (disk.diskActs asked .opens (getDisk b images)) → answer x (devicesLent after screen paper tape images) ≡ lentActs d asked .opens lent
+    open-disk x q = rw (← own, is) (ap (seen (withDisk lent)) q)
+
+    pub read-disk : (x : Got) → answer x (diskLent after images) ≡ seen (putDisk b) (disk.diskActs asked .reads (getDisk b images)) → answer x (devicesLent after screen paper tape images) ≡ lentActs d asked .reads lent
+    read-disk x q = rw (← own, is) (ap (seen (withDisk lent)) q)
+
+    pub status-disk : (x : Done) → x ≡ disk.diskActs asked .statuses (getDisk b images) → x ≡ lentActs d asked .statuses lent
+    status-disk x q = rw (← own, is) q
+
+    module _ (r : Lends b screen tape) where
+      -- a place put back as it was got changes nothing
+      kept : lent ≡ putLent groups.Disk lent (disk.putPlace (asked .port) (asked .iocb) (getDisk b images) (disk.getPlace (asked .port) (asked .iocb) (getDisk b images)))
+      kept = ap (withDisk lent) (sym (place-still b (r .all) (asked .port) (asked .iocb) images))
+
+      pub close-disk : lent ≡ lentActs d asked .closes lent
+      close-disk = rw (← own, is) kept
+
+      pub prepare-disk : answer done.Success lent ≡ lentActs d asked .prepares lent
+      prepare-disk = rw (← own, is) (ap (answer done.Success) kept)
+
+      pub write-disk : (byte : ℕ) → answer (done.Refused 0x87) lent ≡ lentActs d asked .writes byte lent
+      write-disk byte = rw (← own, is) (ap (answer (done.Refused 0x87)) kept)
+
+      pub special-disk : answer (done.Refused 0x84) lent ≡ lentActs d asked .specials lent
+      special-disk = rw (← own, is) (ap (answer (done.Refused 0x84)) kept)
+
 -- a fresh start writes every number
 module _ (numbers screen : List ℕ) (f : Freshens numbers screen) where
   pub freshens-long : Numbers numbers
   freshens-long = record { long = omega (arith, f .exact) }
 
   -- of a fresh printer and a fresh cassette every byte is 0
-  zeros : (c : Console) → sets (replicate devicesLength 0) consolePlace (consoleBytes c) ≡ devicesBytes (devices c freshPrinter freshCassette (replicate pendingLength 0))
-  unfolding devicesBytes consoleBytes printerBytes cassetteBytes pendingBytes
+  zeros : (c : Console) → sets (replicate devicesLength 0) consolePlace (consoleBytes c) ≡ devicesBytes (devices c freshPrinter freshCassette (replicate pendingLength 0) freshPlaces)
+  unfolding devicesBytes consoleBytes printerBytes cassetteBytes arrayBytes
   zeros c = refl
 
-  pub fresh-law : (c : Console) (mid after screen′ paper tape : List ℕ) → mid ≡ replicate (length numbers) 0 → group c screen′ ≡ freshGroup → after ≡ sets mid consolePlace (consoleBytes c)
-      → devicesLent after screen′ paper tape ≡ lentOf (freshGroups paper tape)
-  fresh-law c mid after screen′ paper tape m q a =
-      ap (λ (x : List ℕ). devicesLent x screen′ paper tape)
+  pub fresh-law : (c : Console) (mid after screen′ paper tape images : List ℕ) → mid ≡ replicate (length numbers) 0 → group c screen′ ≡ freshGroup → after ≡ sets mid consolePlace (consoleBytes c)
+      → devicesLent after screen′ paper tape images ≡ lentOf (freshGroups paper tape images)
+  fresh-law c mid after screen′ paper tape images m q a =
+      ap (λ (x : List ℕ). devicesLent x screen′ paper tape images)
       (a ∙ ap (λ (x : List ℕ). sets x consolePlace (consoleBytes c)) (m ∙ ap (λ (k : ℕ). replicate k 0) (f .exact)) ∙ zeros c)
-      ∙ ap (λ (x : ConsoleGroup). devicesLent (devicesBytes (devices (x .console) freshPrinter freshCassette (replicate pendingLength 0))) (x .screen) paper tape) q
+      ∙ ap (λ (x : ConsoleGroup). devicesLent (devicesBytes (devices (x .console) freshPrinter freshCassette (replicate pendingLength 0) freshPlaces)) (x .screen) paper tape images) q

@@ -6,8 +6,10 @@ use Prim.Native.Nat.{ℕ}
 use Rattle.base.specs.Decides.{Decides, Allows}
 use Rattle.handler.specs.declared.Got.{Got}
 use Rattle.handler.specs.declared.Done.{Done}
-use Rattle.handler.specs.Answer.{Answer}
-use Rattle.devices.specs.Lent.{DevicesLent}
+use denote.Ref.{now}
+use Rattle.handler.specs.Answer.{Answer, answer}
+use Rattle.devices.specs.Lent.{DevicesLent, devicesLent, lentActs}
+use Rattle.devices.proofs.Images.{images-kept, left-with}
 use Rattle.devices.proofs.owner_of.Kinds as owner-of-kinds
 use Rattle.devices.proofs.owner_of.Reads as owner-of-reads
 use Rattle.devices.proofs.group_of.Kinds as group-of-kinds
@@ -66,34 +68,49 @@ pub clashes-allows : Allows clashes-kinds.ps clashes-kinds.r clashes-reads.Pre c
 clashes-allows κs a p = (_, (_, refl))
 
 pub open-decides : Decides open-kinds.ps open-kinds.r open-reads.Pre open-reads.Learnt
-open-decides κs a z z′ ws ws′ p e e′ = let q = e ∙ sym e′ in (ap (λ (w : Answer Done DevicesLent). w .says) q, ap (λ (w : Answer Done DevicesLent). (tt, (tt, (w .leaves .numbers, (w .leaves .screen, (w .leaves .paper, (w .leaves .tape, tt))))))) q)
+open-decides κs a z z′ ws ws′ p e e′ = let q = e ∙ sym e′ in (ap (λ (w : Answer Done DevicesLent). w .says) q, ap (λ (w : Answer Done DevicesLent). (tt, (tt, (w .leaves .numbers, (w .leaves .screen, (w .leaves .paper, (w .leaves .tape, (tt, tt)))))))) q)
 
 pub open-allows : Allows open-kinds.ps open-kinds.r open-reads.Pre open-reads.Learnt
-open-allows κs a p = (_, (_, refl))
+open-allows κs a p =
+    let s = devicesLent (now (a .1 .1 .0)) (now (a .1 .1 .1 .0)) (now (a .1 .1 .1 .1 .0)) (now (a .1 .1 .1 .1 .1 .0)) (now (a .1 .1 .1 .1 .1 .1 .0)) in
+    let x = lentActs (a .0) (a .1 .0) .opens s in
+    (x .says, ((tt, (tt, (x .leaves .numbers, (x .leaves .screen, (x .leaves .paper, (x .leaves .tape, (tt, tt))))))), ap (answer (x .says)) (left-with (x .leaves) (s .images) (images-kept (a .0) (a .1 .0) .opens s))))
 
 pub close-decides : Decides close-kinds.ps close-kinds.r close-reads.Pre close-reads.Learnt
-close-decides κs a z z′ ws ws′ p e e′ = (refl, ap (λ (w : DevicesLent). (tt, (tt, (w .numbers, (w .screen, (w .paper, (w .tape, tt))))))) (e ∙ sym e′))
+close-decides κs a z z′ ws ws′ p e e′ = (refl, ap (λ (w : DevicesLent). (tt, (tt, (w .numbers, (w .screen, (w .paper, (w .tape, (tt, tt)))))))) (e ∙ sym e′))
 
 pub close-allows : Allows close-kinds.ps close-kinds.r close-reads.Pre close-reads.Learnt
-close-allows κs a p = (_, (_, refl))
+close-allows κs a p =
+    let s = devicesLent (now (a .1 .1 .0)) (now (a .1 .1 .1 .0)) (now (a .1 .1 .1 .1 .0)) (now (a .1 .1 .1 .1 .1 .0)) (now (a .1 .1 .1 .1 .1 .1 .0)) in
+    let x = lentActs (a .0) (a .1 .0) .closes s in
+    (tt, ((tt, (tt, (x .numbers, (x .screen, (x .paper, (x .tape, (tt, tt))))))), left-with x (s .images) (images-kept (a .0) (a .1 .0) .closes s)))
 
 pub prepare-decides : Decides prepare-kinds.ps prepare-kinds.r prepare-reads.Pre prepare-reads.Learnt
-prepare-decides κs a z z′ ws ws′ p e e′ = let q = e ∙ sym e′ in (ap (λ (w : Answer Done DevicesLent). w .says) q, ap (λ (w : Answer Done DevicesLent). (tt, (tt, (w .leaves .numbers, (w .leaves .screen, (w .leaves .paper, (w .leaves .tape, tt))))))) q)
+prepare-decides κs a z z′ ws ws′ p e e′ = let q = e ∙ sym e′ in (ap (λ (w : Answer Done DevicesLent). w .says) q, ap (λ (w : Answer Done DevicesLent). (tt, (tt, (w .leaves .numbers, (w .leaves .screen, (w .leaves .paper, (w .leaves .tape, (tt, tt)))))))) q)
 
 pub prepare-allows : Allows prepare-kinds.ps prepare-kinds.r prepare-reads.Pre prepare-reads.Learnt
-prepare-allows κs a p = (_, (_, refl))
+prepare-allows κs a p =
+    let s = devicesLent (now (a .1 .1 .0)) (now (a .1 .1 .1 .0)) (now (a .1 .1 .1 .1 .0)) (now (a .1 .1 .1 .1 .1 .0)) (now (a .1 .1 .1 .1 .1 .1 .0)) in
+    let x = lentActs (a .0) (a .1 .0) .prepares s in
+    (x .says, ((tt, (tt, (x .leaves .numbers, (x .leaves .screen, (x .leaves .paper, (x .leaves .tape, (tt, tt))))))), ap (answer (x .says)) (left-with (x .leaves) (s .images) (images-kept (a .0) (a .1 .0) .prepares s))))
 
 pub read-decides : Decides read-kinds.ps read-kinds.r read-reads.Pre read-reads.Learnt
-read-decides κs a z z′ ws ws′ p e e′ = let q = e ∙ sym e′ in (ap (λ (w : Answer Got DevicesLent). w .says) q, ap (λ (w : Answer Got DevicesLent). (tt, (tt, (w .leaves .numbers, (w .leaves .screen, (w .leaves .paper, (w .leaves .tape, tt))))))) q)
+read-decides κs a z z′ ws ws′ p e e′ = let q = e ∙ sym e′ in (ap (λ (w : Answer Got DevicesLent). w .says) q, ap (λ (w : Answer Got DevicesLent). (tt, (tt, (w .leaves .numbers, (w .leaves .screen, (w .leaves .paper, (w .leaves .tape, (tt, tt)))))))) q)
 
 pub read-allows : Allows read-kinds.ps read-kinds.r read-reads.Pre read-reads.Learnt
-read-allows κs a p = (_, (_, refl))
+read-allows κs a p =
+    let s = devicesLent (now (a .1 .1 .0)) (now (a .1 .1 .1 .0)) (now (a .1 .1 .1 .1 .0)) (now (a .1 .1 .1 .1 .1 .0)) (now (a .1 .1 .1 .1 .1 .1 .0)) in
+    let x = lentActs (a .0) (a .1 .0) .reads s in
+    (x .says, ((tt, (tt, (x .leaves .numbers, (x .leaves .screen, (x .leaves .paper, (x .leaves .tape, (tt, tt))))))), ap (answer (x .says)) (left-with (x .leaves) (s .images) (images-kept (a .0) (a .1 .0) .reads s))))
 
 pub write-decides : Decides write-kinds.ps write-kinds.r write-reads.Pre write-reads.Learnt
-write-decides κs a z z′ ws ws′ p e e′ = let q = e ∙ sym e′ in (ap (λ (w : Answer Done DevicesLent). w .says) q, ap (λ (w : Answer Done DevicesLent). (tt, (tt, (tt, (w .leaves .numbers, (w .leaves .screen, (w .leaves .paper, (w .leaves .tape, tt)))))))) q)
+write-decides κs a z z′ ws ws′ p e e′ = let q = e ∙ sym e′ in (ap (λ (w : Answer Done DevicesLent). w .says) q, ap (λ (w : Answer Done DevicesLent). (tt, (tt, (tt, (w .leaves .numbers, (w .leaves .screen, (w .leaves .paper, (w .leaves .tape, (tt, tt))))))))) q)
 
 pub write-allows : Allows write-kinds.ps write-kinds.r write-reads.Pre write-reads.Learnt
-write-allows κs a p = (_, (_, refl))
+write-allows κs a p =
+    let s = devicesLent (now (a .1 .1 .1 .0)) (now (a .1 .1 .1 .1 .0)) (now (a .1 .1 .1 .1 .1 .0)) (now (a .1 .1 .1 .1 .1 .1 .0)) (now (a .1 .1 .1 .1 .1 .1 .1 .0)) in
+    let x = lentActs (a .0) (a .1 .0) .writes (a .1 .1 .0) s in
+    (x .says, ((tt, (tt, (tt, (x .leaves .numbers, (x .leaves .screen, (x .leaves .paper, (x .leaves .tape, (tt, tt)))))))), ap (answer (x .says)) (left-with (x .leaves) (s .images) (images-kept (a .0) (a .1 .0) .writes (a .1 .1 .0) s))))
 
 pub status-decides : Decides status-kinds.ps status-kinds.r status-reads.Pre status-reads.Learnt
 status-decides κs a z z′ ws ws′ p e e′ = (e ∙ sym e′, refl)
@@ -102,13 +119,16 @@ pub status-allows : Allows status-kinds.ps status-kinds.r status-reads.Pre statu
 status-allows κs a p = (_, (_, refl))
 
 pub special-decides : Decides special-kinds.ps special-kinds.r special-reads.Pre special-reads.Learnt
-special-decides κs a z z′ ws ws′ p e e′ = let q = e ∙ sym e′ in (ap (λ (w : Answer Done DevicesLent). w .says) q, ap (λ (w : Answer Done DevicesLent). (tt, (tt, (w .leaves .numbers, (w .leaves .screen, (w .leaves .paper, (w .leaves .tape, tt))))))) q)
+special-decides κs a z z′ ws ws′ p e e′ = let q = e ∙ sym e′ in (ap (λ (w : Answer Done DevicesLent). w .says) q, ap (λ (w : Answer Done DevicesLent). (tt, (tt, (w .leaves .numbers, (w .leaves .screen, (w .leaves .paper, (w .leaves .tape, (tt, tt)))))))) q)
 
 pub special-allows : Allows special-kinds.ps special-kinds.r special-reads.Pre special-reads.Learnt
-special-allows κs a p = (_, (_, refl))
+special-allows κs a p =
+    let s = devicesLent (now (a .1 .1 .0)) (now (a .1 .1 .1 .0)) (now (a .1 .1 .1 .1 .0)) (now (a .1 .1 .1 .1 .1 .0)) (now (a .1 .1 .1 .1 .1 .1 .0)) in
+    let x = lentActs (a .0) (a .1 .0) .specials s in
+    (x .says, ((tt, (tt, (x .leaves .numbers, (x .leaves .screen, (x .leaves .paper, (x .leaves .tape, (tt, tt))))))), ap (answer (x .says)) (left-with (x .leaves) (s .images) (images-kept (a .0) (a .1 .0) .specials s))))
 
 pub fresh-decides : Decides fresh-kinds.ps fresh-kinds.r fresh-reads.Pre fresh-reads.Learnt
-fresh-decides κs a z z′ ws ws′ p e e′ = (refl, ap (λ (w : DevicesLent). (w .numbers, (w .screen, (tt, (tt, tt))))) (e ∙ sym e′))
+fresh-decides κs a z z′ ws ws′ p e e′ = (refl, ap (λ (w : DevicesLent). (w .numbers, (w .screen, (tt, (tt, (tt, tt)))))) (e ∙ sym e′))
 
 pub fresh-allows : Allows fresh-kinds.ps fresh-kinds.r fresh-reads.Pre fresh-reads.Learnt
 fresh-allows κs a p = (_, (_, refl))

@@ -19,18 +19,21 @@ get-put group.Nobody x s = refl
 get-put group.Console x s = refl
 get-put group.Printer x s = refl
 get-put group.Cassette x s = refl
+get-put group.Disk x s = refl
 
 pub put-get : (g : Group) (s : Groups) → putGroup g s (getGroup g s) ≡ s
 put-get group.Nobody s = refl
 put-get group.Console s = refl
 put-get group.Printer s = refl
 put-get group.Cassette s = refl
+put-get group.Disk s = refl
 
 pub put-put : (g : Group) (x y : Part g) (s : Groups) → putGroup g (putGroup g s y) x ≡ putGroup g s x
 put-put group.Nobody x y s = refl
 put-put group.Console x y s = refl
 put-put group.Printer x y s = refl
 put-put group.Cassette x y s = refl
+put-put group.Disk x y s = refl
 
 pub get-apart : (g h : Group) (y : Part h) (s : Groups) → clash g h ≡ false → getGroup g (putGroup h s y) ≡ getGroup g s
 get-apart group.Nobody h y s e = refl
@@ -38,14 +41,22 @@ get-apart group.Console group.Nobody y s e = refl
 get-apart group.Console group.Console y s e = absurd (true≢false e)
 get-apart group.Console group.Printer y s e = refl
 get-apart group.Console group.Cassette y s e = refl
+get-apart group.Console group.Disk y s e = refl
 get-apart group.Printer group.Nobody y s e = refl
 get-apart group.Printer group.Console y s e = refl
 get-apart group.Printer group.Printer y s e = absurd (true≢false e)
 get-apart group.Printer group.Cassette y s e = refl
+get-apart group.Printer group.Disk y s e = refl
 get-apart group.Cassette group.Nobody y s e = refl
 get-apart group.Cassette group.Console y s e = refl
 get-apart group.Cassette group.Printer y s e = refl
 get-apart group.Cassette group.Cassette y s e = absurd (true≢false e)
+get-apart group.Cassette group.Disk y s e = refl
+get-apart group.Disk group.Nobody y s e = refl
+get-apart group.Disk group.Console y s e = refl
+get-apart group.Disk group.Printer y s e = refl
+get-apart group.Disk group.Cassette y s e = refl
+get-apart group.Disk group.Disk y s e = absurd (true≢false e)
 
 pub put-apart : (g h : Group) (x : Part g) (y : Part h) (s : Groups) → clash g h ≡ false → putGroup g (putGroup h s y) x ≡ putGroup h (putGroup g s x) y
 put-apart group.Nobody h x y s e = refl
@@ -53,24 +64,33 @@ put-apart group.Console group.Nobody x y s e = refl
 put-apart group.Console group.Console x y s e = absurd (true≢false e)
 put-apart group.Console group.Printer x y s e = refl
 put-apart group.Console group.Cassette x y s e = refl
+put-apart group.Console group.Disk x y s e = refl
 put-apart group.Printer group.Nobody x y s e = refl
 put-apart group.Printer group.Console x y s e = refl
 put-apart group.Printer group.Printer x y s e = absurd (true≢false e)
 put-apart group.Printer group.Cassette x y s e = refl
+put-apart group.Printer group.Disk x y s e = refl
 put-apart group.Cassette group.Nobody x y s e = refl
 put-apart group.Cassette group.Console x y s e = refl
 put-apart group.Cassette group.Printer x y s e = refl
 put-apart group.Cassette group.Cassette x y s e = absurd (true≢false e)
+put-apart group.Cassette group.Disk x y s e = refl
+put-apart group.Disk group.Nobody x y s e = refl
+put-apart group.Disk group.Console x y s e = refl
+put-apart group.Disk group.Printer x y s e = refl
+put-apart group.Disk group.Cassette x y s e = refl
+put-apart group.Disk group.Disk x y s e = absurd (true≢false e)
 
 -- a group by its number
 abbrev groupBy : ℕ → Group
-groupBy n = pick (eqb n 1) group.Console (pick (eqb n 2) group.Printer (pick (eqb n 3) group.Cassette group.Nobody))
+groupBy n = pick (eqb n 1) group.Console (pick (eqb n 2) group.Printer (pick (eqb n 3) group.Cassette (pick (eqb n 4) group.Disk group.Nobody)))
 
 by-number : (g : Group) → groupBy (groupNumber g) ≡ g
 by-number group.Nobody = refl
 by-number group.Console = refl
 by-number group.Printer = refl
 by-number group.Cassette = refl
+by-number group.Disk = refl
 
 same-number : (g h : Group) → groupNumber g ≡ groupNumber h → g ≡ h
 same-number g h e = sym (by-number g) ∙ ap groupBy e ∙ by-number h

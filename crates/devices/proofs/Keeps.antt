@@ -1,10 +1,11 @@
 -- An undamaged group goes into its bytes, and an opening leaves it undamaged; so does SPECIAL.
 -- Assumes nothing.
-use mathlib.Core.Path.{_≡_}
+use mathlib.Core.Path.{_≡_, _∙_}
 use mathlib.Core.Bool.{Bool, true, false}
 use Prim.Native.Nat.{ℕ, _≤_, _<_}
 use native.Mathlib.Omega.{arith}
 use lib.Dec.{leb, ltb}
+use lib.Seq.{length-sets}
 use borrow.Author.Tests.{eq-eqb, ne-eqb, ltb-true, leb-true}
 use Rattle.base.specs.Choice.{and, within}
 use Rattle.base.proofs.Choices.{by-eq, and-left, and-right}
@@ -18,6 +19,7 @@ use Rattle.console.specs.Fit.{cursorFits, readingFits, keysFit, fitOf, FitGroup
 use Rattle.layout.specs.InBytes.{ReadingInBytes}
 use Rattle.console.proofs.Keeps.{open-fit}
 use Rattle.cassette.proofs.Keeps as cassette-keeps
+use Rattle.disk.proofs.Keeps.{open-places}
 use Rattle.devices.specs.declared.Owner.{Owner}
 use Rattle.devices.specs.declared.Owner.the-variants as owner
 use Rattle.devices.specs.Groups.{Groups, Part, getGroup, groupIn, ownActs}
@@ -27,16 +29,19 @@ pub fit-at : (o : Owner) (s : Groups) → FitGroups s → FitPart (groupIn o) (g
 fit-at (owner.Console h) s f = f .console
 fit-at owner.Printer s f = f .printer
 fit-at owner.Cassette s f = f .cassette
+fit-at owner.Disk s f = f .disk
 
 pub opens-fit : (o : Owner) (asked : Asked) (x : Part (groupIn o)) → FitPart (groupIn o) x → FitPart (groupIn o) (ownActs o asked .opens x .leaves)
 opens-fit (owner.Console h) asked x f = open-fit x f h (asked .aux1) (asked .aux2)
 opens-fit owner.Printer asked x f = f
 opens-fit owner.Cassette asked x f = cassette-keeps.open-fit (asked .aux1) x f
+opens-fit owner.Disk asked x f = record { places = open-places asked x ∙ f .places; images = f .images }
 
 pub specials-fit : (o : Owner) (asked : Asked) (x : Part (groupIn o)) → FitPart (groupIn o) x → FitPart (groupIn o) (ownActs o asked .specials x .leaves)
 specials-fit (owner.Console h) asked x f = f
 specials-fit owner.Printer asked x f = f
 specials-fit owner.Cassette asked x f = f
+specials-fit owner.Disk asked x f = record { places = simp length-sets (f .places); images = f .images }
 
 row-in : (mode row column : ℕ) → cursorFits mode row column ≡ true → row < 256
 unfolding cursorFits
@@ -76,3 +81,4 @@ pub goes-in : (o : Owner) (x : Part (groupIn o)) → FitPart (groupIn o) x → G
 goes-in (owner.Console h) x f = (console-row (x .console) (f .fit), console-reading (x .console) (f .fit))
 goes-in owner.Printer x f = tt
 goes-in owner.Cassette x f = f .pending
+goes-in owner.Disk x f = f .places

@@ -20,12 +20,13 @@ use Rattle.console.specs.Fit.{FitGroup}
 use Rattle.printer.specs.declared.Printer.{Printer}
 use Rattle.printer.specs.Printer.{PrinterGroup, printerGroup}
 use Rattle.cassette.specs.declared.Cassette.{Cassette}
-use Rattle.layout.specs.Places.{consolePlace, printerPlace, cassettePlace, pendingPlace, pendingLength}
+use Rattle.disk.specs.Disk.{placesLength}
+use Rattle.layout.specs.Places.{consolePlace, printerPlace, cassettePlace, pendingPlace, pendingLength, diskPlace}
 use Rattle.layout.specs.Stick.{Devices, devices}
-use Rattle.layout.specs.Layout.{consoleBytes, printerBytes, cassetteBytes, pendingBytes, devicesBytes, consoleIn, printerIn, cassetteIn, pendingIn}
+use Rattle.layout.specs.Layout.{consoleBytes, printerBytes, cassetteBytes, arrayBytes, devicesBytes, consoleIn, printerIn, cassetteIn, arrayIn}
 use Rattle.layout.specs.InBytes.{ReadingInBytes}
-use Rattle.layout.proofs.Lengths.{console-length, printer-length, cassette-length, pending-length}
-use Rattle.layout.proofs.ReadWrite.{console-in, printer-in, cassette-in, pending-in}
+use Rattle.layout.proofs.Lengths.{console-length, printer-length, cassette-length, array-length}
+use Rattle.layout.proofs.ReadWrite.{console-in, printer-in, cassette-in, pending-in, places-in}
 use Rattle.devices.specs.declared.Group.{Group}
 use Rattle.devices.specs.declared.Group.the-variants as groups
 use Rattle.devices.specs.declared.Owner.{Owner}
@@ -47,35 +48,52 @@ module _ (d : Devices) where
   t0 = cassetteBytes (d .cassette)
 
   abbrev w0 : List ℕ
-  w0 = pendingBytes (d .pending)
+  w0 = arrayBytes pendingLength (d .pending)
 
-  consoles : (c : Console) → sets (devicesBytes d) consolePlace (consoleBytes c) ≡ devicesBytes (devices c (d .printer) (d .cassette) (d .pending))
+  abbrev l0 : List ℕ
+  l0 = arrayBytes placesLength (d .places)
+
+  consoles : (c : Console) → sets (devicesBytes d) consolePlace (consoleBytes c) ≡ devicesBytes (devices c (d .printer) (d .cassette) (d .pending) (d .places))
   unfolding devicesBytes
-  consoles c = sets-over [] c0 (consoleBytes c) (u0 ++ (t0 ++ w0)) 0 refl (console-length (d .console) ∙ sym (console-length c))
+  consoles c = sets-over [] c0 (consoleBytes c) (u0 ++ (t0 ++ (w0 ++ l0))) 0 refl (console-length (d .console) ∙ sym (console-length c))
 
-  printers : (u : Printer) → sets (devicesBytes d) printerPlace (printerBytes u) ≡ devicesBytes (devices (d .console) u (d .cassette) (d .pending))
+  printers : (u : Printer) → sets (devicesBytes d) printerPlace (printerBytes u) ≡ devicesBytes (devices (d .console) u (d .cassette) (d .pending) (d .places))
   unfolding devicesBytes
-  printers u = sets-over c0 u0 (printerBytes u) (t0 ++ w0) printerPlace (console-length (d .console)) (printer-length (d .printer) ∙ sym (printer-length u))
+  printers u = sets-over c0 u0 (printerBytes u) (t0 ++ (w0 ++ l0)) printerPlace (console-length (d .console)) (printer-length (d .printer) ∙ sym (printer-length u))
 
-  two : (u : Cassette) (w : List ℕ) → length (t0 ++ w0) ≡ length (cassetteBytes u ++ pendingBytes w)
-  two u w = simp (length-append, cassette-length (d .cassette), pending-length (d .pending), cassette-length u, pending-length w)
+  two : (u : Cassette) (w : List ℕ) → length (t0 ++ w0) ≡ length (cassetteBytes u ++ arrayBytes pendingLength w)
+  two u w = simp (length-append, cassette-length (d .cassette), array-length pendingLength (d .pending), cassette-length u, array-length pendingLength w)
 
-  cassettes : (u : Cassette) (w : List ℕ) → sets (devicesBytes d) cassettePlace (cassetteBytes u ++ pendingBytes w) ≡ devicesBytes (devices (d .console) (d .printer) u w)
+  cassettes : (u : Cassette) (w : List ℕ) → sets (devicesBytes d) cassettePlace (cassetteBytes u ++ arrayBytes pendingLength w) ≡ devicesBytes (devices (d .console) (d .printer) u w (d .places))
   unfolding devicesBytes
   cassettes u w =
-      let new = cassetteBytes u ++ pendingBytes w in
+      let new = cassetteBytes u ++ arrayBytes pendingLength w in
       let l : length (c0 ++ u0) ≡ cassettePlace = simp (length-append, console-length (d .console), printer-length (d .printer)) in
-      ap (λ (x : List ℕ). sets x cassettePlace new) (sym (append-assoc c0 u0 (t0 ++ w0)) ∙ ap (λ (x : List ℕ). (c0 ++ u0) ++ x) (sym (append-nil (t0 ++ w0))))
-      ∙ sets-over (c0 ++ u0) (t0 ++ w0) new [] cassettePlace l (two u w)
-      ∙ ap (λ (x : List ℕ). (c0 ++ u0) ++ x) (append-nil new) ∙ append-assoc c0 u0 new
+      ap (λ (x : List ℕ). sets x cassettePlace new) (sym (append-assoc c0 u0 (t0 ++ (w0 ++ l0))) ∙ ap (λ (x : List ℕ). (c0 ++ u0) ++ x) (sym (append-assoc t0 w0 l0)))
+      ∙ sets-over (c0 ++ u0) (t0 ++ w0) new l0 cassettePlace l (two u w)
+      ∙ ap (λ (x : List ℕ). (c0 ++ u0) ++ x) (append-assoc (cassetteBytes u) (arrayBytes pendingLength w) l0)
+      ∙ append-assoc c0 u0 (cassetteBytes u ++ (arrayBytes pendingLength w ++ l0))
+
+  disks : (w : List ℕ) → sets (devicesBytes d) diskPlace (arrayBytes placesLength w) ≡ devicesBytes (devices (d .console) (d .printer) (d .cassette) (d .pending) w)
+  unfolding devicesBytes
+  disks w =
+      let new = arrayBytes placesLength w in
+      let front = c0 ++ (u0 ++ (t0 ++ w0)) in
+      let l : length front ≡ diskPlace = simp (length-append, console-length (d .console), printer-length (d .printer), cassette-length (d .cassette), array-length pendingLength (d .pending)) in
+      let joined : (xs : List ℕ) → c0 ++ (u0 ++ (t0 ++ (w0 ++ xs))) ≡ front ++ xs = λ xs. simp append-assoc in
+      ap (λ (x : List ℕ). sets x diskPlace new) (joined l0 ∙ ap (λ (x : List ℕ). front ++ x) (sym (append-nil l0)))
+      ∙ sets-over front l0 new [] diskPlace l (array-length placesLength (d .places) ∙ sym (array-length placesLength w))
+      ∙ ap (λ (x : List ℕ). front ++ x) (append-nil new) ∙ sym (joined new)
 
 pub put-lent : (o : Owner) (y : Part (groupIn o)) (G : Groups) → putLent (groupIn o) (lentOf G) y ≡ lentOf (putGroup (groupIn o) G y)
 put-lent (owner.Console h) y G =
-    ap (λ (b : List ℕ). devicesLent b (y .screen) (G .printer .paper) (G .cassette .tape)) (consoles (devicesOf G) (y .console))
+    ap (λ (b : List ℕ). devicesLent b (y .screen) (G .printer .paper) (G .cassette .tape) (G .disk .images)) (consoles (devicesOf G) (y .console))
 put-lent owner.Printer y G =
-    ap (λ (b : List ℕ). devicesLent b (G .console .screen) (y .paper) (G .cassette .tape)) (printers (devicesOf G) (printerWith (y .used)))
+    ap (λ (b : List ℕ). devicesLent b (G .console .screen) (y .paper) (G .cassette .tape) (G .disk .images)) (printers (devicesOf G) (printerWith (y .used)))
 put-lent owner.Cassette y G =
-    ap (λ (b : List ℕ). devicesLent b (G .console .screen) (G .printer .paper) (y .tape)) (cassettes (devicesOf G) (y .cassette) (y .pending))
+    ap (λ (b : List ℕ). devicesLent b (G .console .screen) (G .printer .paper) (y .tape) (G .disk .images)) (cassettes (devicesOf G) (y .cassette) (y .pending))
+put-lent owner.Disk y G =
+    ap (λ (b : List ℕ). devicesLent b (G .console .screen) (G .printer .paper) (G .cassette .tape) (y .images)) (disks (devicesOf G) (y .places))
 
 -- what is read of the devices' bytes, with nothing behind them
 module _ (d : Devices) where
@@ -91,8 +109,11 @@ module _ (d : Devices) where
   own-cassette : cassetteIn (drop cassettePlace (devicesBytes d)) ≡ d .cassette
   own-cassette = ap (λ (b : List ℕ). cassetteIn (drop cassettePlace b)) (sym end) ∙ cassette-in d []
 
-  own-pending : length (d .pending) ≡ pendingLength → pendingIn (drop pendingPlace (devicesBytes d)) ≡ d .pending
-  own-pending l = ap (λ (b : List ℕ). pendingIn (drop pendingPlace b)) (sym end) ∙ pending-in d [] l
+  own-pending : length (d .pending) ≡ pendingLength → arrayIn pendingLength (drop pendingPlace (devicesBytes d)) ≡ d .pending
+  own-pending l = ap (λ (b : List ℕ). arrayIn pendingLength (drop pendingPlace b)) (sym end) ∙ pending-in d [] l
+
+  own-places : length (d .places) ≡ placesLength → arrayIn placesLength (drop diskPlace (devicesBytes d)) ≡ d .places
+  own-places l = ap (λ (b : List ℕ). arrayIn placesLength (drop diskPlace b)) (sym end) ∙ places-in d [] l
 
 get-lent : (o : Owner) (y : Part (groupIn o)) (G : Groups) → GoesIn (groupIn o) y → getLent (groupIn o) (lentOf (putGroup (groupIn o) G y)) ≡ y
 get-lent (owner.Console h) y G k =
@@ -102,6 +123,9 @@ get-lent owner.Printer y G k =
 get-lent owner.Cassette y G k =
     let d = devicesOf (putGroup groups.Cassette G y) in
     rw (own-cassette d, own-pending d k)
+get-lent owner.Disk y G k =
+    let d = devicesOf (putGroup groups.Disk G y) in
+    rw (own-places d k)
 
 -- of what is lent of these groups, and is read as them
 module _ (S : DevicesLent) (G : Groups) (is : S ≡ lentOf G) where

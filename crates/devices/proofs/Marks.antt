@@ -8,7 +8,7 @@ use lib.ListN.{length, getD, set}
 use Rattle.base.specs.Choice.{bit}
 use Rattle.base.proofs.Choices.{pick-go}
 use Rattle.blocks.specs.declared.Device.{Device}
-use Rattle.blocks.specs.declared.Device.the-variants.{E, S, K, P, C}
+use Rattle.blocks.specs.declared.Device.the-variants.{E, S, K, P, C, D}
 use Rattle.blocks.specs.declared.BlockState.{BlockState}
 use Rattle.blocks.specs.declared.BlockState.the-variants as block
 use Rattle.blocks.specs.declared.ControlBlock.{ControlBlock}
@@ -29,6 +29,7 @@ on-low S aux1 = omega arith
 on-low K aux1 = omega arith
 on-low P aux1 = omega arith
 on-low C aux1 = mark-low aux1
+on-low D aux1 = omega arith
 
 at-low : (s : BlockState) → tapeAt s ≤ markAt s
 at-low block.Closed = omega arith
@@ -40,6 +41,7 @@ on-high S aux1 = omega arith
 on-high K aux1 = omega arith
 on-high P aux1 = omega arith
 on-high C aux1 = mark-high aux1
+on-high D aux1 = omega arith
 
 at-high : (s : BlockState) → markAt s ≤ 3 * tapeAt s
 at-high block.Closed = omega arith

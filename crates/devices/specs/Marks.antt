@@ -7,7 +7,7 @@ use Prim.Native.Nat.{ℕ, _+_}
 use lib.Dec.{eqb, leb}
 use Rattle.base.specs.Choice.{and}
 use Rattle.blocks.specs.declared.Device.{Device}
-use Rattle.blocks.specs.declared.Device.the-variants.{E, S, K, P, C}
+use Rattle.blocks.specs.declared.Device.the-variants.{E, S, K, P, C, D}
 use Rattle.blocks.specs.declared.BlockState.{BlockState}
 use Rattle.blocks.specs.declared.BlockState.the-variants as block
 use Rattle.blocks.specs.declared.ControlBlock.{ControlBlock}
@@ -21,6 +21,7 @@ tapeOn S = 0
 tapeOn K = 0
 tapeOn P = 0
 tapeOn C = 1
+tapeOn D = 0
 
 abbrev pub tapeAt : BlockState → ℕ
 tapeAt block.Closed = 0
@@ -33,6 +34,7 @@ markOn S aux1 = 0
 markOn K aux1 = 0
 markOn P aux1 = 0
 markOn C aux1 = markOf aux1
+markOn D aux1 = 0
 
 abbrev pub markAt : BlockState → ℕ
 markAt block.Closed = 0

@@ -12,6 +12,7 @@ use handler::Done;
 use handler::Got;
 ghost use mathlib.Core.Path.{_≡_};
 ghost use Rattle.handler.specs.Answer.{answer};
+ghost use Rattle.layout.specs.Places.{Numbers};
 ghost use Rattle.devices.specs.Groups.{ownerOf, groupOf, heldOf, groupNumber, clash};
 ghost use Rattle.devices.specs.Lent.{Lends, devicesLent, lentActs};
 
@@ -21,6 +22,7 @@ pub enum Group {
     Console,
     Printer,
     Cassette,
+    Disk,
 }
 
 // A device's group, and its handler there.
@@ -28,6 +30,7 @@ pub enum Owner {
     Console(Handler),
     Printer,
     Cassette,
+    Disk,
 }
 
 pub fn owner_of(device: Device) -> Owner
@@ -39,6 +42,7 @@ pub fn owner_of(device: Device) -> Owner
         Device::K => Owner::Console(Handler::K),
         Device::P => Owner::Printer,
         Device::C => Owner::Cassette,
+        Device::D => Owner::Disk,
     }
 }
 
@@ -51,6 +55,7 @@ pub fn group_of(device: Device) -> Group
         Device::K => Group::Console,
         Device::P => Group::Printer,
         Device::C => Group::Cassette,
+        Device::D => Group::Disk,
     }
 }
 
@@ -77,6 +82,7 @@ fn group_number(group: Group) -> u8
         Group::Console => 1,
         Group::Printer => 2,
         Group::Cassette => 3,
+        Group::Disk => 4,
     }
 }
 
@@ -99,9 +105,10 @@ pub fn open(
     screen: &mut [u8],
     paper: &mut [u8],
     tape: &mut [u8],
+    images: &[u8],
 ) -> Done
     requires { ⌜ Lends (now numbers) (now screen) (now tape) ⌝ }
-    ensures { λ r. ⌜ answer r (devicesLent (now (numbers .exit)) (now (screen .exit)) (now (paper .exit)) (now (tape .exit))) ≡ lentActs device asked .opens (devicesLent (now (numbers .entry)) (now (screen .entry)) (now (paper .entry)) (now (tape .entry))) ⌝ }
+    ensures { λ r. ⌜ answer r (devicesLent (now (numbers .exit)) (now (screen .exit)) (now (paper .exit)) (now (tape .exit)) (now (images .entry))) ≡ lentActs device asked .opens (devicesLent (now (numbers .entry)) (now (screen .entry)) (now (paper .entry)) (now (tape .entry)) (now (images .entry))) ⌝ }
 {
     let owner = owner_of(device);
     match owner {
@@ -115,6 +122,7 @@ pub fn open(
         }
         Owner::Printer => Done::Success,
         Owner::Cassette => recorder::open(numbers, tape, asked.aux1),
+        Owner::Disk => drives::open(numbers, images, asked),
     }
 }
 
@@ -126,9 +134,10 @@ pub fn close(
     screen: &mut [u8],
     paper: &mut [u8],
     tape: &mut [u8],
+    images: &[u8],
 )
     requires { ⌜ Lends (now numbers) (now screen) (now tape) ⌝ }
-    ensures { λ _. ⌜ devicesLent (now (numbers .exit)) (now (screen .exit)) (now (paper .exit)) (now (tape .exit)) ≡ lentActs device asked .closes (devicesLent (now (numbers .entry)) (now (screen .entry)) (now (paper .entry)) (now (tape .entry))) ⌝ }
+    ensures { λ _. ⌜ devicesLent (now (numbers .exit)) (now (screen .exit)) (now (paper .exit)) (now (tape .exit)) (now (images .entry)) ≡ lentActs device asked .closes (devicesLent (now (numbers .entry)) (now (screen .entry)) (now (paper .entry)) (now (tape .entry)) (now (images .entry))) ⌝ }
 {
     let owner = owner_of(device);
     match owner {
@@ -138,6 +147,7 @@ pub fn close(
         }
         Owner::Printer => {}
         Owner::Cassette => recorder::close(numbers, tape),
+        Owner::Disk => {}
     }
 }
 
@@ -149,9 +159,10 @@ pub fn prepare(
     screen: &mut [u8],
     paper: &mut [u8],
     tape: &mut [u8],
+    images: &[u8],
 ) -> Done
     requires { ⌜ Lends (now numbers) (now screen) (now tape) ⌝ }
-    ensures { λ r. ⌜ answer r (devicesLent (now (numbers .exit)) (now (screen .exit)) (now (paper .exit)) (now (tape .exit))) ≡ lentActs device asked .prepares (devicesLent (now (numbers .entry)) (now (screen .entry)) (now (paper .entry)) (now (tape .entry))) ⌝ }
+    ensures { λ r. ⌜ answer r (devicesLent (now (numbers .exit)) (now (screen .exit)) (now (paper .exit)) (now (tape .exit)) (now (images .entry))) ≡ lentActs device asked .prepares (devicesLent (now (numbers .entry)) (now (screen .entry)) (now (paper .entry)) (now (tape .entry)) (now (images .entry))) ⌝ }
 {
     let owner = owner_of(device);
     match owner {
@@ -165,6 +176,7 @@ pub fn prepare(
         }
         Owner::Printer => Done::Success,
         Owner::Cassette => Done::Success,
+        Owner::Disk => Done::Success,
     }
 }
 
@@ -176,9 +188,10 @@ pub fn read(
     screen: &mut [u8],
     paper: &mut [u8],
     tape: &mut [u8],
+    images: &[u8],
 ) -> Got
     requires { ⌜ Lends (now numbers) (now screen) (now tape) ⌝ }
-    ensures { λ r. ⌜ answer r (devicesLent (now (numbers .exit)) (now (screen .exit)) (now (paper .exit)) (now (tape .exit))) ≡ lentActs device asked .reads (devicesLent (now (numbers .entry)) (now (screen .entry)) (now (paper .entry)) (now (tape .entry))) ⌝ }
+    ensures { λ r. ⌜ answer r (devicesLent (now (numbers .exit)) (now (screen .exit)) (now (paper .exit)) (now (tape .exit)) (now (images .entry))) ≡ lentActs device asked .reads (devicesLent (now (numbers .entry)) (now (screen .entry)) (now (paper .entry)) (now (tape .entry)) (now (images .entry))) ⌝ }
 {
     let owner = owner_of(device);
     match owner {
@@ -192,6 +205,7 @@ pub fn read(
         }
         Owner::Printer => Got::Refused(0x83),
         Owner::Cassette => recorder::read(numbers, tape),
+        Owner::Disk => drives::read(numbers, images, asked),
     }
 }
 
@@ -204,9 +218,10 @@ pub fn write(
     screen: &mut [u8],
     paper: &mut [u8],
     tape: &mut [u8],
+    images: &[u8],
 ) -> Done
     requires { ⌜ Lends (now numbers) (now screen) (now tape) ⌝ }
-    ensures { λ r. ⌜ answer r (devicesLent (now (numbers .exit)) (now (screen .exit)) (now (paper .exit)) (now (tape .exit))) ≡ lentActs device asked .writes byte (devicesLent (now (numbers .entry)) (now (screen .entry)) (now (paper .entry)) (now (tape .entry))) ⌝ }
+    ensures { λ r. ⌜ answer r (devicesLent (now (numbers .exit)) (now (screen .exit)) (now (paper .exit)) (now (tape .exit)) (now (images .entry))) ≡ lentActs device asked .writes byte (devicesLent (now (numbers .entry)) (now (screen .entry)) (now (paper .entry)) (now (tape .entry)) (now (images .entry))) ⌝ }
 {
     let owner = owner_of(device);
     match owner {
@@ -227,6 +242,7 @@ pub fn write(
             done
         }
         Owner::Cassette => recorder::write(numbers, tape, byte),
+        Owner::Disk => Done::Refused(0x87),
     }
 }
 
@@ -238,14 +254,17 @@ pub fn status(
     screen: &[u8],
     paper: &[u8],
     tape: &[u8],
+    images: &[u8],
 ) -> Done
-    ensures { λ r. ⌜ r ≡ lentActs device asked .statuses (devicesLent (now (numbers .entry)) (now (screen .entry)) (now (paper .entry)) (now (tape .entry))) ⌝ }
+    requires { ⌜ Numbers (now numbers) ⌝ }
+    ensures { λ r. ⌜ r ≡ lentActs device asked .statuses (devicesLent (now (numbers .entry)) (now (screen .entry)) (now (paper .entry)) (now (tape .entry)) (now (images .entry))) ⌝ }
 {
     let owner = owner_of(device);
     match owner {
         Owner::Console(handler) => Done::Success,
         Owner::Printer => Done::Success,
         Owner::Cassette => Done::Success,
+        Owner::Disk => drives::status(numbers, images, asked),
     }
 }
 
@@ -257,9 +276,10 @@ pub fn special(
     screen: &mut [u8],
     paper: &mut [u8],
     tape: &mut [u8],
+    images: &[u8],
 ) -> Done
     requires { ⌜ Lends (now numbers) (now screen) (now tape) ⌝ }
-    ensures { λ r. ⌜ answer r (devicesLent (now (numbers .exit)) (now (screen .exit)) (now (paper .exit)) (now (tape .exit))) ≡ lentActs device asked .specials (devicesLent (now (numbers .entry)) (now (screen .entry)) (now (paper .entry)) (now (tape .entry))) ⌝ }
+    ensures { λ r. ⌜ answer r (devicesLent (now (numbers .exit)) (now (screen .exit)) (now (paper .exit)) (now (tape .exit)) (now (images .entry))) ≡ lentActs device asked .specials (devicesLent (now (numbers .entry)) (now (screen .entry)) (now (paper .entry)) (now (tape .entry)) (now (images .entry))) ⌝ }
 {
     let owner = owner_of(device);
     match owner {
@@ -270,5 +290,6 @@ pub fn special(
         }
         Owner::Printer => Done::Refused(0x84),
         Owner::Cassette => Done::Refused(0x84),
+        Owner::Disk => Done::Refused(0x84),
     }
 }

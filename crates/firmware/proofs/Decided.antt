@@ -23,31 +23,31 @@ pub translate-allows : Allows translate-kinds.ps translate-kinds.r translate-rea
 translate-allows κs a p = (_, (_, refl))
 
 pub fresh-decides : Decides fresh-kinds.ps fresh-kinds.r fresh-reads.Pre fresh-reads.Learnt
-fresh-decides κs a z z′ ws ws′ p e e′ = let q = e ∙ sym e′ in (ap (λ (w : Returned). w .number) q, ap (λ (w : Returned). (w .buffers .state, (w .buffers .area, (w .buffers .screen, (w .buffers .paper, (w .buffers .tape, tt)))))) q)
+fresh-decides κs a z z′ ws ws′ p e e′ = let q = e ∙ sym e′ in (ap (λ (w : Returned). w .number) q, ap (λ (w : Returned). (w .buffers .state, (w .buffers .area, (w .buffers .screen, (w .buffers .paper, (w .buffers .tape, (w .buffers .images, tt))))))) q)
 
 pub fresh-allows : Allows fresh-kinds.ps fresh-kinds.r fresh-reads.Pre fresh-reads.Learnt
 fresh-allows κs a p = (_, (_, refl))
 
 pub take-decides : Decides take-kinds.ps take-kinds.r take-reads.Pre take-reads.Learnt
-take-decides κs a z z′ ws ws′ p e e′ = let q = e ∙ sym e′ in (ap (λ (w : Returned). w .number) q, ap (λ (w : Returned). (w .buffers .state, (w .buffers .area, (w .buffers .screen, (w .buffers .paper, (w .buffers .tape, (tt, (tt, tt)))))))) q)
+take-decides κs a z z′ ws ws′ p e e′ = let q = e ∙ sym e′ in (ap (λ (w : Returned). w .number) q, ap (λ (w : Returned). (w .buffers .state, (w .buffers .area, (w .buffers .screen, (w .buffers .paper, (w .buffers .tape, (w .buffers .images, (tt, (tt, tt))))))))) q)
 
 pub take-allows : Allows take-kinds.ps take-kinds.r take-reads.Pre take-reads.Learnt
 take-allows κs a p = (_, (_, refl))
 
 pub tick-decides : Decides tick-kinds.ps tick-kinds.r tick-reads.Pre tick-reads.Learnt
-tick-decides κs a z z′ ws ws′ p e e′ = let q = e ∙ sym e′ in (ap (λ (w : Returned). w .number) q, ap (λ (w : Returned). (w .buffers .state, (w .buffers .area, (w .buffers .screen, (w .buffers .paper, (w .buffers .tape, (tt, tt))))))) q)
+tick-decides κs a z z′ ws ws′ p e e′ = let q = e ∙ sym e′ in (ap (λ (w : Returned). w .number) q, ap (λ (w : Returned). (w .buffers .state, (w .buffers .area, (w .buffers .screen, (w .buffers .paper, (w .buffers .tape, (w .buffers .images, (tt, tt)))))))) q)
 
 pub tick-allows : Allows tick-kinds.ps tick-kinds.r tick-reads.Pre tick-reads.Learnt
 tick-allows κs a p = (_, (_, refl))
 
 pub give-decides : Decides give-kinds.ps give-kinds.r give-reads.Pre give-reads.Learnt
-give-decides κs a z z′ ws ws′ p e e′ = let q = e ∙ sym e′ in (ap (λ (w : Returned). w .number) q, ap (λ (w : Returned). (w .buffers .state, (w .buffers .area, (w .buffers .screen, (w .buffers .paper, (w .buffers .tape, (tt, tt))))))) q)
+give-decides κs a z z′ ws ws′ p e e′ = let q = e ∙ sym e′ in (ap (λ (w : Returned). w .number) q, ap (λ (w : Returned). (w .buffers .state, (w .buffers .area, (w .buffers .screen, (w .buffers .paper, (w .buffers .tape, (w .buffers .images, (tt, tt)))))))) q)
 
 pub give-allows : Allows give-kinds.ps give-kinds.r give-reads.Pre give-reads.Learnt
 give-allows κs a p = (_, (_, refl))
 
 pub press-decides : Decides press-kinds.ps press-kinds.r press-reads.Pre press-reads.Learnt
-press-decides κs a z z′ ws ws′ p e e′ = let q = e ∙ sym e′ in (ap (λ (w : Returned). w .number) q, ap (λ (w : Returned). (w .buffers .state, (w .buffers .area, (w .buffers .screen, (w .buffers .paper, (w .buffers .tape, (tt, tt))))))) q)
+press-decides κs a z z′ ws ws′ p e e′ = let q = e ∙ sym e′ in (ap (λ (w : Returned). w .number) q, ap (λ (w : Returned). (w .buffers .state, (w .buffers .area, (w .buffers .screen, (w .buffers .paper, (w .buffers .tape, (w .buffers .images, (tt, tt)))))))) q)
 
 pub press-allows : Allows press-kinds.ps press-kinds.r press-reads.Pre press-reads.Learnt
 press-allows κs a p = (_, (_, refl))

@@ -5,15 +5,17 @@ use layout::places::AREA;
 use layout::places::STATE;
 ghost use mathlib.Core.Path.{_≡_};
 ghost use Rattle.keys.specs.Translation.{translateOf};
-ghost use Rattle.calls.specs.Bytes.{buffers, fiveFit, bytesRefusal, freshBytes, takeBytes, tickBytes, giveBytes, pressBytes};
+ghost use Rattle.calls.specs.Bytes.{buffers, sixFit, bytesRefusal, freshBytes, takeBytes, tickBytes, giveBytes, pressBytes};
 ghost use Rattle.calls.specs.Returned.{returned, answerOf, bothOf};
 
-// The cells of the lent screen, and the bytes of the lent paper and of the lent tape.
+// The cells of the lent screen, and the bytes of the lent paper, of the lent tape and of the lent images.
 pub const SCREEN: usize = 61440;
 
 pub const PAPER: usize = printer::PAPER as usize;
 
 pub const TAPE: usize = cassette::TAPE;
+
+pub const IMAGES: usize = image::IMAGES;
 
 // uint16_t fixlomand_translate(uint8_t code, uint8_t lock, uint8_t inverse)
 #[no_mangle]
@@ -23,14 +25,24 @@ pub extern "C" fn fixlomand_translate(code: u8, lock: u8, inverse: u8) -> u16
     keys::translate(code, lock, inverse)
 }
 
-fn lengths_fit(state: usize, area: usize, screen: usize, paper: usize, tape: usize) -> bool
-    ensures { λ r. ⌜ r ≡ fiveFit state area screen paper tape ⌝ }
+fn lengths_fit(
+    state: usize,
+    area: usize,
+    screen: usize,
+    paper: usize,
+    tape: usize,
+    images: usize,
+) -> bool
+    ensures { λ r. ⌜ r ≡ sixFit state area screen paper tape images ⌝ }
 {
     if state == STATE {
         if area == 2 * AREA {
             if screen == SCREEN {
                 if paper == PAPER {
-                    return tape == TAPE;
+                    if tape == TAPE {
+                        return images == IMAGES;
+                    }
+                    return false;
                 }
                 return false;
             }
@@ -42,8 +54,16 @@ fn lengths_fit(state: usize, area: usize, screen: usize, paper: usize, tape: usi
 }
 
 // 2, 3 or 1, in this order, or 0.
-fn guard(state: &[u8], area: &[u8], screen: &[u8], paper: &[u8], tape: &[u8], port: u8) -> u8
-    ensures { λ r. ⌜ r ≡ bytesRefusal (buffers (now (state .entry)) (now (area .entry)) (now (screen .entry)) (now (paper .entry)) (now (tape .entry))) port ⌝ }
+fn guard(
+    state: &[u8],
+    area: &[u8],
+    screen: &[u8],
+    paper: &[u8],
+    tape: &[u8],
+    images: &[u8],
+    port: u8,
+) -> u8
+    ensures { λ r. ⌜ r ≡ bytesRefusal (buffers (now (state .entry)) (now (area .entry)) (now (screen .entry)) (now (paper .entry)) (now (tape .entry)) (now (images .entry))) port ⌝ }
 {
     if lengths_fit(
         state.len(),
@@ -51,8 +71,16 @@ fn guard(state: &[u8], area: &[u8], screen: &[u8], paper: &[u8], tape: &[u8], po
         screen.len(),
         paper.len(),
         tape.len(),
+        images.len(),
     ) {
-        if judge::undamaged(&state[..], &area[..], &screen[..], &paper[..], &tape[..]) {
+        if judge::undamaged(
+            &state[..],
+            &area[..],
+            &screen[..],
+            &paper[..],
+            &tape[..],
+            &images[..],
+        ) {
             if port < 2 {
                 return 0;
             }
@@ -63,7 +91,7 @@ fn guard(state: &[u8], area: &[u8], screen: &[u8], paper: &[u8], tape: &[u8], po
     2
 }
 
-// uint8_t fixlomand_fresh(state, area, screen, paper, tape), each a pointer and a length; the same ten in each call
+// uint8_t fixlomand_fresh(state, area, screen, paper, tape, images), each a pointer and a length; the same twelve in each call
 // Everything as it is when the stick is plugged in, whatever the state held.
 #[no_mangle]
 pub extern "C" fn fixlomand_fresh(
@@ -72,8 +100,9 @@ pub extern "C" fn fixlomand_fresh(
     screen: &mut [u8],
     paper: &mut [u8],
     tape: &mut [u8],
+    images: &mut [u8],
 ) -> u8
-    ensures { λ r. ⌜ returned r (buffers (now (state .exit)) (now (area .exit)) (now (screen .exit)) (now (paper .exit)) (now (tape .exit))) ≡ answerOf (freshBytes (buffers (now (state .entry)) (now (area .entry)) (now (screen .entry)) (now (paper .entry)) (now (tape .entry)))) ⌝ }
+    ensures { λ r. ⌜ returned r (buffers (now (state .exit)) (now (area .exit)) (now (screen .exit)) (now (paper .exit)) (now (tape .exit)) (now (images .exit))) ≡ answerOf (freshBytes (buffers (now (state .entry)) (now (area .entry)) (now (screen .entry)) (now (paper .entry)) (now (tape .entry)) (now (images .entry)))) ⌝ }
 {
     if lengths_fit(
         state.len(),
@@ -81,8 +110,9 @@ pub extern "C" fn fixlomand_fresh(
         screen.len(),
         paper.len(),
         tape.len(),
+        images.len(),
     ) {
-        stick::started::fresh_all(state, area, screen, paper, tape);
+        stick::started::fresh_all(state, area, screen, paper, tape, images);
         return 0;
     }
     2
@@ -97,14 +127,15 @@ pub extern "C" fn fixlomand_take(
     screen: &mut [u8],
     paper: &mut [u8],
     tape: &mut [u8],
+    images: &mut [u8],
     port: u8,
     byte: u8,
 ) -> u8
-    ensures { λ r. ⌜ returned r (buffers (now (state .exit)) (now (area .exit)) (now (screen .exit)) (now (paper .exit)) (now (tape .exit))) ≡ answerOf (takeBytes (buffers (now (state .entry)) (now (area .entry)) (now (screen .entry)) (now (paper .entry)) (now (tape .entry))) port byte) ⌝ }
+    ensures { λ r. ⌜ returned r (buffers (now (state .exit)) (now (area .exit)) (now (screen .exit)) (now (paper .exit)) (now (tape .exit)) (now (images .exit))) ≡ answerOf (takeBytes (buffers (now (state .entry)) (now (area .entry)) (now (screen .entry)) (now (paper .entry)) (now (tape .entry)) (now (images .entry))) port byte) ⌝ }
 {
-    let refused = guard(state, area, screen, paper, tape, port);
+    let refused = guard(state, area, screen, paper, tape, images, port);
     if refused == 0 {
-        return stick::served::take_at(port, byte, state, area, screen, paper, tape);
+        return stick::served::take_at(port, byte, state, area, screen, paper, tape, images);
     }
     refused
 }
@@ -118,13 +149,14 @@ pub extern "C" fn fixlomand_tick(
     screen: &mut [u8],
     paper: &mut [u8],
     tape: &mut [u8],
+    images: &mut [u8],
     port: u8,
 ) -> u8
-    ensures { λ r. ⌜ returned r (buffers (now (state .exit)) (now (area .exit)) (now (screen .exit)) (now (paper .exit)) (now (tape .exit))) ≡ answerOf (tickBytes (buffers (now (state .entry)) (now (area .entry)) (now (screen .entry)) (now (paper .entry)) (now (tape .entry))) port) ⌝ }
+    ensures { λ r. ⌜ returned r (buffers (now (state .exit)) (now (area .exit)) (now (screen .exit)) (now (paper .exit)) (now (tape .exit)) (now (images .exit))) ≡ answerOf (tickBytes (buffers (now (state .entry)) (now (area .entry)) (now (screen .entry)) (now (paper .entry)) (now (tape .entry)) (now (images .entry))) port) ⌝ }
 {
-    let refused = guard(state, area, screen, paper, tape, port);
+    let refused = guard(state, area, screen, paper, tape, images, port);
     if refused == 0 {
-        return ticks::tick_at(port, state, area, screen, paper, tape);
+        return ticks::tick_at(port, state, area, screen, paper, tape, images);
     }
     refused
 }
@@ -138,13 +170,14 @@ pub extern "C" fn fixlomand_give(
     screen: &mut [u8],
     paper: &mut [u8],
     tape: &mut [u8],
+    images: &mut [u8],
     port: u8,
 ) -> u16
-    ensures { λ r. ⌜ returned r (buffers (now (state .exit)) (now (area .exit)) (now (screen .exit)) (now (paper .exit)) (now (tape .exit))) ≡ bothOf (giveBytes (buffers (now (state .entry)) (now (area .entry)) (now (screen .entry)) (now (paper .entry)) (now (tape .entry))) port) ⌝ }
+    ensures { λ r. ⌜ returned r (buffers (now (state .exit)) (now (area .exit)) (now (screen .exit)) (now (paper .exit)) (now (tape .exit)) (now (images .exit))) ≡ bothOf (giveBytes (buffers (now (state .entry)) (now (area .entry)) (now (screen .entry)) (now (paper .entry)) (now (tape .entry)) (now (images .entry))) port) ⌝ }
 {
-    let refused = guard(state, area, screen, paper, tape, port);
+    let refused = guard(state, area, screen, paper, tape, images, port);
     if refused == 0 {
-        return stick::served::give_at(port, state, area, screen, paper, tape);
+        return stick::served::give_at(port, state, area, screen, paper, tape, images);
     }
     refused as u16
 }
@@ -158,13 +191,14 @@ pub extern "C" fn fixlomand_press(
     screen: &mut [u8],
     paper: &mut [u8],
     tape: &mut [u8],
+    images: &mut [u8],
     code: u8,
 ) -> u8
-    ensures { λ r. ⌜ returned r (buffers (now (state .exit)) (now (area .exit)) (now (screen .exit)) (now (paper .exit)) (now (tape .exit))) ≡ answerOf (pressBytes (buffers (now (state .entry)) (now (area .entry)) (now (screen .entry)) (now (paper .entry)) (now (tape .entry))) code) ⌝ }
+    ensures { λ r. ⌜ returned r (buffers (now (state .exit)) (now (area .exit)) (now (screen .exit)) (now (paper .exit)) (now (tape .exit)) (now (images .exit))) ≡ answerOf (pressBytes (buffers (now (state .entry)) (now (area .entry)) (now (screen .entry)) (now (paper .entry)) (now (tape .entry)) (now (images .entry))) code) ⌝ }
 {
-    let refused = guard(state, area, screen, paper, tape, 0);
+    let refused = guard(state, area, screen, paper, tape, images, 0);
     if refused == 0 {
-        return stick::served::press_at(code, state, area, screen, paper, tape);
+        return stick::served::press_at(code, state, area, screen, paper, tape, images);
     }
     refused
 }

@@ -1,18 +1,20 @@
 -- A device handler as CIO calls it: its acts on its device, each by what it may know.
 -- Assumes nothing.
 use Prim.Native.Nat.{ℕ}
+use Rattle.names.specs.declared.Name.{Name}
+use Rattle.names.specs.Names.{noName}
 use Rattle.handler.specs.declared.Asked.{Asked}
 use Rattle.handler.specs.declared.Got.{Got}
 use Rattle.handler.specs.declared.Done.{Done}
 use Rattle.handler.specs.Answer.{Answer, answer, seen}
 
 -- for the opening of a block
-abbrev pub asksOpen : (port iocb aux1 aux2 name : ℕ) → Asked
-asksOpen port iocb aux1 aux2 name = record { port = port; iocb = iocb; aux1 = aux1; aux2 = aux2; name = name }
+abbrev pub asksOpen : (port iocb number aux1 aux2 : ℕ) → Name → Asked
+asksOpen port iocb number aux1 aux2 name = record { port = port; iocb = iocb; number = number; aux1 = aux1; aux2 = aux2; name = name }
 
 -- for an open block
 abbrev pub asksOn : (port iocb : ℕ) → Asked
-asksOn port iocb = asksOpen port iocb 0 0 0
+asksOn port iocb = asksOpen port iocb 0 0 0 noName
 
 -- a handler's acts, told what they may know
 pub record Acts (D : Type 0) : Type 0 where

@@ -2,6 +2,7 @@
 -- Assumes nothing.
 use mathlib.Core.Path.{_≡_, _∙_, sym}
 use mathlib.Core.Bool.{Bool, true}
+use mathlib.Core.List.{List}
 use Prim.Native.Nat.{ℕ, _+_, _*_}
 use native.Mathlib.Omega.{arith}
 use borrow.Author.Tests.{eq-eqb, ne-eqb}
@@ -33,17 +34,17 @@ two-zero a b n e =
     (λ za. by-eq b 0 (λ z. let y : n ≡ 0 = omega arith in rw (eq-eqb b 0 z, eq-eqb n 0 y)) (λ z. rw (ne-eqb b 0 z, ne-eqb n 0 (λ y. z (omega arith)))))
 
 -- two blocks that name no device are closed, if their other bytes are 0
-one-closed : (mark d n a : ℕ) → eqb d 0 ≡ true → blockWhole mark d n a ≡ and (eqb n 0) (eqb a 0)
+one-closed : (mark d n a : ℕ) (x : List ℕ) → eqb d 0 ≡ true → blockWhole mark d n a x ≡ and (eqb n 0) (eqb a 0)
 unfolding blockWhole unused
-one-closed mark d n a z = rw z
+one-closed mark d n a x z = rw z
 
-module _ (mark d n a e m c : ℕ) (t : Bool) (q : t ≡ unused 0 0 d e) (z : t ≡ true) where
+module _ (mark d n a e m c : ℕ) (x y : List ℕ) (t : Bool) (q : t ≡ unused 0 0 d e) (z : t ≡ true) where
   both-none : and (eqb d 0) (eqb e 0) ≡ true
   unfolding unused
   both-none = sym q ∙ z
 
-  pub two-closed : (r : Bool) → r ≡ unused n a m c → r ≡ and (blockWhole mark d n a) (blockWhole mark e m c)
+  pub two-closed : (r : Bool) → r ≡ unused n a m c → r ≡ and (blockWhole mark d n a x) (blockWhole mark e m c y)
   unfolding unused
   two-closed r p =
       p ∙ sym (and-assoc (eqb n 0) (eqb a 0) (and (eqb m 0) (eqb c 0)))
-      ∙ sym (both (one-closed mark d n a (and-left (eqb d 0) (eqb e 0) both-none)) (one-closed mark e m c (and-right (eqb d 0) (eqb e 0) both-none)))
+      ∙ sym (both (one-closed mark d n a x (and-left (eqb d 0) (eqb e 0) both-none)) (one-closed mark e m c y (and-right (eqb d 0) (eqb e 0) both-none)))

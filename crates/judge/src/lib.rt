@@ -5,32 +5,42 @@ use layout::places::BLOCK;
 use layout::places::CASSETTE;
 use layout::places::CONSOLE;
 use layout::places::DEVICES;
+use layout::places::DISK;
 use layout::places::PHASE;
 use layout::places::PORT;
 use layout::places::PRINTER;
 use printer::PAPER;
 ghost use mathlib.Core.Path.{_≡_};
 ghost use Prim.Native.Nat.{_+_, _*_, _≤_};
-ghost use lib.Dec.{leb, ltb};
+ghost use lib.Dec.{eqb, leb};
 ghost use lib.ListN.{length, drop};
 ghost use Rattle.base.specs.Choice.{pick, and};
+ghost use Rattle.base.specs.Parts.{part};
 ghost use Rattle.printer.specs.Printer.{paperLength};
 ghost use Rattle.cassette.specs.Cassette.{markOf};
 ghost use Rattle.cassette.specs.Fit.{fitsCassette};
+ghost use Rattle.disk.specs.Disk.{placeLength};
 ghost use Rattle.wire.specs.Messages.{wordOf, wordAt};
-ghost use Rattle.layout.specs.Places.{blockLength, tableLength, portLength, consoleLength, printerPlace, cassettePlace, devicesPlace, devicesLength, Headed};
+ghost use Rattle.layout.specs.Places.{tableLength, portLength, consoleLength, printerPlace, cassettePlace, devicesPlace, devicesLength, Headed};
 ghost use Rattle.layout.specs.Layout.{cassetteIn, stickIn, lentIn};
 ghost use Rattle.layout.specs.Stands.{unused, restUnused, runStands, stands};
 ghost use Rattle.damage.specs.Fits.{stickFits};
-ghost use Rattle.damage.specs.Whole.{aux1Whole, markWhole, openWhole, blockWhole, blockWholeIn, twoWhole, tableWhole, gatherWhole, readyWhole, replyWhole, directionWhole, openedWhole, modeWhole, someLeft, bufferWhole, spanWhole, runWhole, phaseWhole, portWhole, textWhole, pictureWhole, cursorWhole, readingWhole, consoleWhole, devicesWhole, tapesFrom, tapesWhole, groupWhole, apartGroups, apartWhole, headWhole};
-ghost use Rattle.judge.specs.Ported.{Ported};
+ghost use Rattle.damage.specs.Whole.{aux1Whole, highestWhole, markWhole, openWhole, placeWhole, blockWholeIn, twoWhole, tableWhole, gatherWhole, readyWhole, replyWhole, directionWhole, openedWhole, modeWhole, someLeft, bufferWhole, spanWhole, runWhole, phaseWhole, portWhole, textWhole, pictureWhole, cursorWhole, readingWhole, consoleWhole, devicesWhole, tapesFrom, tapesWhole, groupWhole, apartGroups, apartWhole, headWhole};
+ghost use Rattle.judge.specs.Ported.{Ported, Blocks};
 
-// The bytes of two blocks, and where the console's mode and the cassette's mark stand.
+// The bytes of two blocks, those of their places, and where the console's mode and the cassette's mark stand.
 const PAIR: usize = 2 * BLOCK;
+
+const PLACES: usize = 2 * disk::PLACE;
 
 const MODE: usize = DEVICES + CONSOLE;
 
 const MARK: usize = DEVICES + CASSETTE;
+
+// Where the places of a port's blocks begin, counted from the port's first byte, and how much further those of the other port.
+const OWN: usize = DEVICES + DISK;
+
+const NEXT: usize = 8 * disk::PLACE - PORT;
 
 // Four bytes as a number, the low one first.
 fn four(a: u8, b: u8, c: u8, d: u8) -> u32
@@ -72,10 +82,13 @@ fn aux1_whole(device: u8, aux1: u8) -> bool
     if device == 4 {
         return !(aux1 / 4 % 2 == 1);
     }
-    if aux1 / 4 % 2 == 1 {
-        return !(aux1 / 8 % 2 == 1);
+    if device == 5 {
+        if aux1 / 4 % 2 == 1 {
+            return !(aux1 / 8 % 2 == 1);
+        }
+        return true;
     }
-    true
+    !(aux1 / 8 % 2 == 1)
 }
 
 // How a block has C open, by its AUX1.
@@ -95,10 +108,10 @@ fn mark_of(aux1: u8) -> u8
 fn mark_whole(mark: u8, device: u8, aux1: u8) -> bool
     ensures { λ r. ⌜ r ≡ markWhole mark device aux1 ⌝ }
 {
-    if device < 5 {
-        return true;
+    if device == 5 {
+        return mark_of(aux1) == mark;
     }
-    mark_of(aux1) == mark
+    true
 }
 
 // Both of AUX1.
@@ -111,13 +124,23 @@ fn directed(mark: u8, device: u8, aux1: u8) -> bool
     false
 }
 
+// A device's number is at most its highest.
+fn numbered(device: u8, number: u8) -> bool
+    ensures { λ r. ⌜ r ≡ leb number (highestWhole device) ⌝ }
+{
+    if device == 6 {
+        return number <= 4;
+    }
+    number <= 8
+}
+
 // Some OPEN makes this block.
 fn open_whole(mark: u8, device: u8, number: u8, aux1: u8) -> bool
     ensures { λ r. ⌜ r ≡ openWhole mark device number aux1 ⌝ }
 {
-    if device < 6 {
+    if device < 7 {
         if 1 <= number {
-            if number <= 8 {
+            if numbered(device, number) {
                 return directed(mark, device, aux1);
             }
             return false;
@@ -127,27 +150,39 @@ fn open_whole(mark: u8, device: u8, number: u8, aux1: u8) -> bool
     false
 }
 
-fn block_whole(mark: u8, device: u8, number: u8, aux1: u8) -> bool
-    ensures { λ r. ⌜ r ≡ blockWhole mark device number aux1 ⌝ }
+// The place of a block that has D open, where its bytes begin, fits the block.
+fn placed(bytes: &[u8], at: usize, device: u8, number: u8, aux1: u8) -> bool
+    requires { ⌜ at + placeLength ≤ length (now bytes) ⌝ }
+    ensures { λ r. ⌜ r ≡ placeWhole device number aux1 (part at placeLength (now (bytes .entry))) ⌝ }
 {
+    if device == 6 {
+        let end = at + disk::PLACE;
+        return disk::fits(&bytes[at..end], number, aux1);
+    }
+    true
+}
+
+// The block whose three bytes begin at one place, and those of its own place at another.
+fn block(bytes: &[u8], place: usize, at: usize, mark: u8) -> bool
+    requires { ⌜ Blocks (now bytes) place at 1 ⌝ }
+    ensures { λ r. ⌜ r ≡ blockWholeIn mark (now (bytes .entry)) place at ⌝ }
+{
+    let device = bytes[place];
+    let number = bytes[place + 1];
+    let aux1 = bytes[place + 2];
     if device == 0 {
         return none(0, 0, number, aux1);
     }
-    open_whole(mark, device, number, aux1)
-}
-
-// The block whose three bytes begin at this place.
-fn block(bytes: &[u8], place: usize, mark: u8) -> bool
-    requires { ⌜ place + blockLength ≤ length (now bytes) ⌝ }
-    ensures { λ r. ⌜ r ≡ blockWholeIn mark (now (bytes .entry)) place ⌝ }
-{
-    block_whole(mark, bytes[place], bytes[place + 1], bytes[place + 2])
+    if open_whole(mark, device, number, aux1) {
+        return placed(bytes, at, device, number, aux1);
+    }
+    false
 }
 
 // Two blocks, from this place on: most are closed both, and their other bytes then 0, by two comparisons.
-fn two(bytes: &[u8], place: usize, mark: u8) -> bool
-    requires { ⌜ place + 2 * blockLength ≤ length (now bytes) ⌝ }
-    ensures { λ r. ⌜ r ≡ twoWhole mark (now (bytes .entry)) place ⌝ }
+fn two(bytes: &[u8], place: usize, at: usize, mark: u8) -> bool
+    requires { ⌜ Blocks (now bytes) place at 2 ⌝ }
+    ensures { λ r. ⌜ r ≡ twoWhole mark (now (bytes .entry)) place at ⌝ }
 {
     if neither(bytes[place], bytes[place + BLOCK]) {
         return none(
@@ -157,22 +192,24 @@ fn two(bytes: &[u8], place: usize, mark: u8) -> bool
             bytes[place + BLOCK + 2],
         );
     }
-    if block(bytes, place, mark) {
-        return block(bytes, place + BLOCK, mark);
+    if block(bytes, place, at, mark) {
+        return block(bytes, place + BLOCK, at + disk::PLACE, mark);
     }
     false
 }
 
 // A port's eight, by two.
-fn table(bytes: &[u8], mark: u8) -> bool
-    requires { ⌜ portLength ≤ length (now bytes) ⌝ }
-    ensures { λ r. ⌜ r ≡ tableWhole mark (now (bytes .entry)) ⌝ }
+fn table(bytes: &[u8], from: usize, mark: u8) -> bool
+    requires { ⌜ from + 8 * placeLength ≤ length (now bytes) ⌝ }
+    ensures { λ r. ⌜ r ≡ tableWhole mark (now (bytes .entry)) from ⌝ }
 {
     let mut place = PHASE;
+    let mut at = from;
     let mut left: u8 = 4;
     while 0 < left {
-        if two(bytes, place, mark) {
+        if two(bytes, place, at, mark) {
             place += PAIR;
+            at += PLACES;
             left -= 1;
         } else {
             return false;
@@ -229,13 +266,13 @@ fn replies(bytes: &[u8]) -> bool
     false
 }
 
-// A running request's kind is 0 to 5, its device 1 to 5.
+// A running request's kind is 0 to 5, its device 1 to 6.
 fn run_stands(kind: u8, device: u8) -> bool
     ensures { λ r. ⌜ r ≡ runStands kind device ⌝ }
 {
     if kind < 6 {
         if 1 <= device {
-            return device <= 5;
+            return device <= 6;
         }
         return false;
     }
@@ -371,22 +408,23 @@ fn phase(bytes: &[u8], mode: u8) -> bool
     false
 }
 
-fn port(bytes: &[u8], mode: u8, mark: u8) -> bool
-    requires { ⌜ portLength ≤ length (now bytes) ⌝ }
-    ensures { λ r. ⌜ r ≡ portWhole (now (bytes .entry)) mode mark ⌝ }
+// The places of its blocks begin behind its own bytes.
+fn port(bytes: &[u8], at: usize, mode: u8, mark: u8) -> bool
+    requires { ⌜ at + 8 * placeLength ≤ length (now bytes) ⌝ }
+    ensures { λ r. ⌜ r ≡ portWhole (now (bytes .entry)) mode mark at ⌝ }
 {
-    if table(bytes, mark) {
+    if table(bytes, at, mark) {
         return phase(bytes, mode);
     }
     false
 }
 
 // The port whose bytes begin at this place.
-fn port_at(state: &[u8], place: usize, mode: u8, mark: u8) -> bool
-    requires { ⌜ place + portLength ≤ length (now state) ⌝ }
-    ensures { λ r. ⌜ r ≡ portWhole (drop place (now (state .entry))) mode mark ⌝ }
+fn port_at(state: &[u8], place: usize, at: usize, mode: u8, mark: u8) -> bool
+    requires { ⌜ place + at + 8 * placeLength ≤ length (now state) ⌝ }
+    ensures { λ r. ⌜ r ≡ portWhole (drop place (now (state .entry))) mode mark at ⌝ }
 {
-    port(&state[place..], mode, mark)
+    port(&state[place..], at, mode, mark)
 }
 
 fn text(row: u8, column: u16) -> bool
@@ -488,12 +526,12 @@ fn numbers(bytes: &[u8]) -> bool
 
 // 1 for a block that has C open, by its device's number.
 fn tape(device: u8) -> u8
-    ensures { λ r. ⌜ r ≡ pick (ltb device 5) 0 1 ⌝ }
+    ensures { λ r. ⌜ r ≡ pick (eqb device 5) 1 0 ⌝ }
 {
-    if device < 5 {
-        return 0;
+    if device == 5 {
+        return 1;
     }
-    1
+    0
 }
 
 // How many of the eight blocks from this place on have C open.
@@ -530,13 +568,16 @@ fn group(device: u8) -> u8
     if device == 4 {
         return 2;
     }
+    if device == 5 {
+        return 3;
+    }
     if 1 <= device {
         if device <= 3 {
             return 1;
         }
-        return 3;
+        return 4;
     }
-    3
+    4
 }
 
 // The groups of two devices are not one.
@@ -581,10 +622,12 @@ fn head(state: &[u8]) -> bool
     let mode = state[MODE];
     let mark = state[MARK];
     let mut place: usize = 0;
+    let mut at = OWN;
     let mut left: u8 = 2;
     while 0 < left {
-        if port_at(state, place, mode, mark) {
+        if port_at(state, place, at, mode, mark) {
             place += PORT;
+            at += NEXT;
             left -= 1;
         } else {
             return false;
@@ -594,9 +637,16 @@ fn head(state: &[u8]) -> bool
 }
 
 // Whether a state, with what is lent beside it, stands for an undamaged stick.
-pub fn undamaged(state: &[u8], area: &[u8], screen: &[u8], paper: &[u8], tape: &[u8]) -> bool
+pub fn undamaged(
+    state: &[u8],
+    area: &[u8],
+    screen: &[u8],
+    paper: &[u8],
+    tape: &[u8],
+    images: &[u8],
+) -> bool
     requires { ⌜ Headed (now state) ⌝ }
-    ensures { λ r. ⌜ r ≡ and (stands (now (state .entry))) (stickFits (stickIn (now (state .entry))) (lentIn (now (state .entry)) (now (area .entry)) (now (screen .entry)) (now (paper .entry)) (now (tape .entry)))) ⌝ }
+    ensures { λ r. ⌜ r ≡ and (stands (now (state .entry))) (stickFits (stickIn (now (state .entry))) (lentIn (now (state .entry)) (now (area .entry)) (now (screen .entry)) (now (paper .entry)) (now (tape .entry)) (now (images .entry)))) ⌝ }
 {
     head(state)
 }

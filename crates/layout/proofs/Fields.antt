@@ -14,9 +14,10 @@ use Rattle.blocks.specs.declared.Port.{Port}
 use Rattle.console.specs.declared.state.Console.{Console}
 use Rattle.printer.specs.declared.Printer.{Printer}
 use Rattle.cassette.specs.declared.Cassette.{Cassette}
-use Rattle.layout.specs.Places.{phaseLength, tableLength, portLength, consolePlace, consoleLength, printerPlace, printerLength, cassettePlace, cassetteLength, pendingPlace, pendingLength, devicesLength}
+use Rattle.disk.specs.Disk.{placesLength}
+use Rattle.layout.specs.Places.{phaseLength, tableLength, portLength, consolePlace, consoleLength, printerPlace, printerLength, cassettePlace, cassetteLength, pendingPlace, pendingLength, diskPlace, devicesLength}
 use Rattle.layout.specs.Stick.{devices}
-use Rattle.layout.specs.Layout.{blocksIn, tableIn, phaseIn, portIn, consoleIn, printerIn, cassetteIn, pendingIn, devicesIn}
+use Rattle.layout.specs.Layout.{blocksIn, tableIn, phaseIn, portIn, consoleIn, printerIn, cassetteIn, arrayIn, devicesIn}
 
 pub phase-looks : Looks phaseLength phaseIn
 unfolding phaseIn
@@ -43,17 +44,18 @@ printer-looks xs h = ap printerIn (take-firsts 0 printerLength 0 xs (omega arith
 pub cassette-looks : Looks cassetteLength cassetteIn
 cassette-looks xs h = ap cassetteIn (take-firsts 0 cassetteLength 0 xs (omega arith))
 
-pub pending-looks : Looks pendingLength pendingIn
-pending-looks xs h = take-take pendingLength pendingLength xs (omega arith)
+pub array-looks : (n : ℕ) → Looks n (arrayIn n)
+array-looks n xs h = take-take n n xs (omega arith)
 
-four : {c d : Console} {p q : Printer} {a b : Cassette} {x y : List ℕ} → c ≡ d → p ≡ q → a ≡ b → x ≡ y → devices c p a x ≡ devices d q b y
-four e f g h = rw (e, f, g, h)
+five : {c d : Console} {p q : Printer} {a b : Cassette} {x y v w : List ℕ} → c ≡ d → p ≡ q → a ≡ b → x ≡ y → v ≡ w → devices c p a x v ≡ devices d q b y w
+five e f g h i = rw (e, f, g, h, i)
 
 pub devices-looks : Looks devicesLength devicesIn
 unfolding devicesIn
 devices-looks xs h =
-    four (looks-at consoleIn consoleLength console-looks consolePlace (omega arith) xs h) (looks-at printerIn printerLength printer-looks printerPlace (omega arith) xs h)
-    (looks-at cassetteIn cassetteLength cassette-looks cassettePlace (omega arith) xs h) (looks-at pendingIn pendingLength pending-looks pendingPlace (omega arith) xs h)
+    five (looks-at consoleIn consoleLength console-looks consolePlace (omega arith) xs h) (looks-at printerIn printerLength printer-looks printerPlace (omega arith) xs h)
+    (looks-at cassetteIn cassetteLength cassette-looks cassettePlace (omega arith) xs h) (looks-at (arrayIn pendingLength) pendingLength (array-looks pendingLength) pendingPlace (omega arith) xs h)
+    (looks-at (arrayIn placesLength) placesLength (array-looks placesLength) diskPlace (omega arith) xs h)
   where
     looks-at : {A : Type 0} (f : List ℕ → A) (n : ℕ) → Looks n f → (p : ℕ) → p + n ≤ devicesLength → Looks devicesLength (λ (b : List ℕ). f (drop p b))
     looks-at f n l p k = looks-more (λ (b : List ℕ). f (drop p b)) (p + n) (looks-behind f n l p) devicesLength k

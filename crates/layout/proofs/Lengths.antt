@@ -13,9 +13,10 @@ use Rattle.blocks.specs.declared.Port.{Port}
 use Rattle.console.specs.declared.state.Console.{Console}
 use Rattle.printer.specs.declared.Printer.{Printer}
 use Rattle.cassette.specs.declared.Cassette.{Cassette}
+use Rattle.disk.specs.Disk.{placesLength}
 use Rattle.layout.specs.Places.{phaseLength, blockLength, tableLength, portLength, devicesLength, consoleLength, printerLength, cassetteLength, pendingLength, roomsPlace}
 use Rattle.layout.specs.Stick.{Devices, Stick}
-use Rattle.layout.specs.Layout.{blocksBytes, tableBytes, phaseBytes, portBytes, consoleBytes, printerBytes, cassetteBytes, pendingBytes, devicesBytes, headOf}
+use Rattle.layout.specs.Layout.{blocksBytes, tableBytes, phaseBytes, portBytes, consoleBytes, printerBytes, cassetteBytes, arrayBytes, devicesBytes, headOf}
 
 pub phase-length : (p : Phase) → length (phaseBytes p) ≡ phaseLength
 unfolding phaseBytes
@@ -48,15 +49,15 @@ pub cassette-length : (c : Cassette) → length (cassetteBytes c) ≡ cassetteLe
 unfolding cassetteBytes
 cassette-length c = refl
 
-pub pending-length : (xs : List ℕ) → length (pendingBytes xs) ≡ pendingLength
-unfolding pendingBytes
-pending-length xs =
-    let l : pendingLength ≤ length (xs ++ replicate pendingLength 0) = simp (length-append, length-replicate) (omega arith) in
-    length-take-le pendingLength (xs ++ replicate pendingLength 0) l
+pub array-length : (n : ℕ) (xs : List ℕ) → length (arrayBytes n xs) ≡ n
+unfolding arrayBytes
+array-length n xs =
+    let l : n ≤ length (xs ++ replicate n 0) = simp (length-append, length-replicate) (omega arith) in
+    length-take-le n (xs ++ replicate n 0) l
 
 pub devices-length : (d : Devices) → length (devicesBytes d) ≡ devicesLength
 unfolding devicesBytes
-devices-length d = simp (length-append, console-length (d .console), printer-length (d .printer), cassette-length (d .cassette), pending-length (d .pending))
+devices-length d = simp (length-append, console-length (d .console), printer-length (d .printer), cassette-length (d .cassette), array-length pendingLength (d .pending), array-length placesLength (d .places))
 
 pub head-length : (s : Stick) → length (headOf s) ≡ roomsPlace
 unfolding headOf

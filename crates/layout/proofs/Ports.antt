@@ -18,9 +18,10 @@ use Rattle.blocks.specs.declared.Phase.{Phase}
 use Rattle.blocks.specs.declared.Port.{Port}
 use Rattle.blocks.specs.Blocks.{blockAt, withBlock}
 use Rattle.console.specs.declared.state.Console.{Console}
-use Rattle.layout.specs.Places.{phaseLength, blockLength, portLength, devicesPlace, consolePlace, pendingPlace, pendingLength, devicesLength, roomsPlace, portPlace, phasePlace, tablePlace, blockPlace}
+use Rattle.disk.specs.Disk.{placesLength}
+use Rattle.layout.specs.Places.{phaseLength, blockLength, portLength, devicesPlace, consolePlace, pendingPlace, pendingLength, diskPlace, devicesLength, roomsPlace, portPlace, phasePlace, tablePlace, blockPlace}
 use Rattle.layout.specs.Stick.{Devices, devices, Stick, withDevices, withConsole, portAt, withPort, withPhase, withTable, partAt, withPart}
-use Rattle.layout.specs.Layout.{blockBytes, tableBytes, phaseBytes, portBytes, consoleBytes, printerBytes, cassetteBytes, pendingBytes, devicesBytes, headOf, tableIn, phaseIn, portIn, devicesIn, stickIn}
+use Rattle.layout.specs.Layout.{blockBytes, tableBytes, phaseBytes, portBytes, consoleBytes, printerBytes, cassetteBytes, arrayBytes, devicesBytes, headOf, tableIn, phaseIn, portIn, devicesIn, stickIn}
 use Rattle.layout.proofs.Lengths.{phase-length, port-length, console-length, devices-length, head-length}
 use Rattle.layout.proofs.Tables.{blocks-count, table-stored}
 use Rattle.layout.proofs.Fields.{devices-looks}
@@ -145,6 +146,10 @@ module _ (b : List ℕ) (h : roomsPlace ≤ length b) where
   unfolding stickIn devicesIn
   own-pending = length-take-le pendingLength (drop pendingPlace (drop devicesPlace b)) (simp length-drop (omega arith))
 
+  pub own-places : length (stickIn b .devices .places) ≡ placesLength
+  unfolding stickIn devicesIn
+  own-places = length-take-le placesLength (drop diskPlace (drop devicesPlace b)) (simp length-drop (omega arith))
+
 module _ (s : Stick) where
   abbrev ports : List ℕ
   ports = portBytes (s .port0) ++ portBytes (s .port1)
@@ -174,8 +179,8 @@ module _ (s : Stick) where
   unfolding devicesBytes
   head-console c =
       let d = s .devices in
-      head-stores (devices c (d .printer) (d .cassette) (d .pending)) consolePlace (consoleBytes c)
-      (sets-over [] (consoleBytes (d .console)) (consoleBytes c) (printerBytes (d .printer) ++ (cassetteBytes (d .cassette) ++ pendingBytes (d .pending))) 0 refl (console-length (d .console) ∙ sym (console-length c)))
+      head-stores (devices c (d .printer) (d .cassette) (d .pending) (d .places)) consolePlace (consoleBytes c)
+      (sets-over [] (consoleBytes (d .console)) (consoleBytes c) (printerBytes (d .printer) ++ (cassetteBytes (d .cassette) ++ (arrayBytes pendingLength (d .pending) ++ arrayBytes placesLength (d .places)))) 0 refl (console-length (d .console) ∙ sym (console-length c)))
 
   pub head-devices : (d : Devices) → headOf (withDevices d s) ≡ sets (headOf s) devicesPlace (devicesBytes d)
   head-devices d =

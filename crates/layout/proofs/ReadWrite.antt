@@ -14,7 +14,7 @@ use lib.Seq.{take-at, drop-at, drop-drop}
 use Rattle.base.specs.Choice.{pick, within}
 use Rattle.base.proofs.Readers.{all-firsts}
 use Rattle.blocks.specs.declared.Device.{Device}
-use Rattle.blocks.specs.declared.Device.the-variants.{E, S, K, P, C}
+use Rattle.blocks.specs.declared.Device.the-variants.{E, S, K, P, C, D}
 use Rattle.blocks.specs.declared.BlockState.{BlockState}
 use Rattle.blocks.specs.declared.BlockState.the-variants.{Closed, Open}
 use Rattle.blocks.specs.declared.ControlBlock.{ControlBlock}
@@ -32,12 +32,13 @@ use Rattle.editor.specs.declared.ReadColumn.the-variants.{Dropped, At}
 use Rattle.console.specs.declared.state.Console.{Console}
 use Rattle.printer.specs.declared.Printer.{Printer}
 use Rattle.cassette.specs.declared.Cassette.{Cassette}
-use Rattle.layout.specs.Places.{phaseLength, portLength, devicesPlace, consolePlace, consoleLength, printerPlace, printerLength, cassettePlace, cassetteLength, pendingPlace, pendingLength, portPlace}
+use Rattle.disk.specs.Disk.{placesLength}
+use Rattle.layout.specs.Places.{phaseLength, portLength, devicesPlace, consolePlace, consoleLength, printerPlace, printerLength, cassettePlace, cassetteLength, pendingPlace, pendingLength, diskPlace, portPlace}
 use Rattle.layout.specs.Stick.{Devices, Stick}
-use Rattle.layout.specs.Layout.{lowByte, highByte, deviceNumber, kindNumber, deviceByte, numberByte, aux1Byte, blocksBytes, tableBytes, phaseBytes, portBytes, consoleBytes, printerBytes, cassetteBytes, pendingBytes, devicesBytes, headOf, deviceIn, kindIn, blockOf, blocksIn, tableIn, phaseIn, portIn, readingIn, readingByte, consoleIn, printerIn, cassetteIn, pendingIn, devicesIn, stickIn}
+use Rattle.layout.specs.Layout.{lowByte, highByte, deviceNumber, kindNumber, deviceByte, numberByte, aux1Byte, blocksBytes, tableBytes, phaseBytes, portBytes, consoleBytes, printerBytes, cassetteBytes, arrayBytes, devicesBytes, headOf, deviceIn, kindIn, blockOf, blocksIn, tableIn, phaseIn, portIn, readingIn, readingByte, consoleIn, printerIn, cassetteIn, arrayIn, devicesIn, stickIn}
 use Rattle.layout.specs.InBytes.{PhaseInBytes, ReadingInBytes, InBytes}
 use Rattle.layout.specs.Stands.{blockStands, blocksStand, tableStands, unused, runStands, phaseStands, portStands, consoleStands, stands}
-use Rattle.layout.proofs.Lengths.{phase-length, port-length, console-length, printer-length, cassette-length, pending-length}
+use Rattle.layout.proofs.Lengths.{phase-length, port-length, console-length, printer-length, cassette-length, array-length}
 
 word-same : (n : ℕ) → wordOf (lowByte n) (highByte n) ≡ n
 word-same n = mod-add-div n 256
@@ -55,6 +56,7 @@ device-same S = refl
 device-same K = refl
 device-same P = refl
 device-same C = refl
+device-same D = refl
 
 kind-same : (k : Kind) → kindIn (kindNumber k) ≡ k
 unfolding kindIn
@@ -73,6 +75,7 @@ state-same (Open S number aux1) = refl
 state-same (Open K number aux1) = refl
 state-same (Open P number aux1) = refl
 state-same (Open C number aux1) = refl
+state-same (Open D number aux1) = refl
 
 state-stands : (s : BlockState) → blockStands (deviceByte s) (numberByte s) (aux1Byte s) ≡ true
 unfolding blockStands
@@ -82,6 +85,7 @@ state-stands (Open S number aux1) = refl
 state-stands (Open K number aux1) = refl
 state-stands (Open P number aux1) = refl
 state-stands (Open C number aux1) = refl
+state-stands (Open D number aux1) = refl
 
 module _ (t : Table) (r : List ℕ) where
   abbrev own : ℕ → BlockState
@@ -113,12 +117,13 @@ kind-stands (Put One) = refl
 kind-stands (Put Characters) = refl
 kind-stands (Put Record) = refl
 
-device-stands : (d : Device) → within 1 5 (deviceNumber d) ≡ true
+device-stands : (d : Device) → within 1 6 (deviceNumber d) ≡ true
 device-stands E = refl
 device-stands S = refl
 device-stands K = refl
 device-stands P = refl
 device-stands C = refl
+device-stands D = refl
 
 phase-stands : (p : Phase) (r : List ℕ) → phaseStands (phaseBytes p ++ r) ≡ true
 unfolding phaseStands phaseBytes unused runStands
@@ -171,13 +176,13 @@ pub cassette-same : (c : Cassette) (r : List ℕ) → cassetteIn (cassetteBytes 
 unfolding cassetteBytes
 cassette-same c r = refl
 
--- 128 characters are their bytes
-pub pending-is : (xs : List ℕ) → length xs ≡ pendingLength → pendingBytes xs ≡ xs
-unfolding pendingBytes
-pending-is xs e = take-at xs (replicate pendingLength 0) pendingLength e
+-- an array of its length is its bytes
+pub array-is : (n : ℕ) (xs : List ℕ) → length xs ≡ n → arrayBytes n xs ≡ xs
+unfolding arrayBytes
+array-is n xs e = take-at xs (replicate n 0) n e
 
-pub pending-same : (xs r : List ℕ) → length xs ≡ pendingLength → pendingIn (pendingBytes xs ++ r) ≡ xs
-pending-same xs r e = take-at (pendingBytes xs) r pendingLength (pending-length xs) ∙ pending-is xs e
+pub array-same : (n : ℕ) (xs r : List ℕ) → length xs ≡ n → arrayIn n (arrayBytes n xs ++ r) ≡ xs
+array-same n xs r e = take-at (arrayBytes n xs) r n (array-length n xs) ∙ array-is n xs e
 
 -- the devices, part by part
 module _ (d : Devices) (r : List ℕ) where
@@ -191,36 +196,45 @@ module _ (d : Devices) (r : List ℕ) where
   t0 = cassetteBytes (d .cassette)
 
   abbrev w0 : List ℕ
-  w0 = pendingBytes (d .pending)
+  w0 = arrayBytes pendingLength (d .pending)
 
-  parts : devicesBytes d ++ r ≡ c0 ++ (u0 ++ (t0 ++ (w0 ++ r)))
+  abbrev l0 : List ℕ
+  l0 = arrayBytes placesLength (d .places)
+
+  parts : devicesBytes d ++ r ≡ c0 ++ (u0 ++ (t0 ++ (w0 ++ (l0 ++ r))))
   unfolding devicesBytes
   parts = simp append-assoc
 
-  past-console : drop printerPlace (devicesBytes d ++ r) ≡ u0 ++ (t0 ++ (w0 ++ r))
-  past-console = rw parts (drop-at c0 (u0 ++ (t0 ++ (w0 ++ r))) consoleLength (console-length (d .console)))
+  past-console : drop printerPlace (devicesBytes d ++ r) ≡ u0 ++ (t0 ++ (w0 ++ (l0 ++ r)))
+  past-console = rw parts (drop-at c0 (u0 ++ (t0 ++ (w0 ++ (l0 ++ r)))) consoleLength (console-length (d .console)))
 
-  past-printer : drop cassettePlace (devicesBytes d ++ r) ≡ t0 ++ (w0 ++ r)
-  past-printer = sym (drop-drop printerLength printerPlace (devicesBytes d ++ r)) ∙ ap (drop printerLength) past-console ∙ drop-at u0 (t0 ++ (w0 ++ r)) printerLength (printer-length (d .printer))
+  past-printer : drop cassettePlace (devicesBytes d ++ r) ≡ t0 ++ (w0 ++ (l0 ++ r))
+  past-printer = sym (drop-drop printerLength printerPlace (devicesBytes d ++ r)) ∙ ap (drop printerLength) past-console ∙ drop-at u0 (t0 ++ (w0 ++ (l0 ++ r))) printerLength (printer-length (d .printer))
 
-  past-cassette : drop pendingPlace (devicesBytes d ++ r) ≡ w0 ++ r
-  past-cassette = sym (drop-drop cassetteLength cassettePlace (devicesBytes d ++ r)) ∙ ap (drop cassetteLength) past-printer ∙ drop-at t0 (w0 ++ r) cassetteLength (cassette-length (d .cassette))
+  past-cassette : drop pendingPlace (devicesBytes d ++ r) ≡ w0 ++ (l0 ++ r)
+  past-cassette = sym (drop-drop cassetteLength cassettePlace (devicesBytes d ++ r)) ∙ ap (drop cassetteLength) past-printer ∙ drop-at t0 (w0 ++ (l0 ++ r)) cassetteLength (cassette-length (d .cassette))
+
+  past-pending : drop diskPlace (devicesBytes d ++ r) ≡ l0 ++ r
+  past-pending = sym (drop-drop pendingLength pendingPlace (devicesBytes d ++ r)) ∙ ap (drop pendingLength) past-cassette ∙ drop-at w0 (l0 ++ r) pendingLength (array-length pendingLength (d .pending))
 
   pub console-in : d .console .row < 256 → ReadingInBytes (d .console .reading) → consoleIn (drop consolePlace (devicesBytes d ++ r)) ≡ d .console
-  console-in h k = ap consoleIn parts ∙ console-same (d .console) (u0 ++ (t0 ++ (w0 ++ r))) h k
+  console-in h k = ap consoleIn parts ∙ console-same (d .console) (u0 ++ (t0 ++ (w0 ++ (l0 ++ r)))) h k
 
   pub printer-in : printerIn (drop printerPlace (devicesBytes d ++ r)) ≡ d .printer
-  printer-in = ap printerIn past-console ∙ printer-same (d .printer) (t0 ++ (w0 ++ r))
+  printer-in = ap printerIn past-console ∙ printer-same (d .printer) (t0 ++ (w0 ++ (l0 ++ r)))
 
   pub cassette-in : cassetteIn (drop cassettePlace (devicesBytes d ++ r)) ≡ d .cassette
-  cassette-in = ap cassetteIn past-printer ∙ cassette-same (d .cassette) (w0 ++ r)
+  cassette-in = ap cassetteIn past-printer ∙ cassette-same (d .cassette) (w0 ++ (l0 ++ r))
 
-  pub pending-in : length (d .pending) ≡ pendingLength → pendingIn (drop pendingPlace (devicesBytes d ++ r)) ≡ d .pending
-  pending-in l = ap pendingIn past-cassette ∙ pending-same (d .pending) r l
+  pub pending-in : length (d .pending) ≡ pendingLength → arrayIn pendingLength (drop pendingPlace (devicesBytes d ++ r)) ≡ d .pending
+  pending-in l = ap (arrayIn pendingLength) past-cassette ∙ array-same pendingLength (d .pending) (l0 ++ r) l
 
-  pub devices-same : d .console .row < 256 → ReadingInBytes (d .console .reading) → length (d .pending) ≡ pendingLength → devicesIn (devicesBytes d ++ r) ≡ d
+  pub places-in : length (d .places) ≡ placesLength → arrayIn placesLength (drop diskPlace (devicesBytes d ++ r)) ≡ d .places
+  places-in l = ap (arrayIn placesLength) past-pending ∙ array-same placesLength (d .places) r l
+
+  pub devices-same : d .console .row < 256 → ReadingInBytes (d .console .reading) → length (d .pending) ≡ pendingLength → length (d .places) ≡ placesLength → devicesIn (devicesBytes d ++ r) ≡ d
   unfolding devicesIn
-  devices-same h k l = rw (console-in h k, printer-in, cassette-in, pending-in l)
+  devices-same h k l m = rw (console-in h k, printer-in, cassette-in, pending-in l, places-in m)
 
   devices-stand : consoleStands (drop consolePlace (devicesBytes d ++ r)) ≡ true
   unfolding consoleBytes
@@ -249,7 +263,7 @@ module _ (s : Stick) (r : List ℕ) where
   pub read-write : InBytes s → stickIn (headOf s ++ r) ≡ s
   unfolding stickIn
   read-write w =
-      rw (past-0, past-1, head-parts, port-same (s .port0) (p1 ++ (d0 ++ r)) (w .phase0) (w .table0), port-same (s .port1) (d0 ++ r) (w .phase1) (w .table1), devices-same (s .devices) r (w .row) (w .reading) (w .pending))
+      rw (past-0, past-1, head-parts, port-same (s .port0) (p1 ++ (d0 ++ r)) (w .phase0) (w .table0), port-same (s .port1) (d0 ++ r) (w .phase1) (w .table1), devices-same (s .devices) r (w .row) (w .reading) (w .pending) (w .places))
 
   pub head-stands : stands (headOf s ++ r) ≡ true
   unfolding stands

@@ -21,12 +21,13 @@ use Rattle.base.proofs.Readers.{firsts, take-firsts}
 use Rattle.blocks.specs.declared.Table.{Table}
 use Rattle.blocks.specs.Blocks.{blockAt}
 use Rattle.wire.specs.Messages.{wordOf}
-use Rattle.layout.specs.Places.{phaseLength, blockLength, tableLength, portLength, devicesPlace, consolePlace, consoleLength, printerPlace, printerLength, cassettePlace, cassetteLength, pendingPlace, pendingLength, devicesLength, roomsPlace, portPlace}
-use Rattle.layout.specs.Layout.{lowByte, highByte, deviceNumber, kindNumber, blockBytes, blocksBytes, tableBytes, phaseBytes, portBytes, consoleBytes, printerBytes, cassetteBytes, pendingBytes, devicesBytes, headOf, byteAt, deviceIn, kindIn, blockOf, blockIn, tableIn, phaseIn, portIn, readingIn, readingByte, consoleIn, printerIn, cassetteIn, pendingIn, devicesIn, stickIn}
+use Rattle.disk.specs.Disk.{placesLength}
+use Rattle.layout.specs.Places.{phaseLength, blockLength, tableLength, portLength, devicesPlace, consolePlace, consoleLength, printerPlace, printerLength, cassettePlace, cassetteLength, pendingPlace, pendingLength, diskPlace, devicesLength, roomsPlace, portPlace}
+use Rattle.layout.specs.Layout.{lowByte, highByte, deviceNumber, kindNumber, blockBytes, blocksBytes, tableBytes, phaseBytes, portBytes, consoleBytes, printerBytes, cassetteBytes, arrayBytes, devicesBytes, headOf, byteAt, deviceIn, kindIn, blockOf, blockIn, tableIn, phaseIn, portIn, readingIn, readingByte, consoleIn, printerIn, cassetteIn, arrayIn, devicesIn, stickIn}
 use Rattle.layout.specs.InBytes.{Bytes}
 use Rattle.layout.specs.Stands.{blockStands, blockStandsIn, blocksStand, tableStands, unused, runStands, phaseStands, portStands, consoleStands, stands}
 use Rattle.layout.proofs.Tables.{block-there}
-use Rattle.layout.proofs.ReadWrite.{pending-is}
+use Rattle.layout.proofs.ReadWrite.{array-is}
 
 -- what is known of a lent slice of bytes: each element is a byte
 abbrev pub Known : List ℕ → Type 0
@@ -58,9 +59,9 @@ tested : (t : Bool) → T t → t ≡ true
 tested true u = refl
 tested false u = absurd u
 
-device-back : (n : ℕ) → 1 ≤ n → n < 6 → deviceNumber (deviceIn n) ≡ n
+device-back : (n : ℕ) → 1 ≤ n → n < 7 → deviceNumber (deviceIn n) ≡ n
 unfolding deviceIn
-device-back n l h = eqb-true _ _ (tested _ (on (λ (k : ℕ). eqb (deviceNumber (deviceIn k)) k) 1 5 tt n l h))
+device-back n l h = eqb-true _ _ (tested _ (on (λ (k : ℕ). eqb (deviceNumber (deviceIn k)) k) 1 6 tt n l h))
 
 kind-back : (n : ℕ) → n < 6 → kindNumber (kindIn n) ≡ n
 unfolding kindIn
@@ -77,8 +78,8 @@ module _ (device number aux1 : ℕ) where
       let a = eqb-true aux1 0 (and-right (eqb number 0) (eqb aux1 0) u) in
       rw (eq-eqb device 0 z, n, a, z))
       (λ z.
-      let u : ltb device 6 ≡ true = rw (ne-eqb device 0 z) at e in
-      rw (ne-eqb device 0 z, device-back device (omega arith) (ltb-true device 6 u)))
+      let u : ltb device 7 ≡ true = rw (ne-eqb device 0 z) at e in
+      rw (ne-eqb device 0 z, device-back device (omega arith) (ltb-true device 7 u)))
 
 module _ (b : List ℕ) where
   block-in-back : (place : ℕ) → blockStandsIn b place ≡ true → place + blockLength ≤ length b → blockBytes (blockIn b place) ≡ part place blockLength b
@@ -154,11 +155,11 @@ module _ (b : List ℕ) (w : Bytes b) where
       let s0 = ne-eqb (byteAt b 0) 0 n0 in
       let s1 = ne-eqb (byteAt b 0) 1 n1 in
       let s2 = eq-eqb (byteAt b 0) 2 z in
-      let m : and (ltb (byteAt b 1) 6) (within 1 5 (byteAt b 2)) ≡ true = rw (s0, s1, s2) at e in
-      let k = ltb-true (byteAt b 1) 6 (and-left (ltb (byteAt b 1) 6) (within 1 5 (byteAt b 2)) m) in
-      let d = and-right (ltb (byteAt b 1) 6) (within 1 5 (byteAt b 2)) m in
-      let l = leb-true 1 (byteAt b 2) (and-left (leb 1 (byteAt b 2)) (leb (byteAt b 2) 5) d) in
-      let h = leb-true (byteAt b 2) 5 (and-right (leb 1 (byteAt b 2)) (leb (byteAt b 2) 5) d) in
+      let m : and (ltb (byteAt b 1) 6) (within 1 6 (byteAt b 2)) ≡ true = rw (s0, s1, s2) at e in
+      let k = ltb-true (byteAt b 1) 6 (and-left (ltb (byteAt b 1) 6) (within 1 6 (byteAt b 2)) m) in
+      let d = and-right (ltb (byteAt b 1) 6) (within 1 6 (byteAt b 2)) m in
+      let l = leb-true 1 (byteAt b 2) (and-left (leb 1 (byteAt b 2)) (leb (byteAt b 2) 6) d) in
+      let h = leb-true (byteAt b 2) 6 (and-right (leb 1 (byteAt b 2)) (leb (byteAt b 2) 6) d) in
       rw (s0, s1, s2, kind-back (byteAt b 1) k, device-back (byteAt b 2) l (omega arith), low-word (byteAt b 4) (byteAt b 5) (w 4), high-word (byteAt b 4) (byteAt b 5) (w 4), low-word (byteAt b 6) (byteAt b 7) (w 6), high-word (byteAt b 6) (byteAt b 7) (w 6), low-word (byteAt b 8) (byteAt b 9) (w 8), high-word (byteAt b 8) (byteAt b 9) (w 8), z))
       (λ n2. by-eq (byteAt b 0) 3
       (λ z.
@@ -207,8 +208,8 @@ module _ (b : List ℕ) (w : Bytes b) where
   unfolding cassetteBytes
   cassette-back h = sym (take-firsts 0 cassetteLength 0 b (omega arith))
 
-  pending-back : pendingLength ≤ length b → pendingBytes (pendingIn b) ≡ take pendingLength b
-  pending-back h = pending-is (take pendingLength b) (length-take-le pendingLength b h)
+  array-back : (n : ℕ) → n ≤ length b → arrayBytes n (arrayIn n b) ≡ take n b
+  array-back n h = array-is n (take n b) (length-take-le n b h)
 
 -- the devices, of a list that begins with their numbers
 module _ (b : List ℕ) (w : Bytes b) (e : consoleStands (drop consolePlace b) ≡ true) (h : devicesLength ≤ length b) where
@@ -218,13 +219,18 @@ module _ (b : List ℕ) (w : Bytes b) (e : consoleStands (drop consolePlace b) �
       let l1 : printerLength ≤ length (drop printerPlace b) = simp length-drop (omega arith) in
       let l2 : cassetteLength ≤ length (drop cassettePlace b) = simp length-drop (omega arith) in
       let l3 : pendingLength ≤ length (drop pendingPlace b) = simp length-drop (omega arith) in
+      let l4 : placesLength ≤ length (drop diskPlace b) = simp length-drop (omega arith) in
       cat (console-back b w e (omega arith))
       (cat (printer-back (drop printerPlace b) (bytes-drop printerPlace b w) l1)
-      (cat (cassette-back (drop cassettePlace b) (bytes-drop cassettePlace b w) l2) (pending-back (drop pendingPlace b) (bytes-drop pendingPlace b w) l3)))
+      (cat (cassette-back (drop cassettePlace b) (bytes-drop cassettePlace b w) l2)
+      (cat (array-back (drop pendingPlace b) (bytes-drop pendingPlace b w) pendingLength l3) (array-back (drop diskPlace b) (bytes-drop diskPlace b w) placesLength l4))))
       ∙ sym (
-      part-add 0 consoleLength (printerLength + (cassetteLength + pendingLength)) b
+      part-add 0 consoleLength (printerLength + (cassetteLength + (pendingLength + placesLength))) b
       ∙ ap (λ (r : List ℕ). part 0 consoleLength b ++ r)
-      (part-add printerPlace printerLength (cassetteLength + pendingLength) b ∙ ap (λ (r : List ℕ). part printerPlace printerLength b ++ r) (part-add cassettePlace cassetteLength pendingLength b))
+      (part-add printerPlace printerLength (cassetteLength + (pendingLength + placesLength)) b
+      ∙ ap (λ (r : List ℕ). part printerPlace printerLength b ++ r)
+      (part-add cassettePlace cassetteLength (pendingLength + placesLength) b
+      ∙ ap (λ (r : List ℕ). part cassettePlace cassetteLength b ++ r) (part-add pendingPlace pendingLength placesLength b)))
       )
 
 module _ (b : List ℕ) (w : Bytes b) (e : stands b ≡ true) (h : roomsPlace ≤ length b) where

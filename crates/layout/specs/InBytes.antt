@@ -9,6 +9,7 @@ use Rattle.blocks.specs.declared.Phase.{Phase}
 use Rattle.blocks.specs.declared.Phase.the-variants.{Gathering, Ready, Running, Replying}
 use Rattle.editor.specs.declared.ReadColumn.{ReadColumn}
 use Rattle.editor.specs.declared.ReadColumn.the-variants.{Dropped, At}
+use Rattle.disk.specs.Disk.{placesLength}
 use Rattle.layout.specs.Places.{pendingLength}
 use Rattle.layout.specs.Stick.{Stick}
 use Rattle.layout.specs.Layout.{byteAt}
@@ -29,7 +30,7 @@ abbrev pub ReadingInBytes : ReadColumn → Type 0
 ReadingInBytes Dropped = Unit
 ReadingInBytes (At column) = column < 255
 
--- the numbers of a stick go into their bytes, its tables have eight blocks, and its pending characters 128 bytes
+-- the numbers of a stick go into their bytes, its tables have eight blocks, and its arrays their bytes
 pub record InBytes (s : Stick) : Type 0 where
   pub phase0 : PhaseInBytes (s .port0 .phase)
   pub phase1 : PhaseInBytes (s .port1 .phase)
@@ -38,9 +39,10 @@ pub record InBytes (s : Stick) : Type 0 where
   pub table0 : length (s .port0 .table .blocks) ≡ 8
   pub table1 : length (s .port1 .table .blocks) ≡ 8
   pub pending : length (s .devices .pending) ≡ pendingLength
+  pub places : length (s .devices .places) ≡ placesLength
 
 -- what the types of its numbers say of a stick: a field's length has two bytes, a table eight blocks; the pending characters
--- are 128 bytes of the state
+-- and the places are bytes of the state
 abbrev pub LengthTyped : Phase → Type 0
 LengthTyped (Gathering g) = g .length < 65536
 LengthTyped (Ready h) = Unit
@@ -53,3 +55,4 @@ pub record Typed (s : Stick) : Type 0 where
   pub table0 : length (s .port0 .table .blocks) ≡ 8
   pub table1 : length (s .port1 .table .blocks) ≡ 8
   pub pending : length (s .devices .pending) ≡ pendingLength
+  pub places : length (s .devices .places) ≡ placesLength

@@ -7,7 +7,7 @@ use lib.Dec.{eqb}
 use lib.ListN.{getD, take, drop, replicate}
 use Rattle.base.specs.Choice.{pick}
 use Rattle.blocks.specs.declared.Device.{Device}
-use Rattle.blocks.specs.declared.Device.the-variants.{E, S, K, P, C}
+use Rattle.blocks.specs.declared.Device.the-variants.{E, S, K, P, C, D}
 use Rattle.blocks.specs.declared.BlockState.{BlockState}
 use Rattle.blocks.specs.declared.BlockState.the-variants.{Closed, Open}
 use Rattle.blocks.specs.declared.ControlBlock.{ControlBlock}
@@ -30,7 +30,8 @@ use Rattle.editor.specs.declared.ReadColumn.the-variants.{Dropped, At}
 use Rattle.console.specs.declared.state.Console.{Console}
 use Rattle.printer.specs.declared.Printer.{Printer}
 use Rattle.cassette.specs.declared.Cassette.{Cassette}
-use Rattle.layout.specs.Places.{phaseLength, blockLength, devicesPlace, consolePlace, printerPlace, cassettePlace, pendingPlace, pendingLength, roomsPlace, portPlace}
+use Rattle.disk.specs.Disk.{placesLength}
+use Rattle.layout.specs.Places.{phaseLength, blockLength, devicesPlace, consolePlace, printerPlace, cassettePlace, pendingPlace, pendingLength, diskPlace, roomsPlace, portPlace}
 use Rattle.layout.specs.Stick.{Devices, devices, Stick, stick, Lent, lent}
 
 -- of a number its low byte and its high byte
@@ -40,13 +41,14 @@ lowByte n = n % 256
 abbrev pub highByte : ℕ → ℕ
 highByte n = n / 256
 
--- 1 E, 2 S, 3 K, 4 P, 5 C
+-- 1 E, 2 S, 3 K, 4 P, 5 C, 6 D
 abbrev pub deviceNumber : Device → ℕ
 deviceNumber E = 1
 deviceNumber S = 2
 deviceNumber K = 3
 deviceNumber P = 4
 deviceNumber C = 5
+deviceNumber D = 6
 
 -- get one, characters, record: 0, 1, 2; put one, characters, record: 3, 4, 5
 abbrev pub wayNumber : Way → ℕ
@@ -119,12 +121,14 @@ printerBytes p = lowByte (p .used) ∷ highByte (p .used) ∷ []
 unfoldable pub cassetteBytes : Cassette → List ℕ
 cassetteBytes c = c .mark ∷ c .«record» ∷ c .place ∷ []
 
--- the pending characters have 128 bytes
-unfoldable pub pendingBytes : List ℕ → List ℕ
-pendingBytes pending = take pendingLength (pending ++ replicate pendingLength 0)
+-- an array of bytes has its length: the pending characters and the places
+unfoldable pub arrayBytes : ℕ → List ℕ → List ℕ
+arrayBytes n xs = take n (xs ++ replicate n 0)
 
 unfoldable pub devicesBytes : Devices → List ℕ
-devicesBytes d = consoleBytes (d .console) ++ (printerBytes (d .printer) ++ (cassetteBytes (d .cassette) ++ pendingBytes (d .pending)))
+devicesBytes d =
+    consoleBytes (d .console)
+    ++ (printerBytes (d .printer) ++ (cassetteBytes (d .cassette) ++ (arrayBytes pendingLength (d .pending) ++ arrayBytes placesLength (d .places))))
 
 -- the head of a stick
 unfoldable pub headOf : Stick → List ℕ
@@ -135,7 +139,7 @@ abbrev pub byteAt : List ℕ → ℕ → ℕ
 byteAt bytes place = getD bytes place 0
 
 unfoldable pub deviceIn : ℕ → Device
-deviceIn n = pick (eqb n 1) E (pick (eqb n 2) S (pick (eqb n 3) K (pick (eqb n 4) P C)))
+deviceIn n = pick (eqb n 1) E (pick (eqb n 2) S (pick (eqb n 3) K (pick (eqb n 4) P (pick (eqb n 5) C D))))
 
 unfoldable pub kindIn : ℕ → Kind
 kindIn n =
@@ -210,17 +214,19 @@ printerIn b = record { used = wordAt b 0 }
 abbrev pub cassetteIn : List ℕ → Cassette
 cassetteIn b = record { mark = byteAt b 0; «record» = byteAt b 1; place = byteAt b 2 }
 
-abbrev pub pendingIn : List ℕ → List ℕ
-pendingIn b = take pendingLength b
+abbrev pub arrayIn : ℕ → List ℕ → List ℕ
+arrayIn n b = take n b
 
 -- of a list that begins with the devices' numbers
 unfoldable pub devicesIn : List ℕ → Devices
-devicesIn b = devices (consoleIn (drop consolePlace b)) (printerIn (drop printerPlace b)) (cassetteIn (drop cassettePlace b)) (pendingIn (drop pendingPlace b))
+devicesIn b =
+    devices (consoleIn (drop consolePlace b)) (printerIn (drop printerPlace b)) (cassetteIn (drop cassettePlace b))
+    (arrayIn pendingLength (drop pendingPlace b)) (arrayIn placesLength (drop diskPlace b))
 
 -- the stick that the bytes stand for, if they stand for one
 unfoldable pub stickIn : List ℕ → Stick
 stickIn b = stick (portIn (drop (portPlace 0) b)) (portIn (drop (portPlace 1) b)) (devicesIn (drop devicesPlace b))
 
 -- and what is lent with it: the rooms follow the head
-abbrev pub lentIn : (state area screen paper tape : List ℕ) → Lent
-lentIn state area screen paper tape = lent (drop roomsPlace state) area screen paper tape
+abbrev pub lentIn : (state area screen paper tape images : List ℕ) → Lent
+lentIn state area screen paper tape images = lent (drop roomsPlace state) area screen paper tape images

@@ -5,6 +5,7 @@ use mathlib.Core.List.{List}
 use Prim.Native.Nat.{ℕ, _+_, _*_, _≤_, _<_}
 use lib.ListN.{length}
 use Rattle.blocks.specs.Opening.{areaLength}
+use Rattle.disk.specs.Disk.{placesLength}
 use Rattle.wire.specs.Messages.{roomLength}
 
 -- a port: its phase, then its table of eight blocks
@@ -49,8 +50,12 @@ pendingPlace = cassettePlace + cassetteLength
 abbrev pub pendingLength : ℕ
 pendingLength = 128
 
+-- and behind them the places of the blocks that have D open
+abbrev pub diskPlace : ℕ
+diskPlace = pendingPlace + pendingLength
+
 abbrev pub devicesLength : ℕ
-devicesLength = pendingPlace + pendingLength
+devicesLength = diskPlace + placesLength
 
 abbrev pub roomsPlace : ℕ
 roomsPlace = devicesPlace + devicesLength

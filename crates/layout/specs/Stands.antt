@@ -10,9 +10,9 @@ use Rattle.base.specs.Choice.{pick, and, within}
 use Rattle.layout.specs.Places.{phaseLength, blockLength, devicesPlace, consolePlace, portPlace}
 use Rattle.layout.specs.Layout.{byteAt}
 
--- a closed block is 0 0 0, an open one has a device, 1 to 5
+-- a closed block is 0 0 0, an open one has a device, 1 to 6
 unfoldable pub blockStands : (device number aux1 : ℕ) → Bool
-blockStands device number aux1 = pick (eqb device 0) (and (eqb number 0) (eqb aux1 0)) (ltb device 6)
+blockStands device number aux1 = pick (eqb device 0) (and (eqb number 0) (eqb aux1 0)) (ltb device 7)
 
 abbrev pub blockStandsIn : List ℕ → ℕ → Bool
 blockStandsIn bytes place = blockStands (byteAt bytes place) (byteAt bytes (place + 1)) (byteAt bytes (place + 2))
@@ -33,9 +33,9 @@ unused a b c d = and (eqb a 0) (and (eqb b 0) (and (eqb c 0) (eqb d 0)))
 abbrev pub restUnused : List ℕ → Bool
 restUnused b = unused (byteAt b 7) (byteAt b 8) (byteAt b 9) (byteAt b 10)
 
--- a running request's kind is 0 to 5, its device 1 to 5
+-- a running request's kind is 0 to 5, its device 1 to 6
 unfoldable pub runStands : (kind device : ℕ) → Bool
-runStands kind device = and (ltb kind 6) (within 1 5 device)
+runStands kind device = and (ltb kind 6) (within 1 6 device)
 
 -- a gathering port uses six of the ten bytes of numbers, a ready one three, a running one all, a replying one four
 unfoldable pub phaseStands : List ℕ → Bool

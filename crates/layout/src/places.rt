@@ -3,7 +3,7 @@
 ghost use mathlib.Core.Path.{_≡_};
 ghost use Rattle.blocks.specs.Opening.{areaLength};
 ghost use Rattle.wire.specs.Messages.{roomLength};
-ghost use Rattle.layout.specs.Places.{phaseLength, blockLength, tableLength, portLength, devicesPlace, consolePlace, printerPlace, cassettePlace, pendingPlace, pendingLength, devicesLength, roomsPlace, stateLength};
+ghost use Rattle.layout.specs.Places.{phaseLength, blockLength, tableLength, portLength, devicesPlace, consolePlace, printerPlace, cassettePlace, pendingPlace, pendingLength, diskPlace, devicesLength, roomsPlace, stateLength};
 
 pub const PHASE: usize = 11;
 
@@ -25,7 +25,10 @@ pub const PENDING: usize = CASSETTE + 3;
 
 pub const PENDED: usize = records::CHARACTERS as usize;
 
-pub const NUMBERS: usize = PENDING + PENDED;
+// The places of the blocks that have D open.
+pub const DISK: usize = PENDING + PENDED;
+
+pub const NUMBERS: usize = DISK + disk::PLACES;
 
 pub const ROOMS: usize = DEVICES + NUMBERS;
 
@@ -47,6 +50,7 @@ struct Places {
     cassette: usize,
     pending: usize,
     pended: usize,
+    disk: usize,
     numbers: usize,
     rooms: usize,
     room: usize,
@@ -55,7 +59,7 @@ struct Places {
 }
 
 fn agree() -> Places
-    ensures { λ r. ⌜ r ≡ record { phase = phaseLength; block = blockLength; table = tableLength; port = portLength; devices = devicesPlace; console = consolePlace; printer = printerPlace; cassette = cassettePlace; pending = pendingPlace; pended = pendingLength; numbers = devicesLength; rooms = roomsPlace; room = roomLength; state = stateLength; area = areaLength } ⌝ }
+    ensures { λ r. ⌜ r ≡ record { phase = phaseLength; block = blockLength; table = tableLength; port = portLength; devices = devicesPlace; console = consolePlace; printer = printerPlace; cassette = cassettePlace; pending = pendingPlace; pended = pendingLength; disk = diskPlace; numbers = devicesLength; rooms = roomsPlace; room = roomLength; state = stateLength; area = areaLength } ⌝ }
 {
     Places {
         phase: PHASE,
@@ -68,6 +72,7 @@ fn agree() -> Places
         cassette: CASSETTE,
         pending: PENDING,
         pended: PENDED,
+        disk: DISK,
         numbers: NUMBERS,
         rooms: ROOMS,
         room: ROOM,

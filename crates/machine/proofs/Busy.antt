@@ -17,7 +17,7 @@ use Rattle.wire.specs.Messages.{goodField, senseOf, badStatus, messageOf}
 use Rattle.replies.specs.Replies.{bytesAt, fetchStatus, fetchReply}
 use Rattle.transfer.specs.Transfer.{onwardOf, recordOf, gotCharacter, gotOf, sentByte, sentRecord, sentNext, sentOf}
 use Rattle.commands.specs.Commands.{commandOf, wayOf}
-use Rattle.plan.specs.Plan.{nameOf, areaPlan, transferPlan, blockPlan, callPlan, planIn, planOf}
+use Rattle.plan.specs.Plan.{nameOf, namedFor, areaPlan, transferPlan, blockPlan, callPlan, planIn, planOf}
 use Rattle.moves.specs.Move as moves
 use Rattle.cio.specs.Start.{loadedOf, loadStatus, thenOf, openedOf, openingOf, transferOf, workOf}
 use Rattle.alone.specs.Alone.{loaded}
@@ -54,7 +54,7 @@ busyNumbers =
     ++ replicate 7 0
 
 pub machine-answers : answers real (coreOf real) busyCalls first ≡ busyNumbers
-unfolding after feed fedOf goodField senseOf badStatus messageOf errandStep planStep moveBy keys.keys keys-to.entryOf keys-to.keyAnswer keys-to.translateOf keyboard.obeyed keyboard.struckBy keyboard.getOf printer.putOf openE openOf prepareE prepareOf readE readK readOf writeE writeOf deviceOf numberOf namedOf specificationOf offersOf bytesAt fetchStatus fetchReply moves.getOf moves.putOf moves.goOf moves.advanceOf commandOf wayOf areaPlan transferPlan blockPlan nameOf callPlan planIn planOf loadedOf loadStatus thenOf openedOf openingOf transferOf workOf onwardOf recordOf gotCharacter gotOf sentByte sentRecord sentNext sentOf loaded
+unfolding after feed fedOf goodField senseOf badStatus messageOf errandStep planStep moveBy keys.keys keys-to.entryOf keys-to.keyAnswer keys-to.translateOf keyboard.obeyed keyboard.struckBy keyboard.getOf printer.putOf openE openOf prepareE prepareOf readE readK readOf writeE writeOf deviceOf numberOf namedOf specificationOf offersOf bytesAt fetchStatus fetchReply moves.getOf moves.putOf moves.goOf moves.advanceOf commandOf wayOf areaPlan transferPlan blockPlan nameOf namedFor callPlan planIn planOf loadedOf loadStatus thenOf openedOf openingOf transferOf workOf onwardOf recordOf gotCharacter gotOf sentByte sentRecord sentNext sentOf loaded
 machine-answers = refl
 
 abbrev pub machineEnd : State real (coreOf real)
@@ -62,15 +62,15 @@ machineEnd = after real (coreOf real) busyCalls (begin real (coreOf real) first)
 
 -- two characters and one on the paper, both ports gathering
 pub machine-used : machineEnd .world .devs .printer .used ≡ 3
-unfolding after feed fedOf goodField senseOf badStatus messageOf errandStep planStep moveBy keys.keys keys-to.entryOf keys-to.keyAnswer keys-to.translateOf keyboard.obeyed keyboard.struckBy keyboard.getOf printer.putOf openE openOf prepareE prepareOf readE readK readOf writeE writeOf deviceOf numberOf namedOf specificationOf offersOf bytesAt fetchStatus fetchReply moves.getOf moves.putOf moves.goOf moves.advanceOf commandOf wayOf areaPlan transferPlan blockPlan nameOf callPlan planIn planOf loadedOf loadStatus thenOf openedOf openingOf transferOf workOf onwardOf recordOf gotCharacter gotOf sentByte sentRecord sentNext sentOf loaded
+unfolding after feed fedOf goodField senseOf badStatus messageOf errandStep planStep moveBy keys.keys keys-to.entryOf keys-to.keyAnswer keys-to.translateOf keyboard.obeyed keyboard.struckBy keyboard.getOf printer.putOf openE openOf prepareE prepareOf readE readK readOf writeE writeOf deviceOf numberOf namedOf specificationOf offersOf bytesAt fetchStatus fetchReply moves.getOf moves.putOf moves.goOf moves.advanceOf commandOf wayOf areaPlan transferPlan blockPlan nameOf namedFor callPlan planIn planOf loadedOf loadStatus thenOf openedOf openingOf transferOf workOf onwardOf recordOf gotCharacter gotOf sentByte sentRecord sentNext sentOf loaded
 machine-used = refl
 
 pub machine-0 : phaseAt real port-0 (machineEnd .world) ≡ gathering nothingYet
-unfolding after feed fedOf goodField senseOf badStatus messageOf errandStep planStep moveBy keys.keys keys-to.entryOf keys-to.keyAnswer keys-to.translateOf keyboard.obeyed keyboard.struckBy keyboard.getOf printer.putOf openE openOf prepareE prepareOf readE readK readOf writeE writeOf deviceOf numberOf namedOf specificationOf offersOf bytesAt fetchStatus fetchReply moves.getOf moves.putOf moves.goOf moves.advanceOf commandOf wayOf areaPlan transferPlan blockPlan nameOf callPlan planIn planOf loadedOf loadStatus thenOf openedOf openingOf transferOf workOf onwardOf recordOf gotCharacter gotOf sentByte sentRecord sentNext sentOf loaded
+unfolding after feed fedOf goodField senseOf badStatus messageOf errandStep planStep moveBy keys.keys keys-to.entryOf keys-to.keyAnswer keys-to.translateOf keyboard.obeyed keyboard.struckBy keyboard.getOf printer.putOf openE openOf prepareE prepareOf readE readK readOf writeE writeOf deviceOf numberOf namedOf specificationOf offersOf bytesAt fetchStatus fetchReply moves.getOf moves.putOf moves.goOf moves.advanceOf commandOf wayOf areaPlan transferPlan blockPlan nameOf namedFor callPlan planIn planOf loadedOf loadStatus thenOf openedOf openingOf transferOf workOf onwardOf recordOf gotCharacter gotOf sentByte sentRecord sentNext sentOf loaded
 machine-0 = refl
 
 pub machine-1 : phaseAt real port-1 (machineEnd .world) ≡ gathering nothingYet
-unfolding after feed fedOf goodField senseOf badStatus messageOf errandStep planStep moveBy keys.keys keys-to.entryOf keys-to.keyAnswer keys-to.translateOf keyboard.obeyed keyboard.struckBy keyboard.getOf printer.putOf openE openOf prepareE prepareOf readE readK readOf writeE writeOf deviceOf numberOf namedOf specificationOf offersOf bytesAt fetchStatus fetchReply moves.getOf moves.putOf moves.goOf moves.advanceOf commandOf wayOf areaPlan transferPlan blockPlan nameOf callPlan planIn planOf loadedOf loadStatus thenOf openedOf openingOf transferOf workOf onwardOf recordOf gotCharacter gotOf sentByte sentRecord sentNext sentOf loaded
+unfolding after feed fedOf goodField senseOf badStatus messageOf errandStep planStep moveBy keys.keys keys-to.entryOf keys-to.keyAnswer keys-to.translateOf keyboard.obeyed keyboard.struckBy keyboard.getOf printer.putOf openE openOf prepareE prepareOf readE readK readOf writeE writeOf deviceOf numberOf namedOf specificationOf offersOf bytesAt fetchStatus fetchReply moves.getOf moves.putOf moves.goOf moves.advanceOf commandOf wayOf areaPlan transferPlan blockPlan nameOf namedFor callPlan planIn planOf loadedOf loadStatus thenOf openedOf openingOf transferOf workOf onwardOf recordOf gotCharacter gotOf sentByte sentRecord sentNext sentOf loaded
 machine-1 = refl
 
 -- port 1 is given the key's character, and its own counts
@@ -80,7 +80,7 @@ busyGiven =
     0x90 ∷ 4 ∷ 0 ∷ 1 ∷ 0 ∷ 0 ∷ 0x41 ∷ 0x90 ∷ 4 ∷ 0 ∷ 1 ∷ 1 ∷ 0 ∷ 0 ∷ []
 
 pub machine-given : machineEnd .seen .port .first .given ≡ busyGiven
-unfolding after feed fedOf goodField senseOf badStatus messageOf errandStep planStep moveBy keys.keys keys-to.entryOf keys-to.keyAnswer keys-to.translateOf keyboard.obeyed keyboard.struckBy keyboard.getOf printer.putOf openE openOf prepareE prepareOf readE readK readOf writeE writeOf deviceOf numberOf namedOf specificationOf offersOf bytesAt fetchStatus fetchReply moves.getOf moves.putOf moves.goOf moves.advanceOf commandOf wayOf areaPlan transferPlan blockPlan nameOf callPlan planIn planOf loadedOf loadStatus thenOf openedOf openingOf transferOf workOf onwardOf recordOf gotCharacter gotOf sentByte sentRecord sentNext sentOf loaded
+unfolding after feed fedOf goodField senseOf badStatus messageOf errandStep planStep moveBy keys.keys keys-to.entryOf keys-to.keyAnswer keys-to.translateOf keyboard.obeyed keyboard.struckBy keyboard.getOf printer.putOf openE openOf prepareE prepareOf readE readK readOf writeE writeOf deviceOf numberOf namedOf specificationOf offersOf bytesAt fetchStatus fetchReply moves.getOf moves.putOf moves.goOf moves.advanceOf commandOf wayOf areaPlan transferPlan blockPlan nameOf namedFor callPlan planIn planOf loadedOf loadStatus thenOf openedOf openingOf transferOf workOf onwardOf recordOf gotCharacter gotOf sentByte sentRecord sentNext sentOf loaded
 machine-given = refl
 
 -- Three groups: port 0 has C on block 0, and port 1 P on block 0 and K on block 1
@@ -109,7 +109,7 @@ tapeNumbers =
     ++ replicate 7 0
 
 pub tape-answers : answers real (coreOf real) tapeCalls first ≡ tapeNumbers
-unfolding after feed fedOf goodField senseOf badStatus messageOf errandStep planStep moveBy keys.keys keys-to.entryOf keys-to.keyAnswer keys-to.translateOf keyboard.obeyed keyboard.struckBy keyboard.getOf printer.putOf openE openOf prepareE prepareOf readE readK readOf writeE writeOf deviceOf numberOf namedOf specificationOf offersOf bytesAt fetchStatus fetchReply moves.getOf moves.putOf moves.goOf moves.advanceOf commandOf wayOf areaPlan transferPlan blockPlan nameOf callPlan planIn planOf loadedOf loadStatus thenOf openedOf openingOf transferOf workOf onwardOf recordOf gotCharacter gotOf sentByte sentRecord sentNext sentOf loaded cassette.tapeOpened cassette.writeOf cassette.takenOf
+unfolding after feed fedOf goodField senseOf badStatus messageOf errandStep planStep moveBy keys.keys keys-to.entryOf keys-to.keyAnswer keys-to.translateOf keyboard.obeyed keyboard.struckBy keyboard.getOf printer.putOf openE openOf prepareE prepareOf readE readK readOf writeE writeOf deviceOf numberOf namedOf specificationOf offersOf bytesAt fetchStatus fetchReply moves.getOf moves.putOf moves.goOf moves.advanceOf commandOf wayOf areaPlan transferPlan blockPlan nameOf namedFor callPlan planIn planOf loadedOf loadStatus thenOf openedOf openingOf transferOf workOf onwardOf recordOf gotCharacter gotOf sentByte sentRecord sentNext sentOf loaded cassette.tapeOpened cassette.writeOf cassette.takenOf
 tape-answers = refl
 
 abbrev pub tapeEnd : State real (coreOf real)
@@ -117,11 +117,11 @@ tapeEnd = after real (coreOf real) tapeCalls (begin real (coreOf real) first)
 
 -- the two characters are pending on the tape, which port 0 has open for writing; one is on the paper
 pub tape-written : tapeEnd .world .devs .cassette .cassette ≡ cassetteAt 2 0 2
-unfolding after feed fedOf goodField senseOf badStatus messageOf errandStep planStep moveBy keys.keys keys-to.entryOf keys-to.keyAnswer keys-to.translateOf keyboard.obeyed keyboard.struckBy keyboard.getOf printer.putOf openE openOf prepareE prepareOf readE readK readOf writeE writeOf deviceOf numberOf namedOf specificationOf offersOf bytesAt fetchStatus fetchReply moves.getOf moves.putOf moves.goOf moves.advanceOf commandOf wayOf areaPlan transferPlan blockPlan nameOf callPlan planIn planOf loadedOf loadStatus thenOf openedOf openingOf transferOf workOf onwardOf recordOf gotCharacter gotOf sentByte sentRecord sentNext sentOf loaded cassette.tapeOpened cassette.writeOf cassette.takenOf
+unfolding after feed fedOf goodField senseOf badStatus messageOf errandStep planStep moveBy keys.keys keys-to.entryOf keys-to.keyAnswer keys-to.translateOf keyboard.obeyed keyboard.struckBy keyboard.getOf printer.putOf openE openOf prepareE prepareOf readE readK readOf writeE writeOf deviceOf numberOf namedOf specificationOf offersOf bytesAt fetchStatus fetchReply moves.getOf moves.putOf moves.goOf moves.advanceOf commandOf wayOf areaPlan transferPlan blockPlan nameOf namedFor callPlan planIn planOf loadedOf loadStatus thenOf openedOf openingOf transferOf workOf onwardOf recordOf gotCharacter gotOf sentByte sentRecord sentNext sentOf loaded cassette.tapeOpened cassette.writeOf cassette.takenOf
 tape-written = refl
 
 pub tape-printed : tapeEnd .world .devs .printer .used ≡ 1
-unfolding after feed fedOf goodField senseOf badStatus messageOf errandStep planStep moveBy keys.keys keys-to.entryOf keys-to.keyAnswer keys-to.translateOf keyboard.obeyed keyboard.struckBy keyboard.getOf printer.putOf openE openOf prepareE prepareOf readE readK readOf writeE writeOf deviceOf numberOf namedOf specificationOf offersOf bytesAt fetchStatus fetchReply moves.getOf moves.putOf moves.goOf moves.advanceOf commandOf wayOf areaPlan transferPlan blockPlan nameOf callPlan planIn planOf loadedOf loadStatus thenOf openedOf openingOf transferOf workOf onwardOf recordOf gotCharacter gotOf sentByte sentRecord sentNext sentOf loaded cassette.tapeOpened cassette.writeOf cassette.takenOf
+unfolding after feed fedOf goodField senseOf badStatus messageOf errandStep planStep moveBy keys.keys keys-to.entryOf keys-to.keyAnswer keys-to.translateOf keyboard.obeyed keyboard.struckBy keyboard.getOf printer.putOf openE openOf prepareE prepareOf readE readK readOf writeE writeOf deviceOf numberOf namedOf specificationOf offersOf bytesAt fetchStatus fetchReply moves.getOf moves.putOf moves.goOf moves.advanceOf commandOf wayOf areaPlan transferPlan blockPlan nameOf namedFor callPlan planIn planOf loadedOf loadStatus thenOf openedOf openingOf transferOf workOf onwardOf recordOf gotCharacter gotOf sentByte sentRecord sentNext sentOf loaded cassette.tapeOpened cassette.writeOf cassette.takenOf
 tape-printed = refl
 
 -- port 1 is given its count, the key's character, and $81
@@ -131,5 +131,5 @@ tapeGiven =
     0x90 ∷ 4 ∷ 0 ∷ 1 ∷ 1 ∷ 0 ∷ 0 ∷ 0x90 ∷ 4 ∷ 0 ∷ 1 ∷ 0 ∷ 0 ∷ 0x41 ∷ 0x91 ∷ 1 ∷ 0 ∷ 1 ∷ 0x90 ∷ 4 ∷ 0 ∷ 0x81 ∷ 0 ∷ 0 ∷ 0 ∷ []
 
 pub tape-given : tapeEnd .seen .port .first .given ≡ tapeGiven
-unfolding after feed fedOf goodField senseOf badStatus messageOf errandStep planStep moveBy keys.keys keys-to.entryOf keys-to.keyAnswer keys-to.translateOf keyboard.obeyed keyboard.struckBy keyboard.getOf printer.putOf openE openOf prepareE prepareOf readE readK readOf writeE writeOf deviceOf numberOf namedOf specificationOf offersOf bytesAt fetchStatus fetchReply moves.getOf moves.putOf moves.goOf moves.advanceOf commandOf wayOf areaPlan transferPlan blockPlan nameOf callPlan planIn planOf loadedOf loadStatus thenOf openedOf openingOf transferOf workOf onwardOf recordOf gotCharacter gotOf sentByte sentRecord sentNext sentOf loaded cassette.tapeOpened cassette.writeOf cassette.takenOf
+unfolding after feed fedOf goodField senseOf badStatus messageOf errandStep planStep moveBy keys.keys keys-to.entryOf keys-to.keyAnswer keys-to.translateOf keyboard.obeyed keyboard.struckBy keyboard.getOf printer.putOf openE openOf prepareE prepareOf readE readK readOf writeE writeOf deviceOf numberOf namedOf specificationOf offersOf bytesAt fetchStatus fetchReply moves.getOf moves.putOf moves.goOf moves.advanceOf commandOf wayOf areaPlan transferPlan blockPlan nameOf namedFor callPlan planIn planOf loadedOf loadStatus thenOf openedOf openingOf transferOf workOf onwardOf recordOf gotCharacter gotOf sentByte sentRecord sentNext sentOf loaded cassette.tapeOpened cassette.writeOf cassette.takenOf
 tape-given = refl

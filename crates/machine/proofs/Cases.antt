@@ -25,7 +25,7 @@ use Rattle.wire.specs.Messages.{goodField, senseOf, badStatus, messageOf}
 use Rattle.replies.specs.Replies.{bytesAt, fetchStatus, fetchReply}
 use Rattle.transfer.specs.Transfer.{onwardOf, recordOf, gotCharacter, gotOf, sentByte, sentRecord, sentNext, sentOf}
 use Rattle.commands.specs.Commands.{commandOf, wayOf}
-use Rattle.plan.specs.Plan.{nameOf, areaPlan, transferPlan, blockPlan, callPlan, planIn, planOf}
+use Rattle.plan.specs.Plan.{nameOf, namedFor, areaPlan, transferPlan, blockPlan, callPlan, planIn, planOf}
 use Rattle.moves.specs.Move as moves
 use Rattle.cio.specs.Start.{loadedOf, loadStatus, thenOf, openedOf, openingOf, transferOf, workOf}
 use Rattle.alone.specs.Alone.{loaded}
@@ -121,7 +121,7 @@ outcomes =
     heard (opened ++ calls 0x01 0 5) (0 ∷ 1 ∷ []) (1 ∷ 0 ∷ 0 ∷ []) ∷ []
 
 machine-cases : map machinePlays scripts ≡ outcomes
-unfolding after feed fedOf goodField senseOf badStatus messageOf errandStep planStep moveBy keys.keys keys-to.entryOf keys-to.keyAnswer keys-to.translateOf keyboard.obeyed keyboard.struckBy keyboard.getOf printer.putOf openE openOf prepareE prepareOf readE readK readOf writeE writeOf deviceOf numberOf namedOf specificationOf offersOf bytesAt fetchStatus fetchReply moves.getOf moves.putOf moves.goOf moves.advanceOf commandOf wayOf areaPlan transferPlan blockPlan nameOf callPlan planIn planOf loadedOf loadStatus thenOf openedOf openingOf transferOf workOf onwardOf recordOf gotCharacter gotOf sentByte sentRecord sentNext sentOf loaded modes rowOf shapeOf countOf cellOf withCell filled reduced scrolled controls-acts.plainOf controls-acts.actOf editor.newRow editor.openOf controls.lessOf controls.moreOf controls.clearOf controls.backOf controls.onward controls.dataOf controls.doing controls.putOf editor-get.cellsHeld editor-get.endOf editor-get.getAt editor-get.getOf graphics.onward graphics.cellsOpened graphics.openOf graphics.getOf graphics.clearOf graphics.dataOf graphics.putOf openS prepareS readS writeS
+unfolding after feed fedOf goodField senseOf badStatus messageOf errandStep planStep moveBy keys.keys keys-to.entryOf keys-to.keyAnswer keys-to.translateOf keyboard.obeyed keyboard.struckBy keyboard.getOf printer.putOf openE openOf prepareE prepareOf readE readK readOf writeE writeOf deviceOf numberOf namedOf specificationOf offersOf bytesAt fetchStatus fetchReply moves.getOf moves.putOf moves.goOf moves.advanceOf commandOf wayOf areaPlan transferPlan blockPlan nameOf namedFor callPlan planIn planOf loadedOf loadStatus thenOf openedOf openingOf transferOf workOf onwardOf recordOf gotCharacter gotOf sentByte sentRecord sentNext sentOf loaded modes rowOf shapeOf countOf cellOf withCell filled reduced scrolled controls-acts.plainOf controls-acts.actOf editor.newRow editor.openOf controls.lessOf controls.moreOf controls.clearOf controls.backOf controls.onward controls.dataOf controls.doing controls.putOf editor-get.cellsHeld editor-get.endOf editor-get.getAt editor-get.getOf graphics.onward graphics.cellsOpened graphics.openOf graphics.getOf graphics.clearOf graphics.dataOf graphics.putOf openS prepareS readS writeS
 machine-cases = refl
 
 -- the five calls play what the machine plays

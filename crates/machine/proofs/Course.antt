@@ -111,7 +111,7 @@ module _ (C : Core real) (w : C .World) (p : PortName) where
                 record {
                   run = r .run;
                   stands = e 0 ∙ ap shut (r .stands)
-                      ∙ ap (λ (z : Part g). shut (went (mine .area) z (transfer.goes (r .run)))) (prepared H (deviceLeft (job .device)) (job .device) (job .call) mine x (job .work) h);
+                      ∙ ap (λ (z : Part g). shut (went (mine .area) z (transfer.goes (r .run)))) (prepared H (deviceLeft (job .device) (mine .number) (job .call .iocb)) (job .device) (job .call) mine x (job .work) h);
                   counted = r .count;
                 };
             goes-on = λ k q h. let r = j .comes .runs (suc k) q h in record { run = r .run; stands = e (suc k) ∙ ap shut (r .stands); counted = r .count };

@@ -15,7 +15,7 @@ pub demand1 : Demand1 real (coreOf real)
 demand1 = any.demand1 real lawful
 
 -- "A request waits only while the other port holds the device group it needs. Once started, it moves one character a tick and ends
--- within 61,441 further ticks of its port."
+-- within 61,441 further ticks of its port."; "The bound of 61,441 becomes 89,876."
 pub demand2 : Demand2 real (coreOf real)
 demand2 = any.demand2 real lawful
 

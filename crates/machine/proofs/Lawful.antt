@@ -4,7 +4,8 @@ use mathlib.Core.Path.{_≡_, refl, sym, _∙_, ap, subst}
 use mathlib.Core.Bool.{true}
 use mathlib.Core.Option.{some}
 use mathlib.Core.List.{List, []}
-use Prim.Native.Nat.{ℕ, zero, suc}
+use Prim.Native.Nat.{ℕ, zero, suc, _<_}
+use native.Mathlib.Omega.{arith}
 use lib.ListN.{length}
 use Rattle.handler.specs.declared.Asked.{Asked}
 use Rattle.handler.specs.Acts.{Acts}
@@ -42,6 +43,7 @@ use Rattle.alone.proofs.AloneIs as alone
 use Rattle.serial.specs.Machine.{PortName, port-0, port-1, Two, at, set, other, ends, finishOut}
 use Rattle.serial.specs.Laws.{Laws, OkOut}
 use Rattle.rules.proofs.Marks.{markIn, marks-swap, job-marks, move-mark}
+use Rattle.rules.proofs.Places.{placed-of, of-placed, placesIn, PlacesKept, same-places, job-places, move-places}
 use Rattle.rules.proofs.RequestKeeps.{FitJob, FitPlan, plan-fit, FitOut, FitBegun, job-keeps, move-keeps}
 use Rattle.machine.specs.Spells.{none-taken}
 use Rattle.machine.specs.Real.{actsIn, replyBy, outBy, StepOn, needBy, errandStep, begunStep, jobStep, planStep, startBy, wentBy, moveBy, aloneBy, pressedOn, FitAll, UsedIn, FitRunning, real}
@@ -52,6 +54,7 @@ acts-own : (o : Owner) → actsIn (groupIn o) o ≡ ownActs o
 acts-own (owner.Console h) = refl
 acts-own owner.Printer = refl
 acts-own owner.Cassette = refl
+acts-own owner.Disk = refl
 
 pub own-acts : (device : Device) → actsIn (groupOf device) (ownerOf device) ≡ deviceActs device
 own-acts device = acts-own (ownerOf device)
@@ -60,11 +63,13 @@ pub used-own : (o : Owner) (x : Part (groupIn o)) → UsedIn (groupIn o) o x →
 used-own (owner.Console h) x u = u
 used-own owner.Printer x u = tt
 used-own owner.Cassette x u = tt
+used-own owner.Disk x u = tt
 
 own-used : (o : Owner) (x : Part (groupIn o)) → UsedBy o x → UsedIn (groupIn o) o x
 own-used (owner.Console h) x u = u
 own-used owner.Printer x u = tt
 own-used owner.Cassette x u = tt
+own-used owner.Disk x u = tt
 
 -- what is not damaged
 pub fit-at : (p : PortName) (t : Two Local) (s : Groups) → FitAll t s → FitLocal (at p t)
@@ -80,14 +85,42 @@ marks-at port-1 t s f = marks-swap (markIn s) (t .zeroth .table) (t .first .tabl
 abbrev KeepsMarks : (g : Group) → Local → Part g → (before : Local) → Groups → Type 0
 KeepsMarks g l x before s = (u : Table) → marksFit (markIn s) (before .table) u ≡ true → marksFit (markIn (putGroup g s x)) (l .table) u ≡ true
 
-fit-set : (p : PortName) (g : Group) (l : Local) (x : Part g) (t : Two Local) (s : Groups) → FitAll t s → FitLocal l → FitPart g x → KeepsMarks g l x (at p t) s → FitAll (set p l t) (putGroup g s x)
-fit-set port-0 g l x t s f o h k = record { zeroth = o; first = f .first; groups = fit-put g s x (f .groups) h; marks = k (t .first .table) (f .marks) }
-fit-set port-1 g l x t s f o h k = record {
-  zeroth = f .zeroth;
-  first = o;
-  groups = fit-put g s x (f .groups) h;
-  marks = marks-swap (markIn (putGroup g s x)) (l .table) (t .zeroth .table) (k (t .zeroth .table) (marks-at port-1 t s f));
-}
+-- and the blocks that have D open at one with their places
+abbrev KeepsPlaces : (g : Group) → Local → Part g → (before : Local) → Groups → Type 0
+KeepsPlaces g l x before s = PlacesKept (before .number) (before .table) (l .table) (placesIn s) (placesIn (putGroup g s x))
+
+number-low : (p : PortName) (t : Two Local) (s : Groups) → FitAll t s → at p t .number < 2
+number-low port-0 t s f = omega (arith, f .number0)
+number-low port-1 t s f = omega (arith, f .number1)
+
+fit-set : (p : PortName) (g : Group) (l : Local) (x : Part g) (t : Two Local) (s : Groups) → FitAll t s → FitLocal l → FitPart g x → KeepsMarks g l x (at p t) s
+    → l .number ≡ at p t .number → KeepsPlaces g l x (at p t) s → FitAll (set p l t) (putGroup g s x)
+fit-set port-0 g l x t s f o h k n q =
+    let left = placesIn (putGroup g s x) in
+    let was = placed-of (placesIn s) (t .zeroth .table) (t .first .table) (f .places) in
+    let kept = subst (λ (port : ℕ). PlacesKept port (t .zeroth .table) (l .table) (placesIn s) left) (f .number0) q in
+    record {
+      zeroth = o;
+      first = f .first;
+      groups = fit-put g s x (f .groups) h;
+      marks = k (t .first .table) (f .marks);
+      number0 = n ∙ f .number0;
+      number1 = f .number1;
+      places = of-placed left (l .table) (t .first .table) (o .eight) (f .first .eight) (kept .own (was .0)) (kept .others 1 (omega arith) (λ e. omega arith) (t .first .table) (was .1));
+    }
+fit-set port-1 g l x t s f o h k n q =
+    let left = placesIn (putGroup g s x) in
+    let was = placed-of (placesIn s) (t .zeroth .table) (t .first .table) (f .places) in
+    let kept = subst (λ (port : ℕ). PlacesKept port (t .first .table) (l .table) (placesIn s) left) (f .number1) q in
+    record {
+      zeroth = f .zeroth;
+      first = o;
+      groups = fit-put g s x (f .groups) h;
+      marks = marks-swap (markIn (putGroup g s x)) (l .table) (t .zeroth .table) (k (t .zeroth .table) (marks-at port-1 t s f));
+      number0 = f .number0;
+      number1 = n ∙ f .number1;
+      places = of-placed left (t .zeroth .table) (l .table) (f .zeroth .eight) (o .eight) (kept .others 0 (omega arith) (λ e. omega arith) (t .zeroth .table) (was .0)) (kept .own (was .1));
+    }
 
 abbrev OkStep : PortName → (g : Group) → Two Local → Groups → StepOn g → Type 0
 OkStep p g t d s = FitAll (set p (s .local) t) (putGroup g d (s .dev)) × OkOut real (λ k. FitRunning g k (s .local) (s .dev)) (s .out)
@@ -140,7 +173,8 @@ module _ (p : PortName) (run : Run) (t : Two Local) (d : Groups) (f : FitAll t d
       let k = move-keeps device (l .number) (l .table) run (r .fit) refl (l .area) x (fit-part g d (f .groups)) (used-own (ownerOf device) x (r .used)) in
       subst (OkStep p g t d) (sym (move-is device run refl l x)) (
         fit-set p g (withArea (w .area) l) (w .device) t d f (record { area = k .kept ∙ o .area; eight = o .eight; made = o .made }) (k .fits)
-            (λ u m. subst (λ (mark : ℕ). marksFit mark (l .table) u ≡ true) (sym (move-mark device (l .number) run (l .area) d)) m),
+            (λ u m. subst (λ (mark : ℕ). marksFit mark (l .table) u ≡ true) (sym (move-mark device (l .number) run (l .area) d)) m)
+            refl (move-places (l .number) (number-low p t d f) run (l .table) (o .eight) (r .fit .iocb) (l .area) d (fit-part g d (f .groups))),
         out-fit device (w .out) (withArea (w .area) l) (w .device) (k .out),
       )
 
@@ -186,10 +220,11 @@ module _ (job : Job) (l : Local) (x : Part (groupOf (job .device))) (f : FitPart
       ∙ ap (wentBy after) (alone.in-time (deviceActs (job .device)) (l .number) (begun .out) (l .area) (begun .device) 0 (v .course) _ (j .comes))
       ∙ ap (λ (m : Local). record { local = m; dev = v .device; out = ends (replyBy (v .reply)) }) (local-is v j (v .local .area))
 
-  job-fit : (p : PortName) (t : Two Local) (d : Groups) → FitAll t d → KeepsMarks mine after (begun .device) (at p t) d → OkStep p mine t d (jobStep mine job l x)
-  job-fit p t d a k =
+  job-fit : (p : PortName) (t : Two Local) (d : Groups) → FitAll t d → KeepsMarks mine after (begun .device) (at p t) d → l .number ≡ at p t .number → KeepsPlaces mine after (begun .device) (at p t) d
+      → OkStep p mine t d (jobStep mine job l x)
+  job-fit p t d a k n q =
       subst (OkStep p mine t d) (sym step-is) (
-        fit-set p mine after (begun .device) t d a (record { area = o .area; eight = with-length (l .table) (job .call .iocb) (begun .block) ∙ o .eight; made = begun-fit .made }) (begun-fit .fits) k,
+        fit-set p mine after (begun .device) t d a (record { area = o .area; eight = with-length (l .table) (job .call .iocb) (begun .block) ∙ o .eight; made = begun-fit .made }) (begun-fit .fits) k n q,
         out-fit (job .device) (begun .out) after (begun .device) (begun-fit .out),
       )
 
@@ -232,20 +267,28 @@ module _ (l : Local) (o : FitLocal l) (d : Groups) (f : FitGroups d) where
       let g = groupOf (job .device) in
       ap (putGroup g d) (sym (get-put g (aloneOnDevice job l d .device) d))
 
-  module _ (p : PortName) (t : Two Local) (a : FitAll t d) (mine-is : at p t .table ≡ l .table) where
-    -- what needs no group leaves the blocks and the tape
+  module _ (p : PortName) (t : Two Local) (a : FitAll t d) (mine-is : at p t ≡ l) where
+    -- what needs no group leaves the blocks, the tape and the places
     no-marks : KeepsMarks groups.Nobody l tt (at p t) d
-    no-marks u m = subst (λ (table : Table). marksFit (markIn d) table u ≡ true) mine-is m
+    no-marks u m = subst (λ (b : Local). marksFit (markIn d) (b .table) u ≡ true) mine-is m
+
+    same-number : l .number ≡ at p t .number
+    same-number = ap (λ (b : Local). b .number) (sym mine-is)
+
+    no-places : KeepsPlaces groups.Nobody l tt (at p t) d
+    no-places = subst (λ (b : Local). KeepsPlaces groups.Nobody l tt b d) (sym mine-is) (same-places (l .number) (l .table) (placesIn d))
 
     plan-fits : (q : Plan) (bytes : List ℕ) → FitPlan q (l .table) → FitAlone (alonePlan q bytes l d)
         → OkStep p (groupNeeded q) t d (planStep (groupNeeded q) q bytes l (getGroup (groupNeeded q) d))
     unfolding planStep alonePlan errandStep aloneErrand
-    plan-fits (plan.Free (errand.Status status b)) bytes q k = (fit-set p groups.Nobody _ tt t d a (k .local) tt no-marks, tt)
-    plan-fits (plan.Free (errand.Load address size)) bytes q k = (fit-set p groups.Nobody _ tt t d a (k .local) tt no-marks, tt)
-    plan-fits (plan.Free (errand.Fetch address count)) bytes q k = (fit-set p groups.Nobody _ tt t d a (k .local) tt no-marks, tt)
-    plan-fits (plan.Free (errand.Bad status)) bytes q k = (fit-set p groups.Nobody _ tt t d a (k .local) tt no-marks, tt)
+    plan-fits (plan.Free (errand.Status status b)) bytes q k = (fit-set p groups.Nobody _ tt t d a (k .local) tt no-marks same-number no-places, tt)
+    plan-fits (plan.Free (errand.Load address size)) bytes q k = (fit-set p groups.Nobody _ tt t d a (k .local) tt no-marks same-number no-places, tt)
+    plan-fits (plan.Free (errand.Fetch address count)) bytes q k = (fit-set p groups.Nobody _ tt t d a (k .local) tt no-marks same-number no-places, tt)
+    plan-fits (plan.Free (errand.Bad status)) bytes q k = (fit-set p groups.Nobody _ tt t d a (k .local) tt no-marks same-number no-places, tt)
     plan-fits (plan.On job) bytes q k = let g = groupOf (job .device) in job-fit job l (getGroup g d) (fit-part g d f) o q p t d a
-        (λ u m. job-marks (l .number) job (l .table) u (o .eight) q d (no-marks u m))
+        (λ u m. job-marks (l .number) job (l .table) u (o .eight) q d (no-marks u m)) same-number
+        (subst (λ (b : Local). KeepsPlaces g (after job l (getGroup g d) (fit-part g d f) o q) (begun job l (getGroup g d) (fit-part g d f) o q .device) b d) (sym mine-is)
+        (job-places (l .number) (subst (λ (b : Local). b .number < 2) mine-is (number-low p t d a)) job (l .table) (o .eight) q d (fit-part g d f)))
 
 -- by the message
 module _ (p : PortName) (m : Said) (t : Two Local) (d : Groups) (f : FitAll t d) where
@@ -281,8 +324,11 @@ hit-fit code x t d f e =
     record {
       zeroth = f .zeroth;
       first = f .first;
-      groups = record { console = subst FitGroup q (record { fit = press-fit code (d .console .console) (c .fit); whole = c .whole }); printer = f .groups .printer; cassette = f .groups .cassette };
+      groups = record { console = subst FitGroup q (record { fit = press-fit code (d .console .console) (c .fit); whole = c .whole }); printer = f .groups .printer; cassette = f .groups .cassette; disk = f .groups .disk };
       marks = f .marks;
+      number0 = f .number0;
+      number1 = f .number1;
+      places = f .places;
     }
 
 pub lawful : Laws real

@@ -80,7 +80,7 @@ seen-put : (p : PortName) (s : Stick) (l : Lent) → LengthsFit l → (port : bl
     → let n = portNumber p in
     viewOf (record {
       stick = withPort n port (withGroups g s);
-      buffers = lent (withPart roomLength n room (l .rooms)) (withPart areaLength n half (l .area)) (g .console .screen) (g .printer .paper) (g .cassette .tape);
+      buffers = lent (withPart roomLength n room (l .rooms)) (withPart areaLength n half (l .area)) (g .console .screen) (g .printer .paper) (g .cassette .tape) (g .disk .images);
     })
     ≡ record { ports = set p (portSeen n port room half) (viewOf (record { stick = s; buffers = l }) .ports); devs = g }
 seen-put port-0 s l w port room half g h k =
@@ -118,9 +118,9 @@ module _ (s : Stick) (l : Lent) (g : Guarded s l) where
   abbrev fit : never.Undamaged s
   fit = never.undamaged-of s l (g .fits)
 
-  -- a table has eight blocks, and the pending characters their places
+  -- a table has eight blocks, and the pending characters and the blocks' places their bytes
   shaped : Undamaged real view → Shaped s
-  shaped u = record { table0 = u .fit .zeroth .eight; table1 = u .fit .first .eight; pending = u .fit .groups .cassette .pending }
+  shaped u = record { table0 = u .fit .zeroth .eight; table1 = u .fit .first .eight; pending = u .fit .groups .cassette .pending; places = u .fit .groups .disk .places }
 
   -- a port below 2 is not refused
   allowed : (port : ℕ) → ltb port 2 ≡ true → refusalOf s l port ≡ 0
@@ -178,7 +178,7 @@ module _ (s : Stick) (l : Lent) (g : Guarded s l) where
     room-seen : (port : blocks.Port) (room : List ℕ) → length room ≡ roomLength
         → viewOf (record { stick = withPort n port s; buffers = withRoom n room l }) ≡ record { ports = set p (portSeen n port room (areaAt n l)) (view .ports); devs = groupsAt s l }
     room-seen port room h =
-        ap (λ (area : List ℕ). viewOf (record { stick = withPort n port s; buffers = lent (withPart roomLength n room (l .rooms)) area (l .screen) (l .paper) (l .tape) })) (sym (part-back areaLength n (l .area)))
+        ap (λ (area : List ℕ). viewOf (record { stick = withPort n port s; buffers = lent (withPart roomLength n room (l .rooms)) area (l .screen) (l .paper) (l .tape) (l .images) })) (sym (part-back areaLength n (l .area)))
         ∙ seen-put p s l (g .lengths) port room (areaAt n l) (groupsAt s l) h area-long
 
     -- take
@@ -196,7 +196,7 @@ module _ (s : Stick) (l : Lent) (g : Guarded s l) where
     give-seen-at =
         let t = givePort (own .phase) own (roomAt n l) in
         ap (λ (rooms : List ℕ). record {
-          world = viewOf (record { stick = withPort n (t .port) s; buffers = lent rooms (l .area) (l .screen) (l .paper) (l .tape) });
+          world = viewOf (record { stick = withPort n (t .port) s; buffers = lent rooms (l .area) (l .screen) (l .paper) (l .tape) (l .images) });
           answer = answerBy (gave (t .byte)) (t .answer);
         }) (sym (part-back roomLength n (l .rooms)))
         ∙ ap (λ (v : View real). record { world = v; answer = answerBy (gave (t .byte)) (t .answer) }) (room-seen (t .port) (roomAt n l) room-long)
@@ -316,6 +316,9 @@ module _ (w : World) (b : StartedFresh w) where
         first = local-fit port-1;
         groups = never.groups-fit (w .stick) (w .buffers) (subst Shaped fresh-stick never.fresh-shaped) u (g .lengths);
         marks = u .marks;
+        number0 = refl;
+        number1 = refl;
+        places = u .places;
       }
 
   pub fresh-begins : Begun real sticks w
@@ -339,7 +342,7 @@ pub demand1 : Demand1 real sticks
 demand1 = follow.demand1 real sticks follows lawful
 
 -- "A request waits only while the other port holds the device group it needs. Once started, it moves one character a tick and ends
--- within 61,441 further ticks of its port."
+-- within 61,441 further ticks of its port."; "The bound of 61,441 becomes 89,876."
 pub demand2 : Demand2 real sticks
 demand2 = follow.demand2 real sticks follows lawful
 
@@ -366,7 +369,7 @@ always-sound = any.always-sound real lawful sticks Sound steps
 pub always-eight : (w : World) → Reached real sticks w → (length (w .stick .port0 .table .blocks) ≡ 8) × (length (w .stick .port1 .table .blocks) ≡ 8)
 always-eight w r = let f = never-damaged w r .fit in (f .zeroth .eight, f .first .eight)
 
--- and the pending characters their 128 bytes
+-- and the pending characters their 128 bytes, the places their 240
 pub always-shaped : (w : World) → Reached real sticks w → Shaped (w .stick)
 always-shaped w r = shaped (w .stick) (w .buffers) (always-sound w r) (never-damaged w r)
 

@@ -7,6 +7,7 @@ use lib.Dec.{T, ltb, ltb→lt}
 use lib.ListN.{replicate, length-replicate}
 use Rattle.printer.specs.Printer.{paperLength}
 use Rattle.records.specs.Records.{tapeLength}
+use Rattle.image.specs.Image.{imagesLength}
 use Rattle.blocks.specs.Opening.{areaLength}
 use Rattle.wire.specs.Messages.{roomLength}
 use Rattle.layout.specs.Stick.{freshStick, Lent, lent}
@@ -23,7 +24,7 @@ use Rattle.machine.specs.Sticks.{World, StartedFresh, viewOf, sticks}
 use Rattle.machine.proofs.Linked.{fresh-seen, fresh-begins}
 
 abbrev pub zeros : Lent
-zeros = lent (replicate (2 * roomLength) 0) (replicate (2 * areaLength) 0) (replicate screenLength 0) (replicate paperLength 0) (replicate tapeLength 0)
+zeros = lent (replicate (2 * roomLength) 0) (replicate (2 * areaLength) 0) (replicate screenLength 0) (replicate paperLength 0) (replicate tapeLength 0) (replicate imagesLength 0)
 
 pub zeros-fit : LengthsFit zeros
 zeros-fit = record {
@@ -32,6 +33,7 @@ zeros-fit = record {
   whole = record { all = length-replicate {A = ℕ} screenLength 0 };
   paper = length-replicate {A = ℕ} paperLength 0;
   tape = length-replicate {A = ℕ} tapeLength 0;
+  images = length-replicate {A = ℕ} imagesLength 0;
 }
 
 abbrev pub plugged : World

@@ -40,7 +40,7 @@ module _ (C : Core real) where
     pub goes-on : (k : ℕ) (q : Point (Part g)) → suc k < length (a .course) → StandsAt p g a (getD (a .course) k q) (C .see w) (later (suc k) p w)
     -- "The last tick makes the reply and frees the group."
     pub ends : (n : ℕ) → length (a .course) ≤ n → later n p w ≡ landed real p g (record { local = a .local; dev = a .device; out = ends (replyBy (a .reply)) }) (C .see w)
-    -- "and ends within 61,441 further ticks of its port"
+    -- "and ends within 61,441 further ticks of its port", now 89,876
     pub bound : length (a .course) ≤ mostMoves
 
   -- by what the request comes to: what needs no device is ended by its start

@@ -14,6 +14,7 @@ use Rattle.handler.specs.Answer.{answer}
 use Rattle.handler.specs.Acts.{Acts}
 use Rattle.printer.specs.Printer.{printerActs}
 use Rattle.cassette.specs.Cassette.{cassetteActs}
+use Rattle.disk.specs.Disk.{diskActs}
 use Rattle.console.specs.Group.{ConsoleGroup, group, pressedOf}
 use Rattle.console.specs.Handlers.{consoleActs}
 use Rattle.console.specs.Fit.{InUse}
@@ -27,6 +28,7 @@ use Rattle.devices.specs.declared.Owner.the-variants as owner
 use Rattle.devices.specs.Groups.{Groups, Part, getGroup, putGroup, clash, ownerOf, groupOf}
 use Rattle.devices.specs.Fit.{FitGroups}
 use Rattle.devices.specs.Marks.{marksFit}
+use Rattle.devices.specs.Placed.{placesFit}
 use Rattle.plan.specs.declared.Errand.{Errand}
 use Rattle.plan.specs.declared.Errand.the-variants as errand
 use Rattle.plan.specs.declared.Job.{Job}
@@ -60,12 +62,19 @@ actsIn groups.Nobody o asked = noActs
 actsIn groups.Console (owner.Console h) asked = consoleActs h asked
 actsIn groups.Console owner.Printer asked = noActs
 actsIn groups.Console owner.Cassette asked = noActs
+actsIn groups.Console owner.Disk asked = noActs
 actsIn groups.Printer (owner.Console h) asked = noActs
 actsIn groups.Printer owner.Printer asked = printerActs asked
 actsIn groups.Printer owner.Cassette asked = noActs
+actsIn groups.Printer owner.Disk asked = noActs
 actsIn groups.Cassette (owner.Console h) asked = noActs
 actsIn groups.Cassette owner.Printer asked = noActs
 actsIn groups.Cassette owner.Cassette asked = cassetteActs asked
+actsIn groups.Cassette owner.Disk asked = noActs
+actsIn groups.Disk (owner.Console h) asked = noActs
+actsIn groups.Disk owner.Printer asked = noActs
+actsIn groups.Disk owner.Cassette asked = noActs
+actsIn groups.Disk owner.Disk asked = diskActs asked
 
 -- a reply has its first byte, and the rest; none is empty
 abbrev pub replyBy : List ℕ → ReplyBytes ℕ
@@ -122,12 +131,16 @@ aloneBy said l s = let w = aloneOf said l s in record { local = w .local; devs =
 abbrev pub pressedOn : ℕ → ConsoleGroup → ConsoleGroup
 pressedOn code g = group (pressedOf code (g .console)) (g .screen)
 
--- both ports' data with the groups undamaged, and the blocks that have C open at one with the cassette's mark
+-- both ports' data, each with its port's number, with the groups undamaged; the blocks that have C open at one with the cassette's mark,
+-- and those that have D open with their places
 pub record FitAll (t : Two Local) (s : Groups) : Type 0 where
   pub zeroth : FitLocal (t .zeroth)
   pub first : FitLocal (t .first)
   pub groups : FitGroups s
   pub marks : marksFit (s .cassette .cassette .mark) (t .zeroth .table) (t .first .table) ≡ true
+  pub number0 : t .zeroth .number ≡ 0
+  pub number1 : t .first .number ≡ 1
+  pub places : placesFit (s .disk .places) (t .zeroth .table) (t .first .table) ≡ true
 
 -- E runs in mode 0, S in another
 abbrev pub UsedIn : (g : Group) → Owner → Part g → Type 0
@@ -135,8 +148,10 @@ UsedIn groups.Nobody o x = Unit {0}
 UsedIn groups.Console (owner.Console h) x = InUse h (x .console)
 UsedIn groups.Console owner.Printer x = Unit {0}
 UsedIn groups.Console owner.Cassette x = Unit {0}
+UsedIn groups.Console owner.Disk x = Unit {0}
 UsedIn groups.Printer o x = Unit {0}
 UsedIn groups.Cassette o x = Unit {0}
+UsedIn groups.Disk o x = Unit {0}
 
 -- none of "a running request whose block, group, mode or buffer does not fit it"
 pub record FitRunning (g : Group) (run : Run) (l : Local) (x : Part g) : Type 0 where

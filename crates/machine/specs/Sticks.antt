@@ -1,4 +1,4 @@
--- The core of the five calls (`stick`), as a host can see it: the state with its five lent buffers, and what of it is a port's own,
+-- The core of the five calls (`stick`), as a host can see it: the state with its six lent buffers, and what of it is a port's own,
 -- what a group's.
 -- Assumes nothing.
 use mathlib.Core.Path.{_≡_}
@@ -22,7 +22,7 @@ use Rattle.serial.specs.Core.{Phase, gathering, ready, running, replying, PortV
 use Rattle.machine.specs.Spells.{gathers, keptValue}
 use Rattle.machine.specs.Real.{replyBy, real}
 
--- a state and its five lent buffers
+-- a state and its six lent buffers
 pub record World : Type 0 where
   pub stick : Stick
   pub buffers : Lent

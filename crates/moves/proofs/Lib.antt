@@ -1,4 +1,5 @@
 pub mod Moves
 pub mod Through
 pub mod Outs
+pub mod Kept
 pub mod Decided

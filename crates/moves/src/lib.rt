@@ -21,12 +21,13 @@ fn get(
     screen: &mut [u8],
     paper: &mut [u8],
     tape: &mut [u8],
+    images: &[u8],
 ) -> Carried
     requires { ⌜ Moves way run (now numbers) (now screen) (now tape) ⌝ }
-    ensures { λ r. ⌜ went (now (half .exit)) (devicesLent (now (numbers .exit)) (now (screen .exit)) (now (paper .exit)) (now (tape .exit))) (outOf (nextOf run r)) ≡ getOf (lentActs (run .device) asked) way run (now (half .entry)) (devicesLent (now (numbers .entry)) (now (screen .entry)) (now (paper .entry)) (now (tape .entry))) ⌝ }
+    ensures { λ r. ⌜ went (now (half .exit)) (devicesLent (now (numbers .exit)) (now (screen .exit)) (now (paper .exit)) (now (tape .exit)) (now (images .entry))) (outOf (nextOf run r)) ≡ getOf (lentActs (run .device) asked) way run (now (half .entry)) (devicesLent (now (numbers .entry)) (now (screen .entry)) (now (paper .entry)) (now (tape .entry)) (now (images .entry))) ⌝ }
 {
     let device = run.device;
-    let got = devices::read(device, asked, numbers, screen, paper, tape);
+    let got = devices::read(device, asked, numbers, screen, paper, tape, images);
     transfer::after_get(way, run, got, half)
 }
 
@@ -39,13 +40,14 @@ fn put(
     screen: &mut [u8],
     paper: &mut [u8],
     tape: &mut [u8],
+    images: &[u8],
 ) -> Carried
     requires { ⌜ Moves way run (now numbers) (now screen) (now tape) ⌝ }
-    ensures { λ r. ⌜ went (now (half .entry)) (devicesLent (now (numbers .exit)) (now (screen .exit)) (now (paper .exit)) (now (tape .exit))) (outOf (nextOf run r)) ≡ putOf (lentActs (run .device) asked) way run (now (half .entry)) (devicesLent (now (numbers .entry)) (now (screen .entry)) (now (paper .entry)) (now (tape .entry))) ⌝ }
+    ensures { λ r. ⌜ went (now (half .entry)) (devicesLent (now (numbers .exit)) (now (screen .exit)) (now (paper .exit)) (now (tape .exit)) (now (images .entry))) (outOf (nextOf run r)) ≡ putOf (lentActs (run .device) asked) way run (now (half .entry)) (devicesLent (now (numbers .entry)) (now (screen .entry)) (now (paper .entry)) (now (tape .entry)) (now (images .entry))) ⌝ }
 {
     let device = run.device;
     let byte = transfer::byte_to_send(way, run, half);
-    let done = devices::write(device, asked, byte, numbers, screen, paper, tape);
+    let done = devices::write(device, asked, byte, numbers, screen, paper, tape, images);
     transfer::after_put(way, run, byte, done)
 }
 
@@ -58,14 +60,15 @@ pub fn advance(
     screen: &mut [u8],
     paper: &mut [u8],
     tape: &mut [u8],
+    images: &[u8],
 ) -> Carried
     requires { ⌜ Goes run (now numbers) (now screen) (now tape) ⌝ }
-    ensures { λ r. ⌜ went (now (half .exit)) (devicesLent (now (numbers .exit)) (now (screen .exit)) (now (paper .exit)) (now (tape .exit))) (outOf (nextOf run r)) ≡ advanceOf (lentActs (run .device)) port run (now (half .entry)) (devicesLent (now (numbers .entry)) (now (screen .entry)) (now (paper .entry)) (now (tape .entry))) ⌝ }
+    ensures { λ r. ⌜ went (now (half .exit)) (devicesLent (now (numbers .exit)) (now (screen .exit)) (now (paper .exit)) (now (tape .exit)) (now (images .entry))) (outOf (nextOf run r)) ≡ advanceOf (lentActs (run .device)) port run (now (half .entry)) (devicesLent (now (numbers .entry)) (now (screen .entry)) (now (paper .entry)) (now (tape .entry)) (now (images .entry))) ⌝ }
 {
     let kind = run.kind;
     let asked = handler::on_block(port, run.iocb);
     match kind {
-        Kind::Get(way) => get(way, run, asked, half, numbers, screen, paper, tape),
-        Kind::Put(way) => put(way, run, asked, half, numbers, screen, paper, tape),
+        Kind::Get(way) => get(way, run, asked, half, numbers, screen, paper, tape, images),
+        Kind::Put(way) => put(way, run, asked, half, numbers, screen, paper, tape, images),
     }
 }

@@ -4,8 +4,12 @@ use mathlib.Core.Path.{_≡_, _∙_}
 use mathlib.Core.Bool.{Bool, true, false}
 use mathlib.Core.List.{List}
 use Prim.Native.Nat.{ℕ, _+_, _/_, _%_, _<_, _≤_}
-use lib.ListN.{getD}
+use lib.ListN.{getD, drop}
 use borrow.Author.Tests.{le-leb, lt-leb, eq-eqb, ne-eqb}
+use Rattle.names.specs.declared.Name.{Name}
+use Rattle.names.specs.declared.Named.{Named}
+use Rattle.names.specs.declared.Named.the-variants.{Past, Found}
+use Rattle.names.specs.Names.{noName, namedIn}
 use Rattle.blocks.specs.declared.Device.{Device}
 use Rattle.blocks.specs.declared.Kind.{Kind}
 use Rattle.blocks.specs.declared.Specification.{Specification}
@@ -22,7 +26,7 @@ use Rattle.plan.specs.declared.Job.{Job}
 use Rattle.plan.specs.declared.Errand.{Errand}
 use Rattle.plan.specs.declared.Plan.{Plan}
 use Rattle.plan.specs.declared.Plan.the-variants as plan
-use Rattle.plan.specs.Plan.{atOnce, plannedOf, nameOf, openPlan, areaPlan, transferPlan, groupNeeded}
+use Rattle.plan.specs.Plan.{atOnce, plannedOf, nameOf, hasNames, namedFor, namedPlan, openPlan, areaPlan, transferPlan, groupNeeded}
 
 module _ (half : List ℕ) (address byte : ℕ) (b : byte ≡ getD half (address + 1) 0) where
   pub name-alone : byte ≡ 0x3A → address + 2 ≡ nameOf half address
@@ -37,9 +41,28 @@ module _ (then : After) (s : Specification) (half : List ℕ) (call : Call) (o :
   pub open-refused : (status : ℕ) → s ≡ Refused status → atOnce status call ≡ openPlan then (specificationOf half (call .address)) half call
   open-refused status e = rw (← o, e)
 
-  pub open-names : (device : Device) (number name : ℕ) (p : Plan) → s ≡ Names device number → name ≡ nameOf half (call .address) → p ≡ plannedOf device (work.Open then number name) call
+  pub open-names : (device : Device) (number : ℕ) (named : Named) (p : Plan) → s ≡ Names device number → named ≡ namedFor device half (call .address) → p ≡ namedPlan then device number named call
       → p ≡ openPlan then (specificationOf half (call .address)) half call
-  open-names device number name p e n q = q ∙ rw (n, ← o, e)
+  open-names device number named p e n q = q ∙ rw (n, ← o, e)
+
+pub has-names : (known device : Device) → device ≡ known → hasNames known ≡ hasNames device
+has-names known device e = rw e
+
+module _ (device : Device) (half : List ℕ) (address : ℕ) (t : Bool) (h : t ≡ hasNames device) where
+  pub name-read : (place : ℕ) (r : Named) → t ≡ true → place ≡ nameOf half address → r ≡ namedIn (drop place half) → r ≡ namedFor device half address
+  unfolding namedFor
+  name-read place r e p q = q ∙ rw (p, ← h, e)
+
+  pub name-none : (name : Name) → t ≡ false → name ≡ noName → Found name ≡ namedFor device half address
+  unfolding namedFor
+  name-none name e n = rw (n, ← h, e)
+
+module _ (then : After) (device : Device) (number : ℕ) (named : Named) (call : Call) where
+  pub named-past : named ≡ Past → atOnce 0xB0 call ≡ namedPlan then device number named call
+  named-past e = rw e
+
+  pub named-found : (name : Name) (p : Plan) → named ≡ Found name → p ≡ plannedOf device (work.Open then number name) call → p ≡ namedPlan then device number named call
+  named-found name p e q = q ∙ rw e
 
 module _ (reads records : Bool) (device : Device) (call : Call) (kind : Kind) (k : kind ≡ kindOf reads (wayOf records (call .length))) where
   pub area-one : (p : Plan) → call .length ≡ 0 → p ≡ plannedOf device (work.Transfer kind) call → p ≡ areaPlan reads records device call

@@ -5,9 +5,13 @@ use mathlib.Core.Bool.{Bool, true, false}
 use mathlib.Core.List.{List}
 use Prim.Native.Nat.{ℕ, _+_}
 use lib.Dec.{eqb, leb, ltb}
-use lib.ListN.{getD}
+use lib.ListN.{getD, drop}
 use Rattle.base.specs.Choice.{pick, or}
+use Rattle.names.specs.declared.Named.{Named}
+use Rattle.names.specs.declared.Named.the-variants.{Past, Found}
+use Rattle.names.specs.Names.{noName, namedIn}
 use Rattle.blocks.specs.declared.Device.{Device}
+use Rattle.blocks.specs.declared.Device.the-variants.{E, S, K, P, C, D}
 use Rattle.blocks.specs.declared.BlockState.{BlockState}
 use Rattle.blocks.specs.declared.BlockState.the-variants as block
 use Rattle.blocks.specs.declared.ControlBlock.{ControlBlock}
@@ -49,10 +53,27 @@ plannedOf device w call = plan.On (jobOf device w call)
 unfoldable pub nameOf : List ℕ → (address : ℕ) → ℕ
 nameOf half address = pick (eqb (getD half (address + 1) 0) 0x3A) (address + 2) (address + 3)
 
+-- "01's "nothing after the colon" is not for D."
+abbrev pub hasNames : Device → Bool
+hasNames E = false
+hasNames S = false
+hasNames K = false
+hasNames P = false
+hasNames C = false
+hasNames D = true
+
+unfoldable pub namedFor : Device → List ℕ → (address : ℕ) → Named
+namedFor device half address = pick (hasNames device) (namedIn (drop (nameOf half address) half)) (Found noName)
+
+-- "($B0 if the area ends before the name)"
+abbrev pub namedPlan : After → Device → (number : ℕ) → Named → Call → Plan
+namedPlan then device number Past call = atOnce 0xB0 call
+namedPlan then device number (Found name) call = plannedOf device (work.Open then number name) call
+
 -- "$B0 and $82"
 abbrev pub openPlan : After → Specification → List ℕ → Call → Plan
 openPlan then (Refused status) half call = atOnce status call
-openPlan then (Names device number) half call = plannedOf device (work.Open then number (nameOf half (call .address))) call
+openPlan then (Names device number) half call = namedPlan then device number (namedFor device half (call .address)) call
 
 -- "$B0 buffer .. past the area"; of length 0 it is not looked at
 unfoldable pub areaPlan : (reads records : Bool) → Device → Call → Plan

@@ -3,10 +3,12 @@ use blocks::Device;
 use blocks::Kind;
 use blocks::Specification;
 use devices::Group;
+use names::Name;
+use names::Named;
 use wire::Call;
 ghost use mathlib.Core.Path.{_≡_};
 ghost use Rattle.blocks.specs.Opening.{specificationOf};
-ghost use Rattle.plan.specs.Plan.{plannedOf, nameOf, openPlan, areaPlan, transferPlan, groupNeeded};
+ghost use Rattle.plan.specs.Plan.{plannedOf, nameOf, hasNames, namedFor, namedPlan, openPlan, areaPlan, transferPlan, groupNeeded};
 
 // What follows an opening: the block stays open, or GET STATUS or SPECIAL answers and it is closed again.
 pub enum After {
@@ -15,12 +17,12 @@ pub enum After {
     Special,
 }
 
-// What is done with the group held; of an opening also the device's number, and where the name behind the colon begins.
+// What is done with the group held; of an opening also the device's number, and the name behind the colon.
 pub enum Work {
     Close,
     Status,
     Special,
-    Open(After, u8, u32),
+    Open(After, u8, Name),
     Transfer(Kind),
 }
 
@@ -66,6 +68,44 @@ fn name_at(half: &[u8], address: u16) -> u32
     address as u32 + 3
 }
 
+// D alone has names.
+fn has_names(device: Device) -> bool
+    ensures { λ r. ⌜ r ≡ hasNames device ⌝ }
+{
+    match device {
+        Device::E => false,
+        Device::S => false,
+        Device::K => false,
+        Device::P => false,
+        Device::C => false,
+        Device::D => true,
+    }
+}
+
+// The name behind the colon, of a device that has names.
+fn named_for(device: Device, half: &[u8], address: u16) -> Named
+    ensures { λ r. ⌜ r ≡ namedFor device (now (half .entry)) address ⌝ }
+{
+    if has_names(device) {
+        let place = name_at(half, address);
+        return names::name_at(half, place as usize);
+    }
+    Named::Found(names::none())
+}
+
+// An opening of a device, whose name ends in the area.
+fn named_plan(after: After, device: Device, number: u8, named: Named, call: Call) -> Plan
+    ensures { λ r. ⌜ r ≡ namedPlan after device number named call ⌝ }
+{
+    match named {
+        Named::Past => Plan::Free(Errand::Status(0xB0, call.a)),
+        Named::Found(name) => {
+            let work = Work::Open(after, number, name);
+            planned(device, work, call)
+        }
+    }
+}
+
 // An opening by its device specification.
 pub fn open_plan(after: After, half: &[u8], call: Call) -> Plan
     ensures { λ r. ⌜ r ≡ openPlan after (specificationOf (now (half .entry)) (call .address)) (now (half .entry)) call ⌝ }
@@ -74,9 +114,8 @@ pub fn open_plan(after: After, half: &[u8], call: Call) -> Plan
     match specification {
         Specification::Refused(status) => Plan::Free(Errand::Status(status, call.a)),
         Specification::Names(device, number) => {
-            let name = name_at(half, call.address);
-            let work = Work::Open(after, number, name);
-            planned(device, work, call)
+            let named = named_for(device, half, call.address);
+            named_plan(after, device, number, named, call)
         }
     }
 }

@@ -10,19 +10,28 @@ fn perform(
     screen: &mut [u8],
     paper: &mut [u8],
     tape: &mut [u8],
+    images: &mut [u8],
 ) -> u16 {
     match call {
         CallOp::Nothing => 0,
-        CallOp::Fresh => firmware::fixlomand_fresh(state, area, screen, paper, tape) as u16,
+        CallOp::Fresh => firmware::fixlomand_fresh(state, area, screen, paper, tape, images) as u16,
         CallOp::Take(port, byte) => {
-            firmware::fixlomand_take(state, area, screen, paper, tape, port, byte) as u16
+            firmware::fixlomand_take(state, area, screen, paper, tape, images, port, byte) as u16
         }
         CallOp::Tick(port) => {
-            firmware::fixlomand_tick(state, area, screen, paper, tape, port) as u16
+            firmware::fixlomand_tick(state, area, screen, paper, tape, images, port) as u16
         }
-        CallOp::Give(port) => firmware::fixlomand_give(state, area, screen, paper, tape, port),
+        CallOp::Give(port) => firmware::fixlomand_give(
+            state,
+            area,
+            screen,
+            paper,
+            tape,
+            images,
+            port,
+        ),
         CallOp::Press(code) => {
-            firmware::fixlomand_press(state, area, screen, paper, tape, code) as u16
+            firmware::fixlomand_press(state, area, screen, paper, tape, images, code) as u16
         }
     }
 }
@@ -36,12 +45,14 @@ pub fn perform_cut(
     screen: &mut [u8],
     paper: &mut [u8],
     tape: &mut [u8],
+    images: &mut [u8],
 ) -> u16 {
     let state_end = io::count(lengths.state as isize, state);
     let area_end = io::count(lengths.area as isize, area);
     let screen_end = io::count(lengths.screen as isize, screen);
     let paper_end = io::count(lengths.paper as isize, paper);
     let tape_end = io::count(lengths.tape as isize, tape);
+    let images_end = io::count(lengths.images as isize, images);
     perform(
         call,
         &mut state[..state_end],
@@ -49,5 +60,6 @@ pub fn perform_cut(
         &mut screen[..screen_end],
         &mut paper[..paper_end],
         &mut tape[..tape_end],
+        &mut images[..images_end],
     )
 }

@@ -14,11 +14,13 @@ fn main() {
     let mut some_screen = [0u8; firmware::SCREEN];
     let mut some_paper = [0u8; firmware::PAPER];
     let mut some_tape = [0u8; firmware::TAPE];
+    let mut some_images = [0u8; firmware::IMAGES];
     let state: &mut [u8] = &mut some_state;
     let area: &mut [u8] = &mut some_area;
     let screen: &mut [u8] = &mut some_screen;
     let paper: &mut [u8] = &mut some_paper;
     let tape: &mut [u8] = &mut some_tape;
+    let images: &mut [u8] = &mut some_images;
     let mut op = Op::Start;
     let mut lengths = LentLengths::whole();
     let mut i: u64 = 0;
@@ -26,9 +28,18 @@ fn main() {
         if op.ends() {
             return;
         }
-        let number = calls::perform_cut(op.call(), lengths, state, area, screen, paper, tape);
+        let number = calls::perform_cut(
+            op.call(),
+            lengths,
+            state,
+            area,
+            screen,
+            paper,
+            tape,
+            images,
+        );
         lengths = lengths.after(op);
-        op = answers::next(op, number, state, area, screen, paper, tape);
+        op = answers::next(op, number, state, area, screen, paper, tape, images);
         i += 1;
     }
 }

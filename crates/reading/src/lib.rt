@@ -50,7 +50,10 @@ fn device(number: u8) -> Device
     if number == 4 {
         return Device::P;
     }
-    Device::C
+    if number == 5 {
+        return Device::C;
+    }
+    Device::D
 }
 
 fn kind(number: u8) -> Kind

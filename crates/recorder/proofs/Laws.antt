@@ -23,9 +23,9 @@ use Rattle.cassette.specs.declared.Cassette.{Cassette}
 use Rattle.cassette.specs.Cassette.{CassetteGroup, cassetteGroup, withCassette, tapeOpened, openOf, closeOf, gottenOf, readOf, takenOf, writeOf}
 use Rattle.cassette.specs.Fit.{fitsCassette}
 use Rattle.layout.specs.Places.{cassettePlace, cassetteLength, pendingPlace, pendingLength, devicesLength, Numbers}
-use Rattle.layout.specs.Layout.{cassetteBytes, pendingBytes, cassetteIn, pendingIn}
+use Rattle.layout.specs.Layout.{cassetteBytes, arrayBytes, cassetteIn, arrayIn}
 use Rattle.layout.proofs.Lengths.{cassette-length}
-use Rattle.layout.proofs.ReadWrite.{pending-is}
+use Rattle.layout.proofs.ReadWrite.{array-is}
 use Rattle.recorder.specs.Recorder.{TapeLent, tapeLent, getTape, putTape, Wound}
 
 -- a part stored where it lies changes nothing
@@ -49,9 +49,9 @@ module _ (b : List ℕ) (h : Numbers b) where
   pending-fits = omega (arith, h .long)
 
   -- the numbers and the pending characters, written one after the other
-  both : (c : Cassette) (p : List ℕ) → length p ≡ pendingLength → sets b cassettePlace (cassetteBytes c ++ pendingBytes p) ≡ sets (sets b cassettePlace (cassetteBytes c)) pendingPlace p
+  both : (c : Cassette) (p : List ℕ) → length p ≡ pendingLength → sets b cassettePlace (cassetteBytes c ++ arrayBytes pendingLength p) ≡ sets (sets b cassettePlace (cassetteBytes c)) pendingPlace p
   both c p l =
-      ap (λ (x : List ℕ). sets b cassettePlace (cassetteBytes c ++ x)) (pending-is p l)
+      ap (λ (x : List ℕ). sets b cassettePlace (cassetteBytes c ++ x)) (array-is pendingLength p l)
       ∙ sym (sets-more b (cassetteBytes c) p cassettePlace)
       ∙ ap (λ (k : ℕ). sets (sets b cassettePlace (cassetteBytes c)) (cassettePlace + k) p) (cassette-length c)
 
@@ -59,10 +59,10 @@ module _ (b : List ℕ) (h : Numbers b) where
   apart c = behind (omega (arith, cassette-length c))
 
   -- the pending characters are as they were
-  alone : (c : Cassette) → sets b cassettePlace (cassetteBytes c ++ pendingBytes (pendingIn (drop pendingPlace b))) ≡ sets b cassettePlace (cassetteBytes c)
+  alone : (c : Cassette) → sets b cassettePlace (cassetteBytes c ++ arrayBytes pendingLength (arrayIn pendingLength (drop pendingPlace b))) ≡ sets b cassettePlace (cassetteBytes c)
   alone c =
       let l : pendingPlace + pendingLength ≤ length (sets b cassettePlace (cassetteBytes c)) = simp length-sets (omega (arith, h .long)) in
-      both c (pendingIn (drop pendingPlace b)) (part-length pendingPlace pendingLength b pending-fits)
+      both c (arrayIn pendingLength (drop pendingPlace b)) (part-length pendingPlace pendingLength b pending-fits)
       ∙ ap (sets (sets b cassettePlace (cassetteBytes c)) pendingPlace) (sym (part-other pendingPlace pendingLength cassettePlace (cassetteBytes c) b (apart c)))
       ∙ sets-part pendingPlace pendingLength (sets b cassettePlace (cassetteBytes c)) l
 

@@ -7,8 +7,8 @@ use lib.ListN.{length, drop}
 use lib.Seq.{sets}
 use Rattle.records.specs.Records.{tapeLength}
 use Rattle.cassette.specs.Cassette.{CassetteGroup, cassetteGroup}
-use Rattle.layout.specs.Places.{cassettePlace, pendingPlace, Numbers}
-use Rattle.layout.specs.Layout.{cassetteBytes, pendingBytes, cassetteIn, pendingIn}
+use Rattle.layout.specs.Places.{cassettePlace, pendingPlace, pendingLength, Numbers}
+use Rattle.layout.specs.Layout.{cassetteBytes, arrayBytes, cassetteIn, arrayIn}
 
 pub record TapeLent : Type 0 where
   pub numbers : List ℕ
@@ -19,10 +19,10 @@ tapeLent numbers tape = record { numbers = numbers; tape = tape }
 
 -- the cassette that is lent, and one put into its bytes and its tape
 abbrev pub getTape : (numbers tape : List ℕ) → CassetteGroup
-getTape numbers tape = cassetteGroup (cassetteIn (drop cassettePlace numbers)) (pendingIn (drop pendingPlace numbers)) tape
+getTape numbers tape = cassetteGroup (cassetteIn (drop cassettePlace numbers)) (arrayIn pendingLength (drop pendingPlace numbers)) tape
 
 abbrev pub putTape : (numbers : List ℕ) → CassetteGroup → TapeLent
-putTape numbers x = tapeLent (sets numbers cassettePlace (cassetteBytes (x .cassette) ++ pendingBytes (x .pending))) (x .tape)
+putTape numbers x = tapeLent (sets numbers cassettePlace (cassetteBytes (x .cassette) ++ arrayBytes pendingLength (x .pending))) (x .tape)
 
 -- all the numbers, and the whole tape
 pub record Wound (numbers tape : List ℕ) : Type 0 where

@@ -4,7 +4,7 @@ use cassette::Cassette;
 use handler::Done;
 use handler::Got;
 use layout::places::CASSETTE;
-use layout::places::NUMBERS;
+use layout::places::DISK;
 use layout::places::PENDING;
 ghost use mathlib.Core.Path.{_≡_};
 ghost use lib.Dec.{eqb, leb};
@@ -51,7 +51,7 @@ pub fn close(numbers: &mut [u8], tape: &mut [u8])
     ensures { λ _. ⌜ tapeLent (now (numbers .exit)) (now (tape .exit)) ≡ putTape (now (numbers .entry)) (closeOf (getTape (now (numbers .entry)) (now (tape .entry)))) ⌝ }
 {
     let cassette = cassette_of(numbers);
-    let next = cassette.close(&numbers[PENDING..NUMBERS], tape);
+    let next = cassette.close(&numbers[PENDING..DISK], tape);
     set_cassette(numbers, next);
 }
 
@@ -74,7 +74,7 @@ pub fn write(numbers: &mut [u8], tape: &mut [u8], byte: u8) -> Done
     ensures { λ r. ⌜ answer r (tapeLent (now (numbers .exit)) (now (tape .exit))) ≡ seen (putTape (now (numbers .entry))) (writeOf byte (getTape (now (numbers .entry)) (now (tape .entry)))) ⌝ }
 {
     let cassette = cassette_of(numbers);
-    let written = cassette.write(&mut numbers[PENDING..NUMBERS], tape, byte);
+    let written = cassette.write(&mut numbers[PENDING..DISK], tape, byte);
     let next = written.cassette;
     let done = written.done;
     set_cassette(numbers, next);

@@ -163,12 +163,12 @@ part-back n port xs = go (eqb port 0)
     go false = take-append-drop n xs
 
 room-back : (port : ℕ) (l : Lent) → withRoom port (roomAt port l) l ≡ l
-room-back port l = ap (λ (xs : List ℕ). lent xs (l .area) (l .screen) (l .paper) (l .tape)) (part-back roomLength port (l .rooms))
+room-back port l = ap (λ (xs : List ℕ). lent xs (l .area) (l .screen) (l .paper) (l .tape) (l .images)) (part-back roomLength port (l .rooms))
 
 reach-back : (port : ℕ) (s : Stick) (l : Lent) → lentReach port (reachAt port s l) l ≡ l
 reach-back port s l =
-    ap (λ (xs : List ℕ). lent xs (withPart areaLength port (areaAt port l) (l .area)) (l .screen) (l .paper) (l .tape)) (part-back roomLength port (l .rooms))
-    ∙ ap (λ (xs : List ℕ). lent (l .rooms) xs (l .screen) (l .paper) (l .tape)) (part-back areaLength port (l .area))
+    ap (λ (xs : List ℕ). lent xs (withPart areaLength port (areaAt port l) (l .area)) (l .screen) (l .paper) (l .tape) (l .images)) (part-back roomLength port (l .rooms))
+    ∙ ap (λ (xs : List ℕ). lent (l .rooms) xs (l .screen) (l .paper) (l .tape) (l .images)) (part-back areaLength port (l .area))
 
 port-back : (port : ℕ) (s : Stick) → withPort port (portAt port s) s ≡ s
 port-back port s = go (eqb port 0)
@@ -215,6 +215,7 @@ clash-self : (o : Owner) → clash (groupIn o) (groupIn o) ≡ true
 clash-self (owner.Console h) = refl
 clash-self owner.Printer = refl
 clash-self owner.Cassette = refl
+clash-self owner.Disk = refl
 
 pub clash-holds : (g : Group) (phase : Phase) → (clash g (heldOf phase) ≡ true) ↔ Holds phase g
 clash-holds g (Gathering gather) = (λ e. never e (clash-none g), λ w. absurd w)

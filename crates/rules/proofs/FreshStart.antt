@@ -18,6 +18,7 @@ use Rattle.wire.specs.Messages.{roomLength}
 use Rattle.layout.specs.Stick.{Stick, freshStick, Lent}
 use Rattle.cassette.specs.Fit.{fitsCassette}
 use Rattle.devices.specs.Marks.{marksFit}
+use Rattle.devices.specs.Placed.{placesFit}
 use Rattle.damage.specs.Fits.{phaseFits, portFits, stickFits}
 use Rattle.calls.specs.Stick.{Outcome, outcome, screenLength, lengthsFit, LengthsFit, Guarded}
 use Rattle.calls.specs.Calls.{freshLent, freshCall}
@@ -25,13 +26,13 @@ use Rattle.rules.proofs.Guards.{fit-of}
 
 -- "No state reached from fresh by these calls is damaged": not the fresh one
 pub fresh-undamaged : (l : Lent) → stickFits freshStick l ≡ true
-unfolding stickFits portFits phaseFits gatherFits fitsCassette marksFit
+unfolding stickFits portFits phaseFits gatherFits fitsCassette marksFit placesFit
 fresh-undamaged l = rw (fresh-group .fit)
 
 module _ (l : Lent) (w : LengthsFit l) where
   -- what it leaves in the lent buffers has their lengths
   pub fresh-lengths : LengthsFit (freshLent l)
-  fresh-lengths = record { rooms = length-replicate {A = ℕ} (2 * roomLength) 0; area = length-replicate {A = ℕ} (2 * areaLength) 0; whole = fresh-group .whole; paper = w .paper; tape = w .tape }
+  fresh-lengths = record { rooms = length-replicate {A = ℕ} (2 * roomLength) 0; area = length-replicate {A = ℕ} (2 * areaLength) 0; whole = fresh-group .whole; paper = w .paper; tape = w .tape; images = w .images }
 
   -- "fresh start gives 0 or 2 only": from any state, damaged or not
   pub fresh-done : (s : Stick) → freshCall s l ≡ outcome 0 0 freshStick (freshLent l)

@@ -11,6 +11,7 @@ use Rattle.base.specs.Choice.{pick, and}
 use Rattle.base.proofs.Choices.{and-left, and-right}
 use Rattle.printer.specs.Printer.{paperLength}
 use Rattle.records.specs.Records.{tapeLength}
+use Rattle.image.specs.Image.{imagesLength}
 use Rattle.blocks.specs.Opening.{areaLength}
 use Rattle.wire.specs.Messages.{roomLength}
 use Rattle.layout.specs.Stick.{Stick, Lent}
@@ -26,15 +27,18 @@ module _ (l : Lent) where
       let c = eqb (length (l .screen)) screenLength in
       let d = eqb (length (l .paper)) paperLength in
       let f = eqb (length (l .tape)) tapeLength in
-      let e1 = and-right a (and b (and c (and d f))) e in
-      let e2 = and-right b (and c (and d f)) e1 in
-      let e3 = and-right c (and d f) e2 in
+      let i = eqb (length (l .images)) imagesLength in
+      let e1 = and-right a (and b (and c (and d (and f i)))) e in
+      let e2 = and-right b (and c (and d (and f i))) e1 in
+      let e3 = and-right c (and d (and f i)) e2 in
+      let e4 = and-right d (and f i) e3 in
       record {
-        rooms = eqb-true _ _ (and-left a (and b (and c (and d f))) e);
-        area = eqb-true _ _ (and-left b (and c (and d f)) e1);
-        whole = record { all = eqb-true _ _ (and-left c (and d f) e2) };
-        paper = eqb-true _ _ (and-left d f e3);
-        tape = eqb-true _ _ (and-right d f e3);
+        rooms = eqb-true _ _ (and-left a (and b (and c (and d (and f i)))) e);
+        area = eqb-true _ _ (and-left b (and c (and d (and f i))) e1);
+        whole = record { all = eqb-true _ _ (and-left c (and d (and f i)) e2) };
+        paper = eqb-true _ _ (and-left d (and f i) e3);
+        tape = eqb-true _ _ (and-left f i e4);
+        images = eqb-true _ _ (and-right f i e4);
       }
 
   pub fit-of : LengthsFit l → lengthsFit l ≡ true
@@ -46,6 +50,7 @@ module _ (l : Lent) where
         eq-eqb (length (l .screen)) screenLength (w .whole .all),
         eq-eqb (length (l .paper)) paperLength (w .paper),
         eq-eqb (length (l .tape)) tapeLength (w .tape),
+        eq-eqb (length (l .images)) imagesLength (w .images),
       )
 
 picked : (a b c : Bool) → _≡_ {A = ℕ} (pick a (pick b (pick c 0 1) 3) 2) 0 → (a ≡ true) × (b ≡ true)

@@ -3,6 +3,7 @@ pub mod Statuses
 pub mod Refusals
 pub mod RequestKeeps
 pub mod Marks
+pub mod Places
 pub mod PortKeeps
 pub mod NeverDamaged
 pub mod Answers

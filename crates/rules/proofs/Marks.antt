@@ -17,6 +17,7 @@ use Rattle.handler.specs.declared.Done.{Done}
 use Rattle.handler.specs.declared.Done.the-variants as done
 use Rattle.handler.specs.declared.Got.{Got}
 use Rattle.handler.specs.Answer.{Answer, answer}
+use Rattle.names.specs.declared.Name.{Name}
 use Rattle.handler.specs.Acts.{Acts, asksOpen, asksOn}
 use Rattle.cassette.specs.declared.Cassette.{Cassette}
 use Rattle.cassette.specs.Cassette.{CassetteGroup, markOf, cassetteAt, withCassette, tapeOpened, closeOf, behind, readOf, takenOf, writeOf, cassetteActs}
@@ -28,7 +29,7 @@ use Rattle.blocks.specs.declared.BlockState.{BlockState}
 use Rattle.blocks.specs.declared.BlockState.the-variants as block
 use Rattle.blocks.specs.declared.ControlBlock.{ControlBlock}
 use Rattle.blocks.specs.declared.Device.{Device}
-use Rattle.blocks.specs.declared.Device.the-variants.{E, S, K, P, C}
+use Rattle.blocks.specs.declared.Device.the-variants.{E, S, K, P, C, D}
 use Rattle.blocks.specs.declared.Kind.{Kind}
 use Rattle.blocks.specs.declared.Kind.the-variants.{Get, Put}
 use Rattle.blocks.specs.declared.Run.{Run}
@@ -83,18 +84,21 @@ markWith group.Nobody x m = m
 markWith group.Console x m = m
 markWith group.Printer x m = m
 markWith group.Cassette x m = x .cassette .mark
+markWith group.Disk x m = m
 
 pub put-mark : (g : Group) (s : Groups) (x : Part g) → markIn (putGroup g s x) ≡ markWith g x (markIn s)
 put-mark group.Nobody s x = refl
 put-mark group.Console s x = refl
 put-mark group.Printer s x = refl
 put-mark group.Cassette s x = refl
+put-mark group.Disk s x = refl
 
 pub get-mark : (g : Group) (s : Groups) → markWith g (getGroup g s) (markIn s) ≡ markIn s
 get-mark group.Nobody s = refl
 get-mark group.Console s = refl
 get-mark group.Printer s = refl
 get-mark group.Cassette s = refl
+get-mark group.Disk s = refl
 
 -- one block among the others: of those T have C open, and their marks are M
 record Others (T M : ℕ) : Type 0 where
@@ -142,7 +146,7 @@ module _ (port : ℕ) (call : Call) (table : Table) (m T M : ℕ) where
       plain work.Special f a = alike T M (before .state) (before .state) _ _ refl refl (same _) a
       plain (work.Open then number name) f a =
           choose-go (λ (y : Begun (Part g)). Among T M (y .block .state) (markWith g (y .device) m)) (offersOf device (call .aux1)) _ _
-          (λ o. let y = cio.openedOf (H (asksOpen port (call .iocb) (call .aux1) (call .aux2) name)) then x in
+          (λ o. let y = cio.openedOf (H (asksOpen port (call .iocb) number (call .aux1) (call .aux2) name)) then x in
           let q = after-tapes (y .says) then number (f .has) in
           alike T M (before .state) _ _ _ (q .0) (q .1) (same _) a)
           (λ o. a)
@@ -161,10 +165,10 @@ module _ (port : ℕ) (call : Call) (table : Table) (m T M : ℕ) where
     closed-mark : (y : CassetteGroup) → closeOf y .cassette .mark ≡ 0
     closed-mark y = ap (λ (c : Cassette). c .mark) (close-closed y)
 
-    module _ (number name : ℕ) (c : before .state ≡ block.Closed) (a : Among T M (before .state) (x .cassette .mark)) where
+    module _ (number : ℕ) (name : Name) (c : before .state ≡ block.Closed) (a : Among T M (before .state) (x .cassette .mark)) where
       abbrev Opens : After → Type 0
       Opens then =
-          let y = cio.openedOf (cassetteActs (asksOpen port (call .iocb) (call .aux1) (call .aux2) name)) then x in
+          let y = cio.openedOf (cassetteActs (asksOpen port (call .iocb) number (call .aux1) (call .aux2) name)) then x in
           Among T M (blockAfter (y .says) then (openBlock C number (call .aux1)) before .state) (y .leaves .cassette .mark)
 
       free : (then : After) → x .cassette .mark ≡ 0 → Opens then
@@ -204,9 +208,10 @@ module _ (port : ℕ) (call : Call) (table : Table) (m T M : ℕ) where
   work-marks o K w f x = plain K refl (λ aux1. refl) (λ y. refl) x w f
   work-marks o P w f x = plain P refl (λ aux1. refl) (λ y. refl) x w f
   work-marks o C w f x = taped o x w f
+  work-marks o D w f x = plain D refl (λ aux1. refl) (λ y. refl) x w f
 
 -- the block of a request that has passed the first check
-iocb-low : (w : Work) (device : Device) (call : Call) (table : Table) → FitWork w device call table → call .iocb < 8
+pub iocb-low : (w : Work) (device : Device) (call : Call) (table : Table) → FitWork w device call table → call .iocb < 8
 iocb-low work.Close device call table f = f .iocb
 iocb-low work.Status device call table f = f .iocb
 iocb-low work.Special device call table f = f .iocb
@@ -293,6 +298,7 @@ module _ (m : ℕ) (asked : Asked) where
   device-read-mark K x = refl
   device-read-mark P x = refl
   device-read-mark C x = read-mark x
+  device-read-mark D x = refl
 
   device-write-mark : (device : Device) (byte : ℕ) (x : Part (groupOf device)) → markWith (groupOf device) (deviceActs device asked .writes byte x .leaves) m ≡ markWith (groupOf device) x m
   device-write-mark E byte x = refl
@@ -300,6 +306,7 @@ module _ (m : ℕ) (asked : Asked) where
   device-write-mark K byte x = refl
   device-write-mark P byte x = refl
   device-write-mark C byte x = write-mark byte x
+  device-write-mark D byte x = refl
 
 go-mark : (m n : ℕ) (device : Device) (kind : Kind) (run : Run) (area : List ℕ) (x : Part (groupOf device))
     → markWith (groupOf device) (goOf (deviceActs device (asksOn n (run .iocb))) kind run area x .device) m ≡ markWith (groupOf device) x m
@@ -348,6 +355,7 @@ opened-tape (block.Open S number aux1) n = absurd (n refl)
 opened-tape (block.Open K number aux1) n = absurd (n refl)
 opened-tape (block.Open P number aux1) n = absurd (n refl)
 opened-tape (block.Open C number aux1) n = (number, (aux1, refl))
+opened-tape (block.Open D number aux1) n = absurd (n refl)
 
 find-tape : (bs : List ControlBlock) → (marksIn bs ≡ 0 → ⊥) → Tape bs
 find-tape [] n = absurd (n refl)

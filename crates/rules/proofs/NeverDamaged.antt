@@ -6,18 +6,19 @@ use mathlib.Core.Bool.{Bool, true, false}
 use mathlib.Core.List.{List, [], _∷_, _++_}
 use Prim.Native.Nat.{ℕ, _*_, _<_, _≤_}
 use native.Mathlib.Omega.{arith}
-use borrow.Author.Tests.{le-leb, not-true}
+use borrow.Author.Tests.{le-leb, le-ltb, not-true}
 use lib.Dec.{T, eqb, leb}
 use lib.ListN.{length, take, drop, replicate, length-append, length-drop, length-replicate}
 use lib.Seq.{length-take-le}
-use Rattle.base.specs.Choice.{pick, and}
-use Rattle.base.proofs.Choices.{choose-go, choose-eq}
+use Rattle.base.specs.Choice.{pick}
+use Rattle.base.proofs.Choices.{choose-go, choose-eq, by-lt}
 use Rattle.printer.specs.Printer.{paperLength}
 use Rattle.console.specs.declared.state.Console.{Console}
 use Rattle.console.specs.Group.{freshConsole, pressedOf}
 use Rattle.console.specs.Fit.{fitOf}
 use Rattle.console.proofs.Keeps.{press-fit, fresh-group}
 use Rattle.cassette.specs.Fit.{fitsCassette}
+use Rattle.disk.specs.Disk.{placesLength}
 use Rattle.blocks.specs.declared.Table.{Table}
 use Rattle.blocks.specs.declared.Port.{Port}
 use Rattle.blocks.specs.Blocks.{freshPort}
@@ -27,9 +28,11 @@ use Rattle.wire.specs.Messages.{roomLength}
 use Rattle.wire.proofs.Keeps.{fresh-fits}
 use Rattle.layout.specs.Places.{pendingLength}
 use Rattle.layout.specs.Stick.{Stick, freshStick, Lent, portAt, otherAt, withPort0, withPort1, withPort, partAt, withPart}
+use Rattle.layout.proofs.Ports.{by-port}
 use Rattle.devices.specs.Groups.{clash, heldOf}
 use Rattle.devices.specs.Fit.{FitGroups}
 use Rattle.devices.specs.Marks.{marksFit}
+use Rattle.devices.specs.Placed.{placesFit}
 use Rattle.devices.proofs.Frame.{clash-swap}
 use Rattle.damage.specs.Fits.{phaseFits, portFits, stickFits}
 use Rattle.damage.proofs.Fitting as fitting
@@ -39,10 +42,8 @@ use Rattle.calls.specs.Calls.{freshLent, freshCall, guarded, takeAt, takeCall, 
 use Rattle.rules.specs.Shape.{Shaped}
 use Rattle.rules.proofs.Guards.{fit-of, guarded-of}
 use Rattle.rules.proofs.Marks.{marks-swap}
+use Rattle.rules.proofs.Places.{both, placed-of, of-placed, placesIn, PlacesKept}
 use Rattle.rules.proofs.PortKeeps.{FitReach, Kept, kept-mode, tick-kept, FitPort, take-kept, take-length, take-table, give-kept, give-table, port-same, of-port}
-
-both : (a b : Bool) → a ≡ true → b ≡ true → and a b ≡ true
-both a b p q = rw (p, q)
 
 -- undamaged, word by word; the lent buffers are not looked at
 pub record Undamaged (s : Stick) : Type 0 where
@@ -52,6 +53,7 @@ pub record Undamaged (s : Stick) : Type 0 where
   pub printer : s .devices .printer .used ≤ paperLength
   pub cassette : fitsCassette (s .devices .cassette) ≡ true
   pub marks : marksFit (s .devices .cassette .mark) (s .port0 .table) (s .port1 .table) ≡ true
+  pub places : placesFit (s .devices .places) (s .port0 .table) (s .port1 .table) ≡ true
   pub apart : clash (heldOf (s .port0 .phase)) (heldOf (s .port1 .phase)) ≡ false
 
 module _ (s : Stick) (l : Lent) where
@@ -63,6 +65,7 @@ module _ (s : Stick) (l : Lent) where
     printer = fitting.printer-fits s l e;
     cassette = fitting.cassette-fits s l e;
     marks = fitting.marks-fit s l e;
+    places = fitting.places-fit s l e;
     apart = not-true (clash (heldOf (s .port0 .phase)) (heldOf (s .port1 .phase))) (fitting.ports-apart s l e);
   }
 
@@ -74,7 +77,8 @@ module _ (s : Stick) (l : Lent) where
       (both (fitOf (s .devices .console)) _ (u .console)
       (both (leb (s .devices .printer .used) paperLength) _ (le-leb (s .devices .printer .used) paperLength (u .printer))
       (both (fitsCassette (s .devices .cassette)) _ (u .cassette)
-      (both (marksFit (s .devices .cassette .mark) (s .port0 .table) (s .port1 .table)) _ (u .marks) (rw (u .apart)))))))
+      (both (marksFit (s .devices .cassette .mark) (s .port0 .table) (s .port1 .table)) _ (u .marks)
+      (both (placesFit (s .devices .places) (s .port0 .table) (s .port1 .table)) _ (u .places) (rw (u .apart))))))))
 
 -- what a call leaves: an undamaged state of the same shape, and buffers of their lengths
 record Leaves (o : Outcome) : Type 0 where
@@ -134,6 +138,14 @@ module _ (port : ℕ) (s : Stick) (u : Undamaged s) where
       go true = u .marks
       go false = marks-swap (s .devices .cassette .mark) (s .port0 .table) (s .port1 .table) (u .marks)
 
+  -- "Each block has its own place.": the places of port 0 and of port 1 are apart, so that it is said of both ports in their order
+  table-placed : (p : Port) → p .table ≡ portAt port s .table → placesFit (s .devices .places) (withPort port p s .port0 .table) (withPort port p s .port1 .table) ≡ true
+  table-placed p e = go (eqb port 0) e
+    where
+      go : (b : Bool) → p .table ≡ pick b (s .port0) (s .port1) .table → placesFit (s .devices .places) (pick b (withPort0 p s) (withPort1 p s) .port0 .table) (pick b (withPort0 p s) (withPort1 p s) .port1 .table) ≡ true
+      go true e = subst (λ (t : Table). placesFit (s .devices .places) t (s .port1 .table) ≡ true) (sym e) (u .places)
+      go false e = subst (λ (t : Table). placesFit (s .devices .places) (s .port0 .table) t ≡ true) (sym e) (u .places)
+
 -- a port in the place of another
 record InPlace (port : ℕ) (p : Port) (s : Stick) : Type 0 where
   own : portFits p (s .devices .console) ≡ true
@@ -142,21 +154,24 @@ record InPlace (port : ℕ) (p : Port) (s : Stick) : Type 0 where
   printer : s .devices .printer .used ≤ paperLength
   cassette : fitsCassette (s .devices .cassette) ≡ true
   marks : marksFit (s .devices .cassette .mark) (p .table) (otherAt port s .table) ≡ true
+  places : placesFit (s .devices .places) (withPort port p s .port0 .table) (withPort port p s .port1 .table) ≡ true
   apart : clash (heldOf (p .phase)) (heldOf (otherAt port s .phase)) ≡ false
 
 with-undamaged : (port : ℕ) (p : Port) (s : Stick) → InPlace port p s → Undamaged (withPort port p s)
-with-undamaged port p s f = go (eqb port 0) (f .other) (f .marks) (f .apart)
+with-undamaged port p s f = go (eqb port 0) (f .other) (f .marks) (f .places) (f .apart)
   where
     go : (b : Bool) → portFits (pick b (s .port1) (s .port0)) (s .devices .console) ≡ true → marksFit (s .devices .cassette .mark) (p .table) (pick b (s .port1) (s .port0) .table) ≡ true
+        → placesFit (s .devices .places) (pick b (withPort0 p s) (withPort1 p s) .port0 .table) (pick b (withPort0 p s) (withPort1 p s) .port1 .table) ≡ true
         → clash (heldOf (p .phase)) (heldOf (pick b (s .port1) (s .port0) .phase)) ≡ false → Undamaged (pick b (withPort0 p s) (withPort1 p s))
-    go true g m a = record { port0 = f .own; port1 = g; console = f .console; printer = f .printer; cassette = f .cassette; marks = m; apart = a }
-    go false g m a = record {
+    go true g m d a = record { port0 = f .own; port1 = g; console = f .console; printer = f .printer; cassette = f .cassette; marks = m; places = d; apart = a }
+    go false g m d a = record {
       port0 = g;
       port1 = f .own;
       console = f .console;
       printer = f .printer;
       cassette = f .cassette;
       marks = marks-swap (s .devices .cassette .mark) (p .table) (s .port0 .table) m;
+      places = d;
       apart = clash-swap (heldOf (s .port0 .phase)) (heldOf (p .phase)) ∙ a;
     }
 
@@ -165,8 +180,8 @@ with-shaped : (port : ℕ) (p : Port) (s : Stick) → length (p .table .blocks) 
 with-shaped port p s e h = go (eqb port 0)
   where
     go : (b : Bool) → Shaped (pick b (withPort0 p s) (withPort1 p s))
-    go true = record { table0 = e; table1 = h .table1; pending = h .pending }
-    go false = record { table0 = h .table0; table1 = e; pending = h .pending }
+    go true = record { table0 = e; table1 = h .table1; pending = h .pending; places = h .places }
+    go false = record { table0 = h .table0; table1 = e; pending = h .pending; places = h .places }
 
 own-eight : (port : ℕ) (s : Stick) → Shaped s → length (portAt port s .table .blocks) ≡ 8
 own-eight port s h = go (eqb port 0)
@@ -181,6 +196,7 @@ module _ (s : Stick) (l : Lent) (h : Shaped s) (u : Undamaged s) (w : LengthsFit
     console = record { fit = u .console; whole = w .whole };
     printer = record { used = u .printer; paper = w .paper };
     cassette = record { fits = u .cassette; pending = h .pending; tape = w .tape };
+    disk = record { places = h .places; images = w .images };
   }
 
   module _ (port : ℕ) where
@@ -200,6 +216,7 @@ module _ (s : Stick) (l : Lent) (h : Shaped s) (u : Undamaged s) (w : LengthsFit
           printer = u .printer;
           cassette = u .cassette;
           marks = subst (λ (t : Table). marksFit (s .devices .cassette .mark) t (otherAt port s .table) ≡ true) (sym e) (ports-marked port s u);
+          places = table-placed port s u p e;
           apart = ap (λ g. clash g (heldOf (otherAt port s .phase))) (f .held) ∙ ports-apart port s u;
         })
 
@@ -221,6 +238,7 @@ module _ (s : Stick) (l : Lent) (h : Shaped s) (u : Undamaged s) (w : LengthsFit
             whole = w .whole;
             paper = w .paper;
             tape = w .tape;
+            images = w .images;
           };
         }
 
@@ -239,35 +257,49 @@ module _ (s : Stick) (l : Lent) (h : Shaped s) (u : Undamaged s) (w : LengthsFit
     pub reach-fit : FitReach (reachAt port s l)
     reach-fit = record { port = port-fits port s u; eight = own-eight port s h; room = room-long; area = area-long; groups = groups-fit }
 
-    reached-leaves : (answer : ℕ) (after : Reach) → Kept (heldOf (otherAt port s .phase)) (reachAt port s l) after → Leaves (outcome answer 0 (withReach port after s) (lentReach port after l))
-    reached-leaves answer after k =
+    -- the places that it leaves, of both ports
+    places-left : port < 2 → (after : Reach) → length (after .port .table .blocks) ≡ 8 → PlacesKept port (portAt port s .table) (after .port .table) (s .devices .places) (placesIn (after .groups))
+        → placesFit (placesIn (after .groups)) (withReach port after s .port0 .table) (withReach port after s .port1 .table) ≡ true
+    places-left low after eight =
+        let t = after .port .table in
+        let q = placesIn (after .groups) in
+        let d = placed-of (s .devices .places) (s .port0 .table) (s .port1 .table) (u .places) in
+        by-port (λ (n : ℕ). PlacesKept n (portAt n s .table) t (s .devices .places) q → placesFit q (withReach n after s .port0 .table) (withReach n after s .port1 .table) ≡ true)
+        (λ k. of-placed q t (s .port1 .table) eight (h .table1) (k .own (d .0)) (k .others 1 (omega arith) (λ z. omega arith) (s .port1 .table) (d .1)))
+        (λ k. of-placed q (s .port0 .table) t (h .table0) eight (k .others 0 (omega arith) (λ z. omega arith) (s .port0 .table) (d .0)) (k .own (d .1)))
+        port low
+
+    reached-leaves : port < 2 → (answer : ℕ) (after : Reach) → Kept port (heldOf (otherAt port s .phase)) (reachAt port s l) after → Leaves (outcome answer 0 (withReach port after s) (lentReach port after l))
+    reached-leaves low answer after k =
         let f = k .fit in
         record {
           stick = with-undamaged port (after .port) (withGroups (after .groups) s) (record {
             own = f .port;
-            other = port-same (otherAt port s) (s .devices .console) (after .groups .console .console) (kept-mode (heldOf (otherAt port s .phase)) (reachAt port s l) after k) (other-fits port s u);
+            other = port-same (otherAt port s) (s .devices .console) (after .groups .console .console) (kept-mode port (heldOf (otherAt port s .phase)) (reachAt port s l) after k) (other-fits port s u);
             console = f .groups .console .fit;
             printer = f .groups .printer .used;
             cassette = f .groups .cassette .fits;
             marks = k .marks (otherAt port s .table) (ports-marked port s u);
+            places = places-left low after (f .eight) (k .places low);
             apart = k .apart;
           });
-          shape = with-shaped port (after .port) (withGroups (after .groups) s) (f .eight) (record { table0 = h .table0; table1 = h .table1; pending = f .groups .cassette .pending });
+          shape = with-shaped port (after .port) (withGroups (after .groups) s) (f .eight) (record { table0 = h .table0; table1 = h .table1; pending = f .groups .cassette .pending; places = f .groups .disk .places });
           lengths = record {
             rooms = back-length roomLength port (l .rooms) (w .rooms) (after .room) (f .room);
             area = back-length areaLength port (l .area) (w .area) (after .area) (f .area);
             whole = f .groups .console .whole;
             paper = f .groups .printer .paper;
             tape = f .groups .cassette .tape;
+            images = f .groups .disk .images;
           };
         }
 
-    pub tick-reach : Kept (heldOf (otherAt port s .phase)) (reachAt port s l) (tickPort port (portAt port s .phase) (heldOf (otherAt port s .phase)) (reachAt port s l) .reach)
+    pub tick-reach : Kept port (heldOf (otherAt port s .phase)) (reachAt port s l) (tickPort port (portAt port s .phase) (heldOf (otherAt port s .phase)) (reachAt port s l) .reach)
     tick-reach = tick-kept port (heldOf (otherAt port s .phase)) (reachAt port s l) reach-fit (portAt port s .phase) refl (ports-apart port s u)
 
-    tick-at : Leaves (tickAt port s l)
+    tick-at : port < 2 → Leaves (tickAt port s l)
     unfolding tickAt
-    tick-at = reached-leaves (tickPort port (portAt port s .phase) (heldOf (otherAt port s .phase)) (reachAt port s l) .answer) _ tick-reach
+    tick-at low = reached-leaves low (tickPort port (portAt port s .phase) (heldOf (otherAt port s .phase)) (reachAt port s l) .answer) _ tick-reach
 
   -- "Numbers 1 to 8 change nothing"
   refused-leaves : (answer : ℕ) → Leaves (refused answer s l)
@@ -287,9 +319,10 @@ module _ (s : Stick) (l : Lent) (h : Shaped s) (u : Undamaged s) (w : LengthsFit
           printer = u .printer;
           cassette = u .cassette;
           marks = u .marks;
+          places = u .places;
           apart = u .apart;
         };
-        shape = record { table0 = h .table0; table1 = h .table1; pending = h .pending };
+        shape = record { table0 = h .table0; table1 = h .table1; pending = h .pending; places = h .places };
         lengths = w;
       })
 
@@ -299,7 +332,7 @@ unfolding phaseFits
 fresh-port console = of-port freshPort console table-closed-made fresh-fits
 
 fresh-undamaged : Undamaged freshStick
-unfolding fitsCassette marksFit
+unfolding fitsCassette marksFit placesFit
 fresh-undamaged = record {
   port0 = fresh-port freshConsole;
   port1 = fresh-port freshConsole;
@@ -307,17 +340,18 @@ fresh-undamaged = record {
   printer = omega arith;
   cassette = refl;
   marks = refl;
+  places = refl;
   apart = refl;
 }
 
 pub fresh-shaped : Shaped freshStick
-fresh-shaped = record { table0 = refl; table1 = refl; pending = length-replicate {A = ℕ} pendingLength 0 }
+fresh-shaped = record { table0 = refl; table1 = refl; pending = length-replicate {A = ℕ} pendingLength 0; places = length-replicate {A = ℕ} placesLength 0 }
 
 zeros : (n byte : ℕ) → length (replicate n byte) ≡ n
 zeros n byte = simp length-replicate
 
 fresh-lengths : (l : Lent) → LengthsFit l → LengthsFit (freshLent l)
-fresh-lengths l w = record { rooms = zeros (2 * roomLength) 0; area = zeros (2 * areaLength) 0; whole = fresh-group .whole; paper = w .paper; tape = w .tape }
+fresh-lengths l w = record { rooms = zeros (2 * roomLength) 0; area = zeros (2 * areaLength) 0; whole = fresh-group .whole; paper = w .paper; tape = w .tape; images = w .images }
 
 pub fresh-fit : (l : Lent) → stickFits freshStick l ≡ true
 fresh-fit l = of-undamaged freshStick l fresh-undamaged
@@ -340,24 +374,31 @@ module _ (s : Stick) (l : Lent) where
   unfolding freshCall
   fresh-never e = choose-go (λ (o : Outcome). stickFits (o .stick) (o .lent) ≡ true) (lengthsFit l) _ _ (λ t. fresh-fit (freshLent l)) (λ t. e)
 
-  module _ (port : ℕ) (call : Unit {0} → Outcome) (h : Shaped s) (c : Undamaged s → LengthsFit l → Leaves (call tt)) where
+  -- "1 port above 1"
+  port-low : (port : ℕ) → refusalOf s l port ≡ 0 → port < 2
+  unfolding refusalOf
+  port-low port z =
+      let g = guarded-of s l port z in
+      by-lt port 2 (λ h. h) (λ h. let y : _≡_ {A = ℕ} 1 0 = rw (fit-of l (g .lengths), g .fits, le-ltb port 2 h) at z in absurd (omega arith))
+
+  module _ (port : ℕ) (call : Unit {0} → Outcome) (h : Shaped s) (c : port < 2 → Undamaged s → LengthsFit l → Leaves (call tt)) where
     guarded-leaves : Guarded s l → Guarded (guarded (refusalOf s l port) s l call .stick) (guarded (refusalOf s l port) s l call .lent)
     guarded-leaves g =
         choose-eq (λ (o : Outcome). Guarded (o .stick) (o .lent)) (refusalOf s l port) 0 call (λ u. refused (refusalOf s l port) s l)
-        (λ z. let k = c (undamaged-of s l (g .fits)) (g .lengths) in record { lengths = k .lengths; fits = of-undamaged (call tt .stick) (call tt .lent) (k .stick) })
+        (λ z. let k = c (port-low port z) (undamaged-of s l (g .fits)) (g .lengths) in record { lengths = k .lengths; fits = of-undamaged (call tt .stick) (call tt .lent) (k .stick) })
         (λ n. g)
 
     guarded-never : stickFits s l ≡ true → stickFits (guarded (refusalOf s l port) s l call .stick) (guarded (refusalOf s l port) s l call .lent) ≡ true
     guarded-never e =
         choose-eq (λ (o : Outcome). stickFits (o .stick) (o .lent) ≡ true) (refusalOf s l port) 0 call (λ u. refused (refusalOf s l port) s l)
-        (λ z. let g = guarded-of s l port z in of-undamaged (call tt .stick) (call tt .lent) (c (undamaged-of s l (g .fits)) (g .lengths) .stick))
+        (λ z. let g = guarded-of s l port z in of-undamaged (call tt .stick) (call tt .lent) (c (port-low port z) (undamaged-of s l (g .fits)) (g .lengths) .stick))
         (λ n. e)
 
     -- a call that is not refused leaves a stick of the same shape, and one that is refused too
     guarded-shape : Shaped (guarded (refusalOf s l port) s l call .stick)
     guarded-shape =
         choose-eq (λ (o : Outcome). Shaped (o .stick)) (refusalOf s l port) 0 call (λ u. refused (refusalOf s l port) s l)
-        (λ z. let g = guarded-of s l port z in c (undamaged-of s l (g .fits)) (g .lengths) .shape)
+        (λ z. let g = guarded-of s l port z in c (port-low port z) (undamaged-of s l (g .fits)) (g .lengths) .shape)
         (λ n. h)
 
 -- the state is undamaged and each lent buffer has its length, as a call leaves them
@@ -375,22 +416,22 @@ module _ (s : Stick) (l : Lent) where
     -- "take a byte"
     pub take-keeps : (port byte : ℕ) → byte < 256 → Keeps (takeCall s l port byte)
     unfolding takeCall
-    take-keeps port byte k = guarded-leaves s l port (λ v. takeAt port s l byte) h (λ u w. take-at s l h u w port byte k) g
+    take-keeps port byte k = guarded-leaves s l port (λ v. takeAt port s l byte) h (λ n u w. take-at s l h u w port byte k) g
 
     -- "tick a port"
     pub tick-keeps : (port : ℕ) → Keeps (tickCall s l port)
     unfolding tickCall
-    tick-keeps port = guarded-leaves s l port (λ v. tickAt port s l) h (λ u w. tick-at s l h u w port) g
+    tick-keeps port = guarded-leaves s l port (λ v. tickAt port s l) h (λ n u w. tick-at s l h u w port n) g
 
     -- "give the next reply byte"
     pub give-keeps : (port : ℕ) → Keeps (giveCall s l port)
     unfolding giveCall
-    give-keeps port = guarded-leaves s l port (λ v. giveAt port s l) h (λ u w. give-at s l h u w port) g
+    give-keeps port = guarded-leaves s l port (λ v. giveAt port s l) h (λ n u w. give-at s l h u w port) g
 
     -- "press a key"
     pub press-keeps : (code : ℕ) → Keeps (pressCall s l code)
     unfolding pressCall
-    press-keeps code = guarded-leaves s l 0 (λ v. pressAt s l code) h (λ u w. press-at s l h u w code) g
+    press-keeps code = guarded-leaves s l 0 (λ v. pressAt s l code) h (λ n u w. press-at s l h u w code) g
 
 -- "Fresh start; take a byte; tick a port; give the next reply byte; press a key": a call, with the buffers that it is lent
 pub data StickCall : Type 0 where
@@ -430,19 +471,19 @@ NeverDamaged = (call : StickCall) → TakesByte call → (s : Stick) → Shaped 
 pub never-damaged : NeverDamaged
 unfolding takeCall tickCall giveCall pressCall
 never-damaged (fresh l) b s h e = fresh-never s l e
-never-damaged (take-byte l port byte) b s h e = guarded-never s l port (λ v. takeAt port s l byte) h (λ u w. take-at s l h u w port byte b) e
-never-damaged (tick l port) b s h e = guarded-never s l port (λ v. tickAt port s l) h (λ u w. tick-at s l h u w port) e
-never-damaged (give l port) b s h e = guarded-never s l port (λ v. giveAt port s l) h (λ u w. give-at s l h u w port) e
-never-damaged (press l code) b s h e = guarded-never s l 0 (λ v. pressAt s l code) h (λ u w. press-at s l h u w code) e
+never-damaged (take-byte l port byte) b s h e = guarded-never s l port (λ v. takeAt port s l byte) h (λ n u w. take-at s l h u w port byte b) e
+never-damaged (tick l port) b s h e = guarded-never s l port (λ v. tickAt port s l) h (λ n u w. tick-at s l h u w port n) e
+never-damaged (give l port) b s h e = guarded-never s l port (λ v. giveAt port s l) h (λ n u w. give-at s l h u w port) e
+never-damaged (press l code) b s h e = guarded-never s l 0 (λ v. pressAt s l code) h (λ n u w. press-at s l h u w code) e
 
--- and each leaves a table eight blocks, and the pending characters their places
+-- and each leaves a table eight blocks, and the pending characters and the places their bytes
 pub always-shaped : (call : StickCall) → TakesByte call → (s : Stick) → Shaped s → Shaped (outcomeOn call s .stick)
 unfolding takeCall tickCall giveCall pressCall
 always-shaped (fresh l) b s h = fresh-shape s l h
-always-shaped (take-byte l port byte) b s h = guarded-shape s l port (λ v. takeAt port s l byte) h (λ u w. take-at s l h u w port byte b)
-always-shaped (tick l port) b s h = guarded-shape s l port (λ v. tickAt port s l) h (λ u w. tick-at s l h u w port)
-always-shaped (give l port) b s h = guarded-shape s l port (λ v. giveAt port s l) h (λ u w. give-at s l h u w port)
-always-shaped (press l code) b s h = guarded-shape s l 0 (λ v. pressAt s l code) h (λ u w. press-at s l h u w code)
+always-shaped (take-byte l port byte) b s h = guarded-shape s l port (λ v. takeAt port s l byte) h (λ n u w. take-at s l h u w port byte b)
+always-shaped (tick l port) b s h = guarded-shape s l port (λ v. tickAt port s l) h (λ n u w. tick-at s l h u w port n)
+always-shaped (give l port) b s h = guarded-shape s l port (λ v. giveAt port s l) h (λ n u w. give-at s l h u w port)
+always-shaped (press l code) b s h = guarded-shape s l 0 (λ v. pressAt s l code) h (λ n u w. press-at s l h u w code)
 
 -- undamaged with whatever is lent: the state alone decides it
 abbrev pub NotDamaged : Stick → Type 0

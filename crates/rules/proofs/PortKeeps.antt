@@ -17,7 +17,7 @@ use Rattle.console.proofs.Keeps.{fits-of, picture-mode}
 use Rattle.blocks.specs.declared.BlockState.{BlockState}
 use Rattle.blocks.specs.declared.BlockState.the-variants as block
 use Rattle.blocks.specs.declared.Device.{Device}
-use Rattle.blocks.specs.declared.Device.the-variants.{E, S, K, P, C}
+use Rattle.blocks.specs.declared.Device.the-variants.{E, S, K, P, C, D}
 use Rattle.blocks.specs.declared.Header.{Header}
 use Rattle.blocks.specs.declared.Kind.{Kind}
 use Rattle.blocks.specs.declared.Kind.the-variants.{Get, Put}
@@ -54,10 +54,8 @@ use Rattle.alone.specs.Fit.{UsedBy}
 use Rattle.alone.proofs.Fit.{fit-part, fit-put}
 use Rattle.rules.specs.Running.{Allowed, OpenFor, FitRun}
 use Rattle.rules.proofs.Marks.{markIn, job-marks, move-mark}
+use Rattle.rules.proofs.Places.{both, placesIn, PlacesKept, same-places, job-places, move-places}
 use Rattle.rules.proofs.RequestKeeps.{FitPlan, plan-fit, FitOut, job-keeps, move-keeps, RepliesFit, errand-keeps, landed-length}
-
-both : (a b : Bool) → a ≡ true → b ≡ true → and a b ≡ true
-both a b p q = rw (p, q)
 
 -- a running request fits, word by word
 allowed-of : (kind : Kind) (aux1 : ℕ) → allows kind aux1 ≡ true → Allowed kind aux1
@@ -125,6 +123,7 @@ use-of S s f e =
 use-of K s f e = tt
 use-of P s f e = tt
 use-of C s f e = tt
+use-of D s f e = tt
 
 of-use : (d : Device) (s : Groups) (x : Part (groupOf d)) → UsedBy (ownerOf d) x → inUse d (putGroup (groupOf d) s x .console .console .mode) ≡ true
 of-use E s x u = eq-eqb (x .console .mode) 0 u
@@ -132,6 +131,7 @@ of-use S s x u = let m = x .console .mode in lt-ltb 0 m (omega (arith, leb-true 
 of-use K s x u = refl
 of-use P s x u = refl
 of-use C s x u = refl
+of-use D s x u = refl
 
 -- a port that is not ticked: its running request fits as before where the console that it holds is left in its mode
 use-same : (device : Device) (mode after : ℕ) → (groupOf device ≡ group.Console → after ≡ mode) → inUse device mode ≡ true → inUse device after ≡ true
@@ -140,6 +140,7 @@ use-same S mode after s e = rw (s refl) e
 use-same K mode after s e = refl
 use-same P mode after s e = refl
 use-same C mode after s e = refl
+use-same D mode after s e = refl
 
 phase-same : (phase : Phase) (table : Table) (console after : Console) → (heldOf phase ≡ group.Console → after .mode ≡ console .mode) → phaseFits phase table console ≡ true → phaseFits phase table after ≡ true
 unfolding phaseFits
@@ -188,31 +189,33 @@ pub record FitReach (r : Reach) : Type 0 where
   pub groups : FitGroups (r .groups)
 
 -- what a tick leaves fits, holds no group that the other port holds, and leaves the group that the other port holds; and the blocks that
--- have C open, the other port's among them, are at one with the cassette's mark as before
-pub record Kept (held : Group) (r after : Reach) : Type 0 where
+-- have C open, the other port's among them, are at one with the cassette's mark as before; and the places fit the blocks that have D open
+-- as before. n is the port's number
+pub record Kept (n : ℕ) (held : Group) (r after : Reach) : Type 0 where
   pub fit : FitReach after
   pub apart : clash (heldOf (after .port .phase)) held ≡ false
   pub leaves : getGroup held (after .groups) ≡ getGroup held (r .groups)
   pub marks : (u : Table) → marksFit (markIn (r .groups)) (r .port .table) u ≡ true → marksFit (markIn (after .groups)) (after .port .table) u ≡ true
+  pub places : n < 2 → PlacesKept n (r .port .table) (after .port .table) (placesIn (r .groups)) (placesIn (after .groups))
 
 -- and so the mode of a console that the other port holds
-pub kept-mode : (held : Group) (r after : Reach) → Kept held r after → held ≡ group.Console → after .groups .console .console .mode ≡ r .groups .console .console .mode
-kept-mode held r after k e = ap (λ (g : ConsoleGroup). g .console .mode) (subst (λ (h : Group). getGroup h (after .groups) ≡ getGroup h (r .groups)) e (k .leaves))
+pub kept-mode : (n : ℕ) (held : Group) (r after : Reach) → Kept n held r after → held ≡ group.Console → after .groups .console .console .mode ≡ r .groups .console .console .mode
+kept-mode n held r after k e = ap (λ (g : ConsoleGroup). g .console .mode) (subst (λ (h : Group). getGroup h (after .groups) ≡ getGroup h (r .groups)) e (k .leaves))
 
--- n is the port's number
 module _ (n : ℕ) (held : Group) (r : Reach) (f : FitReach r) where
   made : tableMade (r .port .table) ≡ true
   made = port-of (r .port) (r .groups .console .console) (f .port) .0
 
-  nothing-kept : clash (heldOf (r .port .phase)) held ≡ false → Kept held r r
-  nothing-kept c = record { fit = f; apart = c; leaves = refl; marks = λ u e. e }
+  nothing-kept : clash (heldOf (r .port .phase)) held ≡ false → Kept n held r r
+  nothing-kept c = record { fit = f; apart = c; leaves = refl; marks = λ u e. e; places = λ h. same-places n (r .port .table) (placesIn (r .groups)) }
 
   -- a start or a move on a device
   landed-kept : (device : Device) (table : Table) (out : Out) (area : List ℕ) (y : Part (groupOf device)) → tableMade table ≡ true → length (table .blocks) ≡ 8
-      → ((u : Table) → marksFit (markIn (r .groups)) (r .port .table) u ≡ true → marksFit (markIn (putGroup (groupOf device) (r .groups) y)) table u ≡ true) → length area ≡ areaLength
+      → ((u : Table) → marksFit (markIn (r .groups)) (r .port .table) u ≡ true → marksFit (markIn (putGroup (groupOf device) (r .groups) y)) table u ≡ true)
+      → (n < 2 → PlacesKept n (r .port .table) table (placesIn (r .groups)) (placesIn (putGroup (groupOf device) (r .groups) y))) → length area ≡ areaLength
       → FitPart (groupOf device) y → FitOut device out table y → clash (groupOf device) held ≡ false
-      → Kept held r (reach (portWith table (landed out (r .room) .phase)) (landed out (r .room) .room) area (putGroup (groupOf device) (r .groups) y))
-  landed-kept device table out area y m eight marks k g o c =
+      → Kept n held r (reach (portWith table (landed out (r .room) .phase)) (landed out (r .room) .room) area (putGroup (groupOf device) (r .groups) y))
+  landed-kept device table out area y m eight marks places k g o c =
       let own = groupOf device in
       let s = putGroup own (r .groups) y in
       record {
@@ -227,10 +230,11 @@ module _ (n : ℕ) (held : Group) (r : Reach) (f : FitReach r) where
         apart = landed-apart device table y out (r .room) held o c;
         leaves = get-apart held own y (r .groups) (clash-swap held own ∙ c);
         marks = marks;
+        places = places;
       }
 
   -- "A ready port's first tick with the group free starts the request"
-  start-kept : (p : Plan) → FitPlan p (r .port .table) → clash (groupNeeded p) held ≡ false → Kept held r (startPlan n p r)
+  start-kept : (p : Plan) → FitPlan p (r .port .table) → clash (groupNeeded p) held ≡ false → Kept n held r (startPlan n p r)
   unfolding startPlan startOf
   start-kept (plan.Free e) q c =
       let k = errand-keeps e (r .room) (r .area) in
@@ -247,6 +251,7 @@ module _ (n : ℕ) (held : Group) (r : Reach) (f : FitReach r) where
         apart = replies-apart phase held (k .replies);
         leaves = refl;
         marks = λ u m. m;
+        places = λ h. same-places n (r .port .table) (placesIn (r .groups));
       }
   start-kept (plan.On job) q c =
       let g = groupOf (job .device) in
@@ -255,10 +260,11 @@ module _ (n : ℕ) (held : Group) (r : Reach) (f : FitReach r) where
       let k = job-keeps job n table q made (getGroup g (r .groups)) (fit-part g (r .groups) (f .groups)) in
       let b = jobBegun (deviceActs (job .device)) n job (blockAt table iocb) (getGroup g (r .groups)) in
       landed-kept (job .device) (withBlock table iocb (b .block)) (b .out) (r .area) (b .device) (k .made) (with-length table iocb (b .block) ∙ f .eight)
-      (λ u m. job-marks n job table u (f .eight) q (r .groups) m) (f .area) (k .fits) (k .out) c
+      (λ u m. job-marks n job table u (f .eight) q (r .groups) m)
+      (λ h. job-places n h job table (f .eight) q (r .groups) (fit-part g (r .groups) (f .groups))) (f .area) (k .fits) (k .out) c
 
   -- "Each later tick moves one character": of a running request that fits and whose group the other port does not hold
-  move-kept : (run : Run) → FitRun run (r .port .table) → inUse (run .device) (r .groups .console .console .mode) ≡ true → clash (groupOf (run .device)) held ≡ false → Kept held r (moveRun n run r)
+  move-kept : (run : Run) → FitRun run (r .port .table) → inUse (run .device) (r .groups .console .console .mode) ≡ true → clash (groupOf (run .device)) held ≡ false → Kept n held r (moveRun n run r)
   unfolding moveRun
   move-kept run g u c =
       let d = run .device in
@@ -266,24 +272,25 @@ module _ (n : ℕ) (held : Group) (r : Reach) (f : FitReach r) where
       let k = move-keeps d n (r .port .table) run g refl (r .area) x (fit-part (groupOf d) (r .groups) (f .groups)) (use-of d (r .groups) (f .groups) u) in
       let w = advanceOf (deviceActs d) n run (r .area) x in
       landed-kept d (r .port .table) (w .out) (w .area) (w .device) made (f .eight)
-      (λ u m. subst (λ (mark : ℕ). marksFit mark (r .port .table) u ≡ true) (sym (move-mark d n run (r .area) (r .groups))) m) (k .kept ∙ f .area) (k .fits) (k .out) c
+      (λ u m. subst (λ (mark : ℕ). marksFit mark (r .port .table) u ≡ true) (sym (move-mark d n run (r .area) (r .groups))) m)
+      (λ h. move-places n h run (r .port .table) (f .eight) (g .iocb) (r .area) (r .groups) (fit-part (groupOf d) (r .groups) (f .groups))) (k .kept ∙ f .area) (k .fits) (k .out) c
 
-  ready-kept : (header : Header) → clash (heldOf (r .port .phase)) held ≡ false → Kept held r (readyTick n header held r .reach)
+  ready-kept : (header : Header) → clash (heldOf (r .port .phase)) held ≡ false → Kept n held r (readyTick n header held r .reach)
   unfolding readyTick
   ready-kept header c =
       let m = messageOf header (r .room) in
-      choose-go (λ (t : Ticked). Kept held r (t .reach)) (clash (groupNeeded (planOf m (r .port .table) (r .area))) held) _ _
+      choose-go (λ (t : Ticked). Kept n held r (t .reach)) (clash (groupNeeded (planOf m (r .port .table) (r .area))) held) _ _
       (λ t. nothing-kept c)
       (λ t. start-kept (planOf m (r .port .table) (r .area)) (plan-fit m (r .port .table) (r .area)) t)
 
-  running-kept : (run : Run) → r .port .phase ≡ Running run → clash (heldOf (r .port .phase)) held ≡ false → Kept held r (moveRun n run r)
+  running-kept : (run : Run) → r .port .phase ≡ Running run → clash (heldOf (r .port .phase)) held ≡ false → Kept n held r (moveRun n run r)
   unfolding phaseFits
   running-kept run e c =
       let console = r .groups .console .console in
       let k = run-of run (r .port .table) console (rw e at (port-of (r .port) console (f .port) .1)) in
       move-kept run (k .0) (k .1) (rw e at c)
 
-  pub tick-kept : (phase : Phase) → r .port .phase ≡ phase → clash (heldOf (r .port .phase)) held ≡ false → Kept held r (tickPort n phase held r .reach)
+  pub tick-kept : (phase : Phase) → r .port .phase ≡ phase → clash (heldOf (r .port .phase)) held ≡ false → Kept n held r (tickPort n phase held r .reach)
   unfolding tickPort
   tick-kept (Gathering gather) e c = nothing-kept c
   tick-kept (Ready header) e c = ready-kept header c

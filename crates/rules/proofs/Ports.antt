@@ -76,7 +76,7 @@ still : (port : ℕ) (s : Stick) (l : Lent) (answer : ℕ) → OtherStays port s
 still port s l answer = record { state = refl; room = refl; half = refl }
 
 still-own : (port : ℕ) (s : Stick) (l : Lent) (answer : ℕ) → OnlyOwn port s l (refused answer s l)
-still-own port s l answer = record { others = still port s l answer; blocks = refl; devices = refl; area = refl; screen = refl; paper = refl; tape = refl }
+still-own port s l answer = record { others = still port s l answer; blocks = refl; devices = refl; area = refl; screen = refl; paper = refl; tape = refl; images = refl }
 
 -- take
 module _ (s : Stick) (l : Lent) (port byte : ℕ) where
@@ -97,6 +97,7 @@ module _ (s : Stick) (l : Lent) (port byte : ℕ) where
         screen = refl;
         paper = refl;
         tape = refl;
+        images = refl;
       }
 
   -- "Mixing two ports' bytes on the way in or out": a taken byte goes into its own port's room only
@@ -209,11 +210,11 @@ module _ (s : Stick) (l : Lent) (port : ℕ) where
 -- press
 module _ (s : Stick) (l : Lent) (code : ℕ) where
   still-keys : (answer : ℕ) → OnlyKey code s l (refused answer s l)
-  still-keys answer = record { port0 = refl; port1 = refl; console = inl refl; printer = refl; cassette = refl; pending = refl; buffers = refl }
+  still-keys answer = record { port0 = refl; port1 = refl; console = inl refl; printer = refl; cassette = refl; pending = refl; places = refl; buffers = refl }
 
   -- "A press stores the code over an older one"
   pub press-only : OnlyKey code s l (pressCall s l code)
   unfolding pressCall pressAt
   press-only =
       by-order s l (λ u. pressAt s l code) (OnlyKey code s l) 0 (λ w. still-keys 2) (λ d. still-keys 3) (λ a. still-keys 1)
-      (λ c. choose-go (OnlyKey code s l) (consoleHeld s) _ _ (λ t. still-keys 6) (λ t. record { port0 = refl; port1 = refl; console = inr refl; printer = refl; cassette = refl; pending = refl; buffers = refl }))
+      (λ c. choose-go (OnlyKey code s l) (consoleHeld s) _ _ (λ t. still-keys 6) (λ t. record { port0 = refl; port1 = refl; console = inr refl; printer = refl; cassette = refl; pending = refl; places = refl; buffers = refl }))

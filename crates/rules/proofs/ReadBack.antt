@@ -15,6 +15,8 @@ use borrow.Author.Tests.{le-ltb, le-leb, lt-leb, eq-eqb, ne-eqb}
 use Rattle.base.specs.Choice.{or, bit}
 use Rattle.base.proofs.Choices.{pick-go, choose-go, by-eq}
 use Rattle.base.proofs.Parts.{cat, part-same}
+use Rattle.names.specs.declared.Named.{Named}
+use Rattle.names.specs.declared.Named.the-variants.{Past, Found}
 use Rattle.handler.specs.declared.Asked.{Asked}
 use Rattle.handler.specs.declared.Done.{Done}
 use Rattle.handler.specs.declared.Done.the-variants as done
@@ -34,7 +36,7 @@ use Rattle.blocks.specs.declared.BlockState.{BlockState}
 use Rattle.blocks.specs.declared.BlockState.the-variants as block
 use Rattle.blocks.specs.declared.ControlBlock.{ControlBlock}
 use Rattle.blocks.specs.declared.Device.{Device}
-use Rattle.blocks.specs.declared.Device.the-variants.{E, S, K, P, C}
+use Rattle.blocks.specs.declared.Device.the-variants.{E, S, K, P, C, D}
 use Rattle.blocks.specs.declared.Specification.{Specification}
 use Rattle.blocks.specs.declared.Specification.the-variants.{Refused, Names}
 use Rattle.blocks.specs.declared.Table.{Table}
@@ -65,7 +67,7 @@ use Rattle.plan.specs.declared.Plan.{Plan}
 use Rattle.plan.specs.declared.Plan.the-variants as plan
 use Rattle.plan.specs.declared.Work.{Work}
 use Rattle.plan.specs.declared.Work.the-variants as work
-use Rattle.plan.specs.Plan.{openPlan, areaPlan, transferPlan, blockPlan, callPlan, planIn, iocbOf, planOf, groupNeeded, needOf}
+use Rattle.plan.specs.Plan.{namedFor, namedPlan, openPlan, areaPlan, transferPlan, blockPlan, callPlan, planIn, iocbOf, planOf, groupNeeded, needOf}
 use Rattle.cio.specs.Start.{openedOf, thenOf}
 use Rattle.alone.specs.Transfer.{TransferEnd, onGot, getOne, getCharacters, putOne, putCharacters, putRecord, getting, putting, transferred}
 use Rattle.alone.specs.Left.{deviceLeft}
@@ -302,7 +304,7 @@ module _ (c : Call) (l : Local) (s : Groups) (low : c .iocb ≤ 7) where
 
   open-is : (number : ℕ) → c .command ≡ 0x03 → blockAt (l .table) (c .iocb) ≡ closedBlock → Specified (l .area) (c .address) C number → offersOf C (c .aux1) ≡ true → s .cassette .cassette .mark ≡ 0
       → calledAlone c l s ≡ alone (withOwnBlock (c .iocb) (openBlock C number (c .aux1)) l) (putGroup group.Cassette s (cassette.openOf (c .aux1) (s .cassette) .leaves)) (callReply 0x01 0 (c .a))
-  unfolding alonePlan aloneWork aloneOpening blockPlan openedOf thenOf cassette.tapeOpened
+  unfolding alonePlan aloneWork aloneOpening blockPlan namedFor openedOf thenOf cassette.tapeOpened
   open-is number h e d o m = on-block command.Open closedBlock h e ∙ rw (specifies (l .area) (c .address) .names C number .1 d, o, m)
 
   close-is : (number aux1 : ℕ) → c .command ≡ 0x0C → blockAt (l .table) (c .iocb) ≡ openBlock C number aux1
@@ -322,14 +324,14 @@ module _ (c : Call) (l : Local) (s : Groups) (low : c .iocb ≤ 7) where
 
   put-is : (records : Bool) (way : Way) (number aux1 : ℕ) → HasNumber (command.Transfer false records) (c .command) → blockAt (l .table) (c .iocb) ≡ openBlock C number aux1 → bit 8 aux1 ≡ true
       → (c .length ≡ 0) ⊎ (c .address + c .length ≤ areaLength) → HasWay way records (c .length)
-      → calledAlone c l s ≡ ended (putting acts (deviceLeft C) (c .a) way (c .length) (c .address) 0 (l .area) (s .cassette))
+      → calledAlone c l s ≡ ended (putting acts (deviceLeft C (l .number) (c .iocb)) (c .a) way (c .length) (c .address) 0 (l .area) (s .cassette))
   unfolding alonePlan aloneWork aloneTransfer transferred blockPlan transferPlan areaPlan
   put-is records way number aux1 h e w f y =
       on-block (command.Transfer false records) (openBlock C number aux1) h e ∙ rw (w, fits f, way-has way records (c .length) .1 y)
 
   pub get-is : (records : Bool) (way : Way) (number aux1 : ℕ) → HasNumber (command.Transfer true records) (c .command) → blockAt (l .table) (c .iocb) ≡ openBlock C number aux1 → bit 4 aux1 ≡ true
       → (c .length ≡ 0) ⊎ (c .address + c .length ≤ areaLength) → HasWay way records (c .length)
-      → calledAlone c l s ≡ ended (getting acts (deviceLeft C) (c .a) way (c .length) (c .address) 0 (l .area) (s .cassette))
+      → calledAlone c l s ≡ ended (getting acts (deviceLeft C (l .number) (c .iocb)) (c .a) way (c .length) (c .address) 0 (l .area) (s .cassette))
   unfolding alonePlan aloneWork aloneTransfer transferred blockPlan transferPlan areaPlan
   get-is records way number aux1 h e w f y =
       on-block (command.Transfer true records) (openBlock C number aux1) h e ∙ rw (w, fits f, way-has way records (c .length) .1 y)
@@ -382,17 +384,17 @@ module _ (iocb : ℕ) (low : iocb ≤ 7) where
       H = cassetteActs (asksOn (m .number) (c .iocb))
 
       abbrev putBy : Way → TransferEnd CassetteGroup
-      putBy way = putting H (deviceLeft C) (c .a) way (c .length) (c .address) 0 (m .area) (t .cassette)
+      putBy way = putting H (deviceLeft C (m .number) (c .iocb)) (c .a) way (c .length) (c .address) 0 (m .area) (t .cassette)
 
       abbrev getBy : Way → TransferEnd CassetteGroup
-      getBy way = getting H (deviceLeft C) (c .a) way (c .length) (c .address) 0 (m .area) (t .cassette)
+      getBy way = getting H (deviceLeft C (m .number) (c .iocb)) (c .a) way (c .length) (c .address) 0 (m .area) (t .cassette)
 
       -- a PUT whose characters are taken
       record PutDone (sent : List ℕ) (r : Alone) : Type 0 where
         status : replyStatus (r .reply) ≡ 0x01
         at : At opened (taken writeOf sent x) (r .local) (r .groups)
 
-      put-done : (sent : List ℕ) (r : TransferEnd CassetteGroup) → Sent H (deviceLeft C) (c .a) sent (t .cassette) r → calledAlone c m t ≡ ended c m t own-low r → PutDone sent (calledAlone c m t)
+      put-done : (sent : List ℕ) (r : TransferEnd CassetteGroup) → Sent H (deviceLeft C (m .number) (c .iocb)) (c .a) sent (t .cassette) r → calledAlone c m t ≡ ended c m t own-low r → PutDone sent (calledAlone c m t)
       put-done sent r d e = record {
         status = ap (λ (z : Alone). replyStatus (z .reply)) e ∙ d .status;
         at = record {
@@ -409,22 +411,22 @@ module _ (iocb : ℕ) (low : iocb ≤ 7) where
             put-done sent (putBy One) (record { status = rw (k .0) refl; device = rw (k .0) refl }) (put-is c m t own-low records One number aux1 h own-block w (inl z) z)
         put-step sent (sends-characters h p f) g =
             let k : Takes writeOf sent (t .cassette) = rw (a .cassette) g in
-            put-done sent (putBy Characters) (put-characters H (deviceLeft C) (c .a) (c .length) (c .address) 0 (m .area) (t .cassette) k)
+            put-done sent (putBy Characters) (put-characters H (deviceLeft C (m .number) (c .iocb)) (c .a) (c .length) (c .address) 0 (m .area) (t .cassette) k)
             (put-is c m t own-low false Characters number aux1 h own-block w (inr f) (p, refl))
         put-step sent (sends-record h p f) g =
             let k : Takes writeOf sent (t .cassette) = rw (a .cassette) g in
-            put-done sent (putBy Record) (put-record H (deviceLeft C) (c .a) (c .length) (c .address) 0 (m .area) (t .cassette) k)
+            put-done sent (putBy Record) (put-record H (deviceLeft C (m .number) (c .iocb)) (c .a) (c .length) (c .address) 0 (m .area) (t .cassette) k)
             (put-is c m t own-low true Record number aux1 h own-block w (inr f) (p, refl))
 
-        full-one : (first rest : List ℕ) (byte status : ℕ) → c .a ∷ [] ≡ first ++ (byte ∷ rest) → RefusedBehind H (deviceLeft C) (c .a) status byte rest first (t .cassette)
-            → Refuses H (deviceLeft C) (c .a) first status 0 (putOne H (deviceLeft C) (c .a) 0 (m .area) (t .cassette))
+        full-one : (first rest : List ℕ) (byte status : ℕ) → c .a ∷ [] ≡ first ++ (byte ∷ rest) → RefusedBehind H (deviceLeft C (m .number) (c .iocb)) (c .a) status byte rest first (t .cassette)
+            → Refuses H (deviceLeft C (m .number) (c .iocb)) (c .a) first status 0 (putOne H (deviceLeft C (m .number) (c .iocb)) (c .a) 0 (m .area) (t .cassette))
         unfolding putOne
         full-one [] rest byte status q e =
             let b = first-is q in
             record { says = rw (b, e); counts = rw (b, e) (omega arith); keeps = rw (b, e) }
         full-one (next ∷ first) rest byte status q e = absurd (none-there first byte rest (rest-is q))
 
-        full-reply : (first : List ℕ) (status : ℕ) (r : TransferEnd CassetteGroup) → Refuses H (deviceLeft C) (c .a) first status 0 r → calledAlone c m t ≡ ended c m t own-low r
+        full-reply : (first : List ℕ) (status : ℕ) (r : TransferEnd CassetteGroup) → Refuses H (deviceLeft C (m .number) (c .iocb)) (c .a) first status 0 r → calledAlone c m t ≡ ended c m t own-low r
             → calledAlone c m t .reply ≡ callReply status (length first) (c .a)
         full-reply first status r d e =
             let k : r .count ≡ length first = omega (arith, d .counts) in
@@ -438,11 +440,11 @@ module _ (iocb : ℕ) (low : iocb ≤ 7) where
             full-reply first status (putBy One) (full-one first rest byte status q (rw (a .cassette) e)) (put-is c m t own-low records One number aux1 h own-block w (inl z) z)
         full-step first rest sent byte status q (sends-characters h p f) g e =
             full-reply first status (putBy Characters)
-            (put-over H (deviceLeft C) (c .a) status byte rest first (c .length) (c .address) 0 (m .area) (t .cassette) q (rw (a .cassette) g) (rw (a .cassette) e))
+            (put-over H (deviceLeft C (m .number) (c .iocb)) (c .a) status byte rest first (c .length) (c .address) 0 (m .area) (t .cassette) q (rw (a .cassette) g) (rw (a .cassette) e))
             (put-is c m t own-low false Characters number aux1 h own-block w (inr f) (p, refl))
         full-step first rest sent byte status q (sends-record h p f) g e =
             full-reply first status (putBy Record)
-            (record-over H (deviceLeft C) (c .a) status byte rest first (c .length) (c .address) 0 (m .area) (t .cassette) q (rw (a .cassette) g) (rw (a .cassette) e))
+            (record-over H (deviceLeft C (m .number) (c .iocb)) (c .a) status byte rest first (c .length) (c .address) 0 (m .area) (t .cassette) q (rw (a .cassette) g) (rw (a .cassette) e))
             (put-is c m t own-low true Record number aux1 h own-block w (inr f) (p, refl))
 
       -- a GET whose characters are given
@@ -458,8 +460,8 @@ module _ (iocb : ℕ) (low : iocb ≤ 7) where
         get-one behind [] n records h z g = absurd (omega arith)
         get-one behind (byte ∷ []) n records h z g =
             let e = get-is c m t own-low records One number aux1 h own-block w (inl z) z in
-            let d : BroughtOne H (deviceLeft C) (c .a) behind byte (t .cassette) (getBy One) =
-            get-single H (deviceLeft C) (c .a) behind byte 0 (m .area) (t .cassette) (g .0 ∙ ap (λ (n : ℕ). before n byte) (zero-add behind)) in
+            let d : BroughtOne H (deviceLeft C (m .number) (c .iocb)) (c .a) behind byte (t .cassette) (getBy One) =
+            get-single H (deviceLeft C (m .number) (c .iocb)) (c .a) behind byte 0 (m .area) (t .cassette) (g .0 ∙ ap (λ (n : ℕ). before n byte) (zero-add behind)) in
             record {
               status = ap (λ (y : Alone). replyStatus (y .reply)) e ∙ d .status;
               brings = rw (eq-eqb (c .length) 0 z) (ap (λ (y : Alone). getD (y .reply) 6 0 ∷ []) e ∙ ap (λ (b : ℕ). b ∷ []) (d .in-a));
@@ -475,9 +477,9 @@ module _ (iocb : ℕ) (low : iocb ≤ 7) where
         unfolding getting
         get-some behind bytes n h p f g =
             let e = get-is c m t own-low false Characters number aux1 h own-block w (inr f) (p, refl) in
-            let d : Brought H (deviceLeft C) (c .a) behind bytes (c .address) (m .area) (t .cassette) (getBy Characters) =
-            subst (λ (k : ℕ). Brought H (deviceLeft C) (c .a) behind bytes (c .address) (m .area) (t .cassette) (getCharacters H (deviceLeft C) (c .a) 0x01 k (c .address) 0 (m .area) (t .cassette))) n
-            (get-characters H (deviceLeft C) (c .a) behind 0x01 bytes (c .address) 0 (m .area) (t .cassette) (λ z. absurd (omega (arith, z, n, p))) g) in
+            let d : Brought H (deviceLeft C (m .number) (c .iocb)) (c .a) behind bytes (c .address) (m .area) (t .cassette) (getBy Characters) =
+            subst (λ (k : ℕ). Brought H (deviceLeft C (m .number) (c .iocb)) (c .a) behind bytes (c .address) (m .area) (t .cassette) (getCharacters H (deviceLeft C (m .number) (c .iocb)) (c .a) 0x01 k (c .address) 0 (m .area) (t .cassette))) n
+            (get-characters H (deviceLeft C (m .number) (c .iocb)) (c .a) behind 0x01 bytes (c .address) 0 (m .area) (t .cassette) (λ z. absurd (omega (arith, z, n, p))) g) in
             record {
               status = ap (λ (y : Alone). replyStatus (y .reply)) e ∙ d .status;
               brings =
@@ -508,7 +510,7 @@ module _ (iocb : ℕ) (low : iocb ≤ 7) where
         unfolding getting
         over-some left n h p f g r =
             let e = get-is c m t own-low false Characters number aux1 h own-block w (inr f) (p, refl) in
-            let d = get-over H (deviceLeft C) (c .a) 0 0x01 left (c .length) (c .address) 0 (m .area) (t .cassette) n g r in
+            let d = get-over H (deviceLeft C (m .number) (c .iocb)) (c .a) 0 0x01 left (c .length) (c .address) 0 (m .area) (t .cassette) n g r in
             let k : getBy Characters .count ≡ length left = omega (arith, d .counts) in
             record {
               says = ap (λ (y : Alone). y .reply) e ∙ rw (d .status, k, d .keeps) refl;
@@ -752,9 +754,13 @@ abbrev OfCall : Call → Plan → Type 0
 OfCall c (plan.Free e) = Unit {0}
 OfCall c (plan.On job) = job .call ≡ c
 
+named-call : (c : Call) (then : After) (device : Device) (number : ℕ) (n : Named) → OfCall c (namedPlan then device number n c)
+named-call c then device number Past = tt
+named-call c then device number (Found name) = refl
+
 open-call : (c : Call) (then : After) (d : Specification) (half : List ℕ) → OfCall c (openPlan then d half c)
 open-call c then (Refused status) half = tt
-open-call c then (Names device number) half = refl
+open-call c then (Names device number) half = named-call c then device number (namedFor device half (c .address))
 
 area-call : (c : Call) (reading records : Bool) (device : Device) → OfCall c (areaPlan reading records device c)
 unfolding areaPlan
@@ -808,7 +814,7 @@ module _ (iocb : ℕ) where
   unfolding alonePlan
   plan-stays c (plan.Free e) bytes l s o n = ap (λ (t : Table). blockAt t iocb) (errand-stays e bytes l s)
   plan-stays c (plan.On job) bytes l s o n =
-      work-stays (deviceActs (job .device)) (deviceLeft (job .device)) (job .device) (job .call) l (getGroup (groupOf (job .device)) s) (λ e. n (e ∙ ap (λ (d : Call). d .iocb) o)) (job .work)
+      work-stays (deviceActs (job .device)) (deviceLeft (job .device) (l .number) (job .call .iocb)) (job .device) (job .call) l (getGroup (groupOf (job .device)) s) (λ e. n (e ∙ ap (λ (d : Call). d .iocb) o)) (job .work)
 
   said-stays : (said : Said) (l : Local) (s : Groups) → (iocb ≡ iocbOf (askedOf said) → ⊥) → blockAt (aloneOf said l s .local .table) iocb ≡ blockAt (l .table) iocb
   unfolding aloneOf planOf planIn alonePlan
@@ -824,6 +830,7 @@ put-cassette S s x n = refl
 put-cassette K s x n = refl
 put-cassette P s x n = refl
 put-cassette C s x n = absurd (n refl)
+put-cassette D s x n = refl
 
 errand-cassette : (e : Errand) (bytes : List ℕ) (l : Local) (s : Groups) → aloneErrand e bytes l s .groups .cassette ≡ s .cassette
 unfolding aloneErrand

@@ -4,7 +4,7 @@ use mathlib.Core.Path.{_≡_, _∙_, refl, sym, ap, subst}
 use mathlib.Core.Logic.{_↔_, _⊎_, inl, inr}
 use mathlib.Core.Bool.{Bool, true, false, not}
 use mathlib.Core.List.{List, [], _∷_}
-use Prim.Native.Nat.{ℕ, _+_, _<_, _≤_}
+use Prim.Native.Nat.{ℕ, zero, suc, _+_, _*_, _<_, _≤_}
 use native.Mathlib.Omega.{arith}
 use native.Mathlib.Nat.{not-suc-le-zero, le-of-suc-le-suc}
 use lib.Dec.{eqb, leb, ltb}
@@ -12,7 +12,9 @@ use lib.ListN.{getD, set, length}
 use lib.Seq.{sets}
 use borrow.Author.Tests.{eq-eqb, ne-eqb}
 use Rattle.base.specs.Choice.{pick, or, within, bit}
+use Rattle.base.specs.Parts.{part}
 use Rattle.base.proofs.Choices.{pick-go, pick-eq, pick-lt, choose-go, choose-eq, by-test, by-eq}
+use Rattle.names.specs.declared.Name.{Name}
 use Rattle.handler.specs.declared.Asked.{Asked}
 use Rattle.handler.specs.declared.Done.{Done}
 use Rattle.handler.specs.declared.Done.the-variants as done
@@ -29,6 +31,10 @@ use Rattle.cassette.specs.declared.Cassette.{Cassette}
 use Rattle.cassette.specs.Cassette as cassette
 use Rattle.cassette.specs.Cassette.{CassetteGroup}
 use Rattle.cassette.proofs.Keeps as cassette-keeps
+use Rattle.image.specs.Image.{flagOf, inUse, locked}
+use Rattle.image.specs.Place.{isDirectory, unitOf, entryOf}
+use Rattle.disk.specs.Disk.{placeOpened, placeStatus, flagStatus, placeLength, placeNumber, placeAt, DiskGroup, diskGroup, getPlace, putPlace}
+use Rattle.disk.proofs.Keeps as disk-keeps
 use Rattle.console.specs.declared.Handler.the-variants as console
 use Rattle.console.specs.Handlers.{openOf, openS, prepareOf, prepareS, readOf, readE, readS, readK, writeOf, writeE, writeS}
 use Rattle.blocks.specs.declared.ControlBlock.{ControlBlock}
@@ -71,19 +77,44 @@ statusIn (goes run) = 0
 statusIn (ends reply) = getD reply 3 0
 
 -- what a handler may know of an opening
-abbrev pub openingOn : (port : ℕ) → Call → (name : ℕ) → Asked
-openingOn port call name = asksOpen port (call .iocb) (call .aux1) (call .aux2) name
+abbrev pub openingOn : (port : ℕ) → Call → (number : ℕ) → Name → Asked
+openingOn port call number name = asksOpen port (call .iocb) number (call .aux1) (call .aux2) name
 
--- "GET STATUS $0D, SPECIAL above .. $01 or $84": so says every handler, and SPECIAL changes no device
-says-01 : (o : Owner) (asked : Asked) (x : Part (groupIn o)) → ownActs o asked .statuses x ≡ done.Success
-says-01 (owner.Console h) asked x = refl
-says-01 owner.Printer asked x = refl
-says-01 owner.Cassette asked x = refl
+-- a part stored where it lies changes nothing
+behind-first : (ys xs : List ℕ) (x i : ℕ) → sets (x ∷ xs) (suc i) ys ≡ x ∷ sets xs i ys
+behind-first [] xs x i = refl
+behind-first (y ∷ ys) xs x i = behind-first ys (set xs i y) x (suc i)
+
+stored-part : (p n : ℕ) (xs : List ℕ) → sets xs p (part p n xs) ≡ xs
+stored-part zero zero xs = refl
+stored-part zero (suc n) [] = refl
+stored-part zero (suc n) (x ∷ xs) = behind-first (part 0 n xs) xs x 0 ∙ ap (λ (r : List ℕ). x ∷ r) (stored-part zero n xs)
+stored-part (suc p) zero [] = refl
+stored-part (suc p) (suc n) [] = refl
+stored-part (suc p) n (x ∷ xs) = behind-first (part p n xs) xs x p ∙ ap (λ (r : List ℕ). x ∷ r) (stored-part p n xs)
+
+-- a block's place, put back as it was
+place-back : (port iocb : ℕ) (g : DiskGroup) → putPlace port iocb g (getPlace port iocb g) ≡ g
+place-back port iocb g = ap (λ (y : List ℕ). diskGroup y (g .images)) (stored-part (placeLength * placeNumber port iocb) placeLength (g .places))
+
+-- "GET STATUS $0D, SPECIAL above .. $01 or $84": so says every handler but D's, and SPECIAL changes no device
+abbrev NotDisk : Owner → Type 0
+NotDisk (owner.Console h) = Unit
+NotDisk owner.Printer = Unit
+NotDisk owner.Cassette = Unit
+NotDisk owner.Disk = ⊥
+
+pub says-01 : (o : Owner) → NotDisk o → (asked : Asked) (x : Part (groupIn o)) → ownActs o asked .statuses x ≡ done.Success
+says-01 (owner.Console h) n asked x = refl
+says-01 owner.Printer n asked x = refl
+says-01 owner.Cassette n asked x = refl
+says-01 owner.Disk n asked x = absurd n
 
 says-84 : (o : Owner) (asked : Asked) (x : Part (groupIn o)) → ownActs o asked .specials x ≡ answer (done.Refused 0x84) x
 says-84 (owner.Console h) asked x = refl
 says-84 owner.Printer asked x = refl
 says-84 owner.Cassette asked x = refl
+says-84 owner.Disk asked x = ap (answer (done.Refused 0x84)) (place-back (asked .port) (asked .iocb) x)
 
 abbrev isRefused : Done → Type 0
 isRefused done.Success = ⊥
@@ -92,12 +123,11 @@ isRefused (done.Refused status) = Unit
 never : {A : Type 0} {status : ℕ} → done.Success ≡ done.Refused status → A
 never e = absurd (subst isRefused (sym e) tt)
 
--- a handler whose refusals before a transfer leave the device; GET STATUS it does not refuse
+-- a handler whose refusals before a transfer leave the device
 pub record Still {D : Type 0} (H : Asked → Acts D) : Type 0 where
   pub opens : (asked : Asked) (status : ℕ) (x : D) → H asked .opens x .says ≡ done.Refused status → H asked .opens x .leaves ≡ x
   pub prepares : (asked : Asked) (status : ℕ) (x : D) → H asked .prepares x .says ≡ done.Refused status → H asked .prepares x .leaves ≡ x
   pub specials : (asked : Asked) (status : ℕ) (x : D) → H asked .specials x .says ≡ done.Refused status → H asked .specials x .leaves ≡ x
-  pub statuses : (asked : Asked) (x : D) → H asked .statuses x ≡ done.Success
 
 open-still : (o : Owner) (asked : Asked) (status : ℕ) (x : Part (groupIn o)) → ownActs o asked .opens x .says ≡ done.Refused status → ownActs o asked .opens x .leaves ≡ x
 unfolding openOf openS graphics.openOf
@@ -109,6 +139,10 @@ open-still (owner.Console console.S) asked status x e =
 open-still (owner.Console console.K) asked status x e = refl
 open-still owner.Printer asked status x e = refl
 open-still owner.Cassette asked status x e = cassette-keeps.open-refused (asked .aux1) x status e
+open-still owner.Disk asked status x e =
+    ap (λ (y : List ℕ). diskGroup (sets (x .places) (placeLength * placeNumber (asked .port) (asked .iocb)) y) (x .images))
+    (disk-keeps.open-refused (placeAt (asked .port) (asked .iocb) (x .places)) (x .images) asked status e)
+    ∙ place-back (asked .port) (asked .iocb) x
 
 prepare-still : (o : Owner) (asked : Asked) (status : ℕ) (x : Part (groupIn o)) → ownActs o asked .prepares x .says ≡ done.Refused status → ownActs o asked .prepares x .leaves ≡ x
 unfolding prepareOf
@@ -117,13 +151,13 @@ prepare-still (owner.Console console.S) asked status x e = refl
 prepare-still (owner.Console console.K) asked status x e = refl
 prepare-still owner.Printer asked status x e = refl
 prepare-still owner.Cassette asked status x e = refl
+prepare-still owner.Disk asked status x e = never e
 
 pub owner-still : (o : Owner) → Still (ownActs o)
 owner-still o = record {
   opens = open-still o;
   prepares = prepare-still o;
   specials = λ asked status x e. ap (λ (y : Answer Done (Part (groupIn o))). y .leaves) (says-84 o asked x);
-  statuses = says-01 o;
 }
 
 -- "A handler status from $80": each refusal of a handler has one
@@ -150,6 +184,27 @@ tape-open-high : (aux1 : ℕ) (c : Cassette) → doneHigh (cassette.tapeOpened a
 unfolding cassette.tapeOpened
 tape-open-high aux1 c = pick-eq (λ (a : Answer Done Cassette). doneHigh (a .says)) (c .mark) 0 _ _ (λ m. tt) (λ m. omega arith)
 
+disk-refusal : (p images : List ℕ) (asked : Asked) (d : Done) → placeOpened asked p images .says ≡ d → doneHigh d
+disk-refusal p images asked done.Success e = tt
+disk-refusal p images asked (done.Refused status) e = disk-keeps.open-high p images asked status e
+
+flag-high : (flag : ℕ) → doneHigh (flagStatus flag)
+flag-high flag =
+    pick-go doneHigh (inUse flag) (pick (locked flag) (done.Refused 0xA7) done.Success) (done.Refused 0xAA)
+    (λ t. pick-go doneHigh (locked flag) (done.Refused 0xA7) done.Success (λ k. omega arith) (λ k. tt))
+    (λ t. omega arith)
+
+disk-status-high : (p images : List ℕ) → doneHigh (placeStatus p images)
+unfolding placeStatus
+disk-status-high p images =
+    pick-go doneHigh (isDirectory p) done.Success (flagStatus (flagOf images (unitOf p) (entryOf p))) (λ t. tt) (λ t. flag-high (flagOf images (unitOf p) (entryOf p)))
+
+status-high : (o : Owner) (asked : Asked) (x : Part (groupIn o)) → doneHigh (ownActs o asked .statuses x)
+status-high (owner.Console h) asked x = tt
+status-high owner.Printer asked x = tt
+status-high owner.Cassette asked x = tt
+status-high owner.Disk asked x = disk-status-high (placeAt (asked .port) (asked .iocb) (x .places)) (x .images)
+
 open-high : (o : Owner) (asked : Asked) (x : Part (groupIn o)) → doneHigh (ownActs o asked .opens x .says)
 unfolding openOf openS graphics.openOf
 open-high (owner.Console console.E) asked x = tt
@@ -160,6 +215,9 @@ open-high (owner.Console console.S) asked x =
 open-high (owner.Console console.K) asked x = tt
 open-high owner.Printer asked x = tt
 open-high owner.Cassette asked x = tape-open-high (asked .aux1) (x .cassette)
+open-high owner.Disk asked x =
+    let p = placeAt (asked .port) (asked .iocb) (x .places) in
+    disk-refusal p (x .images) asked (placeOpened asked p (x .images) .says) refl
 
 prepare-high : (o : Owner) (asked : Asked) (x : Part (groupIn o)) → doneHigh (ownActs o asked .prepares x .says)
 unfolding prepareOf prepareS
@@ -168,6 +226,7 @@ prepare-high (owner.Console console.S) asked x = pick-go doneHigh (eqb (x .conso
 prepare-high (owner.Console console.K) asked x = tt
 prepare-high owner.Printer asked x = tt
 prepare-high owner.Cassette asked x = tt
+prepare-high owner.Disk asked x = tt
 
 write-high : (o : Owner) (asked : Asked) (byte : ℕ) (x : Part (groupIn o)) → doneHigh (ownActs o asked .writes byte x .says)
 unfolding writeOf writeE writeS controls.putOf graphics.putOf printer.putOf
@@ -179,6 +238,7 @@ write-high (owner.Console console.S) asked byte x =
 write-high (owner.Console console.K) asked byte x = omega arith
 write-high owner.Printer asked byte x = by-test (ltb (x .used) paperLength) (λ t. rw t tt) (λ t. rw t (omega arith))
 write-high owner.Cassette asked byte x = tape-write-high byte x
+write-high owner.Disk asked byte x = omega arith
 
 pub owner-high : (o : Owner) (asked : Asked) → High (ownActs o asked)
 owner-high o asked = record {
@@ -186,7 +246,7 @@ owner-high o asked = record {
   prepares = prepare-high o asked;
   reads = read-high o asked;
   writes = write-high o asked;
-  statuses = λ x. rw (says-01 o asked x) tt;
+  statuses = status-high o asked;
   specials = λ x. rw (says-84 o asked x) (omega arith);
 }
 
@@ -213,15 +273,15 @@ module _ {D : Type 0} (H : Asked → Acts D) (port : ℕ) (device : Device) (cal
   prepared-a (done.Refused status) kind = refl
 
   -- what holds of both sides of an opening, by AUX1, holds of it
-  opening-go : (Q : Begun D → Type 0) (then : After) (number name : ℕ)
+  opening-go : (Q : Begun D → Type 0) (then : After) (number : ℕ) (name : Name)
       → (offersOf device (call .aux1) ≡ true
-      → let y = openedOf (H (openingOn port call name)) then x in
+      → let y = openedOf (H (openingOn port call number name)) then x in
       Q (over call (blockAfter (y .says) then (openBlock device number (call .aux1)) b) (y .leaves) (doneStatus (y .says))))
       → Q (over call b x 0x84)
       → Q (workOf H port (work.Open then number name) device call b x)
   unfolding workOf openingOf
   opening-go Q then number name q r =
-      let y = openedOf (H (openingOn port call name)) then x in
+      let y = openedOf (H (openingOn port call number name)) then x in
       choose-go Q (offersOf device (call .aux1))
       (λ u. over call (blockAfter (y .says) then (openBlock device number (call .aux1)) b) (y .leaves) (doneStatus (y .says)))
       (λ u. over call b x 0x84)
@@ -240,28 +300,30 @@ module _ {D : Type 0} (H : Asked → Acts D) (port : ℕ) (device : Device) (cal
   refused-blocks work.Special h = refl
   refused-blocks (work.Open then number name) h =
       opening-go (λ (y : Begun D). 0x80 ≤ statusIn (y .out) → y .block ≡ b) then number name
-      (λ o. after-block (openedOf (H (openingOn port call name)) then x .says) then (openBlock device number (call .aux1)))
+      (λ o. after-block (openedOf (H (openingOn port call number name)) then x .says) then (openBlock device number (call .aux1)))
       (λ k. refl)
       h
   refused-blocks (work.Transfer kind) h = refl
 
-  -- SPECIAL on a closed block, whose open succeeded
-  pub record SpecialOpened (w : Work) : Type 0 where
+  -- SPECIAL or GET STATUS on a closed block, whose open succeeded
+  pub record OpenedFirst (w : Work) : Type 0 where
     pub number : ℕ
-    pub name : ℕ
-    pub special : w ≡ work.Open after.Special number name
+    pub name : Name
+    pub then : After
+    pub opens : w ≡ work.Open then number name
+    pub goes-on : (then ≡ after.Special) ⊎ (then ≡ after.Status)
     pub offered : offersOf device (call .aux1) ≡ true
-    pub opened : H (openingOn port call name) .opens x .says ≡ done.Success
+    pub opened : H (openingOn port call number name) .opens x .says ≡ done.Success
 
   module _ (still : Still H) where
-    opened-device : (then : After) (number name : ℕ) → offersOf device (call .aux1) ≡ true → let A = H (openingOn port call name) in
+    opened-device : (then : After) (number : ℕ) (name : Name) → offersOf device (call .aux1) ≡ true → let A = H (openingOn port call number name) in
         (d : Done) → A .opens x .says ≡ d → 0x80 ≤ doneStatus (openedBy A then d (A .opens x .leaves) .says)
-        → (openedBy A then d (A .opens x .leaves) .leaves ≡ x) ⊎ SpecialOpened (work.Open then number name)
+        → (openedBy A then d (A .opens x .leaves) .leaves ≡ x) ⊎ OpenedFirst (work.Open then number name)
     unfolding thenOf
     opened-device after.Stay number name o done.Success e h = absurd (omega arith)
-    opened-device after.Status number name o done.Success e h = absurd (high-01 (rw (still .statuses) at h))
-    opened-device after.Special number name o done.Success e h = inr (record { number = number; name = name; special = refl; offered = o; opened = e })
-    opened-device then number name o (done.Refused status) e h = inl (still .opens (openingOn port call name) status x e)
+    opened-device after.Status number name o done.Success e h = inr (record { number = number; name = name; then = after.Status; opens = refl; goes-on = inr refl; offered = o; opened = e })
+    opened-device after.Special number name o done.Success e h = inr (record { number = number; name = name; then = after.Special; opens = refl; goes-on = inl refl; offered = o; opened = e })
+    opened-device then number name o (done.Refused status) e h = inl (still .opens (openingOn port call number name) status x e)
 
     prepared-device : (d : Done) (kind : Kind) → H (asksOn port (call .iocb)) .prepares x .says ≡ d → 0x80 ≤ statusIn (preparedOut d kind device call) → H (asksOn port (call .iocb)) .prepares x .leaves ≡ x
     prepared-device done.Success kind e h = absurd (omega arith)
@@ -271,15 +333,16 @@ module _ {D : Type 0} (H : Asked → Acts D) (port : ℕ) (device : Device) (cal
     special-device done.Success e h = absurd (omega arith)
     special-device (done.Refused status) e h = still .specials (asksOn port (call .iocb)) status x e
 
-    -- "A refusal at the start changes no .. device .. (a SPECIAL on a closed block keeps its open's effects)"
-    pub refused-device : (w : Work) → 0x80 ≤ statusIn (workOf H port w device call b x .out) → (workOf H port w device call b x .device ≡ x) ⊎ SpecialOpened w
+    -- "A refusal at the start changes no .. device .. (a SPECIAL on a closed block keeps its open's effects)"; so does a GET STATUS that D
+    -- answers with $A7, "OPEN's refusals stand; then $A7 if the file is locked"
+    pub refused-device : (w : Work) → 0x80 ≤ statusIn (workOf H port w device call b x .out) → (workOf H port w device call b x .device ≡ x) ⊎ OpenedFirst w
     unfolding workOf transferOf openedOf
     refused-device work.Close h = absurd (omega arith)
     refused-device work.Status h = inl refl
     refused-device work.Special h = inl (special-device (H (asksOn port (call .iocb)) .specials x .says) refl h)
     refused-device (work.Open then number name) h =
-        opening-go (λ (y : Begun D). 0x80 ≤ statusIn (y .out) → (y .device ≡ x) ⊎ SpecialOpened (work.Open then number name)) then number name
-        (λ o. opened-device then number name o (H (openingOn port call name) .opens x .says) refl)
+        opening-go (λ (y : Begun D). 0x80 ≤ statusIn (y .out) → (y .device ≡ x) ⊎ OpenedFirst (work.Open then number name)) then number name
+        (λ o. opened-device then number name o (H (openingOn port call number name) .opens x .says) refl)
         (λ k. inl refl)
         h
     refused-device (work.Transfer kind) h = inl (prepared-device (H (asksOn port (call .iocb)) .prepares x .says) kind refl h)
@@ -303,14 +366,17 @@ module _ {D : Type 0} (H : Asked → Acts D) (port : ℕ) (device : Device) (cal
   start-a (work.Transfer kind) = prepared-a (H (asksOn port (call .iocb)) .prepares x .says) kind
 
 -- "(a SPECIAL on a closed block keeps its open's effects)": the block is closed again, and the device is as the open left it, closed; of
--- the console and the printer closing changes nothing
-pub special-keeps : (o : Owner) (port : ℕ) (device : Device) (call : Call) (b : ControlBlock) (x : Part (groupIn o)) (number name : ℕ) → offersOf device (call .aux1) ≡ true
-    → ownActs o (openingOn port call name) .opens x .says ≡ done.Success
-    → workOf (ownActs o) port (work.Open after.Special number name) device call b x ≡ over call b (let A = ownActs o (openingOn port call name) in A .closes (A .opens x .leaves)) 0x84
+-- the console, the printer and the diskettes closing changes nothing
+pub special-keeps : (o : Owner) (port : ℕ) (device : Device) (call : Call) (b : ControlBlock) (x : Part (groupIn o)) (number : ℕ) (name : Name) → offersOf device (call .aux1) ≡ true
+    → ownActs o (openingOn port call number name) .opens x .says ≡ done.Success
+    → workOf (ownActs o) port (work.Open after.Special number name) device call b x ≡ over call b (let A = ownActs o (openingOn port call number name) in A .closes (A .opens x .leaves)) 0x84
 unfolding workOf openingOf openedOf thenOf
 special-keeps (owner.Console h) port device call b x number name t e = rw (t, e)
 special-keeps owner.Printer port device call b x number name t e = rw t
 special-keeps owner.Cassette port device call b x number name t e = rw (t, e)
+special-keeps owner.Disk port device call b x number name t e =
+    let A = ownActs owner.Disk (openingOn port call number name) in
+    rw (t, e) (ap (λ (y : DiskGroup). over call b (A .closes y) 0x84) (place-back port (call .iocb) (A .opens x .leaves)))
 
 module _ {D : Type 0} (H : Asked → Acts D) (port : ℕ) where
   -- "A refusal at the start changes no block": nor the table

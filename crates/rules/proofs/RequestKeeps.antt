@@ -16,6 +16,9 @@ use Rattle.handler.specs.declared.Asked.{Asked}
 use Rattle.handler.specs.declared.Done.{Done}
 use Rattle.handler.specs.declared.Done.the-variants as done
 use Rattle.handler.specs.Answer.{doneStatus}
+use Rattle.names.specs.declared.Name.{Name}
+use Rattle.names.specs.declared.Named.{Named}
+use Rattle.names.specs.declared.Named.the-variants.{Past, Found}
 use Rattle.handler.specs.Acts.{Acts, asksOpen, asksOn}
 use Rattle.blocks.specs.declared.BlockState.{BlockState}
 use Rattle.blocks.specs.declared.BlockState.the-variants as block
@@ -31,7 +34,7 @@ use Rattle.blocks.specs.declared.Specification.the-variants.{Refused, Names}
 use Rattle.blocks.specs.declared.Table.{Table}
 use Rattle.blocks.specs.declared.Way.{Way}
 use Rattle.blocks.specs.Blocks.{blockAt, withBlock, closedBlock}
-use Rattle.blocks.specs.Opening.{areaLength, reads, writes, offersOf, specificationOf}
+use Rattle.blocks.specs.Opening.{areaLength, highestOf, reads, writes, offersOf, specificationOf}
 use Rattle.blocks.specs.Made.{madeOf, tableMade}
 use Rattle.blocks.proofs.Keeps.{block-back, block-made, with-made, closed-made, names-number}
 use Rattle.wire.specs.declared.Call.{Call}
@@ -57,7 +60,7 @@ use Rattle.plan.specs.declared.Plan.the-variants as plan
 use Rattle.plan.specs.declared.Work.{Work}
 use Rattle.plan.specs.declared.Work.the-variants as work
 use Rattle.commands.specs.Commands.{commandOf, wayOf, kindOf}
-use Rattle.plan.specs.Plan.{openPlan, areaPlan, transferPlan, blockPlan, callPlan, planIn, planOf}
+use Rattle.plan.specs.Plan.{namedFor, namedPlan, openPlan, areaPlan, transferPlan, blockPlan, callPlan, planIn, planOf}
 use Rattle.moves.specs.Move.{Went, advanceOf}
 use Rattle.cio.specs.Start.{loadFits, loadedOf, loadStatus, Freed, loadOf, errandOf, Begun, over, runOf, openedOf, openingOf, preparedOut, transferOf, workOf, jobBegun}
 use Rattle.alone.specs.Left.{deviceLeft}
@@ -78,17 +81,17 @@ pub record OnOpen (device : Device) (call : Call) (table : Table) : Type 0 where
   pub has : blockAt table (call .iocb) .state ≡ block.Open device number aux1
 
 -- closed, and the number that it is opened with
-pub record OnClosed (number : ℕ) (call : Call) (table : Table) : Type 0 where
+pub record OnClosed (device : Device) (number : ℕ) (call : Call) (table : Table) : Type 0 where
   pub iocb : call .iocb < 8
   pub has : blockAt table (call .iocb) .state ≡ block.Closed
-  pub numbered : within 1 8 number ≡ true
+  pub numbered : within 1 (highestOf device) number ≡ true
 
 -- what the checks before the group have shown of the work on a device
 abbrev pub FitWork : Work → Device → Call → Table → Type 0
 FitWork work.Close device call table = OnOpen device call table
 FitWork work.Status device call table = OnOpen device call table
 FitWork work.Special device call table = OnOpen device call table
-FitWork (work.Open then number name) device call table = OnClosed number call table
+FitWork (work.Open then number name) device call table = OnClosed device number call table
 FitWork (work.Transfer kind) device call table = FitRun (runOf device kind call) table
 
 abbrev pub FitJob : Job → Table → Type 0
@@ -99,15 +102,19 @@ FitPlan (plan.Free e) table = Unit {0}
 FitPlan (plan.On job) table = FitJob job table
 
 -- "$81 or $85; $83 or $87; $B0 and $82": past these checks a transfer's block is open for its direction and its buffer lies in the
--- area, and the number of an OPEN is 1 to 8
+-- area, and the number of an OPEN is one that its device has
 module _ (call : Call) (table : Table) where
   module _ (i : call .iocb < 8) where
     opening-fit : (then : After) (half : List ℕ) → blockAt table (call .iocb) .state ≡ block.Closed → FitPlan (openPlan then (specificationOf half (call .address)) half call) table
     opening-fit then half e = by (specificationOf half (call .address)) (names-number half (call .address))
       where
-        by : (s : Specification) → ((device : Device) (number : ℕ) → s ≡ Names device number → within 1 8 number ≡ true) → FitPlan (openPlan then s half call) table
+        by : (s : Specification) → ((device : Device) (number : ℕ) → s ≡ Names device number → within 1 (highestOf device) number ≡ true) → FitPlan (openPlan then s half call) table
         by (Refused status) n = tt
-        by (Names device number) n = record { iocb = i; has = e; numbered = n device number refl }
+        by (Names device number) n = named (namedFor device half (call .address))
+          where
+            named : (r : Named) → FitPlan (namedPlan then device number r call) table
+            named Past = tt
+            named (Found name) = record { iocb = i; has = e; numbered = n device number refl }
 
     area-fit : (reads records : Bool) (device : Device) → ((way : Way) → OpenFor (kindOf reads way) device (blockAt table (call .iocb) .state)) → FitPlan (areaPlan reads records device call) table
     unfolding areaPlan
@@ -203,10 +210,10 @@ module _ (device : Device) (port : ℕ) (call : Call) (table : Table) (m : table
   ended : (settled : ControlBlock) → madeOf settled ≡ true → (y : Part (groupOf device)) → FitPart (groupOf device) y → (status : ℕ) → FitBegun device (call .iocb) table (over call settled y status)
   ended settled k y g status = record { made = with-made table (call .iocb) settled m k; fits = g; out = call-reply-fits status 0 (call .a) }
 
-  opening-keeps : (then : After) (number name : ℕ) → within 1 8 number ≡ true → FitBegun device (call .iocb) table (openingOf H port then number name device call before x)
+  opening-keeps : (then : After) (number : ℕ) (name : Name) → within 1 (highestOf device) number ≡ true → FitBegun device (call .iocb) table (openingOf H port then number name device call before x)
   unfolding openingOf
   opening-keeps then number name n =
-      let opens = asksOpen port (call .iocb) (call .aux1) (call .aux2) name in
+      let opens = asksOpen port (call .iocb) number (call .aux1) (call .aux2) name in
       let y = openedOf (H opens) then x in
       choose-go (FitBegun device (call .iocb) table) (offersOf device (call .aux1)) _ _
       (λ t. ended _ (after-made device (y .says) then number (call .aux1) before before-made n t (opened-unsplit H _ _ device Y opens then x)) (y .leaves)
@@ -286,7 +293,7 @@ module _ (device : Device) (port : ℕ) (table : Table) (run : Run) (r : FitRun 
   move-keeps area x f u =
       let o = ownerOf device in
       let w = advanceOf (deviceActs device) port run area x in
-      let k = alone.go-keeps (deviceActs device) port (run .iocb) (deviceLeft device) (FitOwn o) (device-lines device (asksOn port (run .iocb))) run area x (f, u) refl (span-of (wayIn (run .kind)) run (record { span = r .span })) in
+      let k = alone.go-keeps (deviceActs device) port (run .iocb) (deviceLeft device port (run .iocb)) (FitOwn o) (device-lines device port (run .iocb)) run area x (f, u) refl (span-of (wayIn (run .kind)) run (record { span = r .span })) in
       record { kept = k .long; fits = k .device .0; out = out-fit (w .out) (w .device) (k .device .1) (k .out) }
 
 -- a request's reply goes into the room, whose length stays

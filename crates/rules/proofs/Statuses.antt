@@ -7,10 +7,15 @@ use mathlib.Core.List.{List, [], _∷_}
 use Prim.Native.Nat.{ℕ, zero, suc, _+_, _*_, _<_, _≤_}
 use native.Mathlib.Omega.{arith}
 use lib.Dec.{T, eqb, leb, ltb}
-use lib.ListN.{length, getD}
+use lib.ListN.{length, getD, drop}
 use borrow.Author.Tests.{lt-ltb, le-ltb, le-leb, lt-leb, eq-eqb, ne-eqb, not-true}
 use Rattle.base.specs.Choice.{pick, or, within, bit}
 use Rattle.base.proofs.Choices.{pick-go, pick-eq, pick-lt, pick-le, choose-go, choose-eq, choose-lt, choose-le, by-test, by-lt, by-eq, and-false}
+use Rattle.names.specs.declared.Name.{Name}
+use Rattle.names.specs.declared.Named.{Named}
+use Rattle.names.specs.declared.Named.the-variants.{Past, Found}
+use Rattle.names.specs.Read.{NameReads}
+use Rattle.names.proofs.Reading.{reads-named, named-reads}
 use Rattle.handler.specs.declared.Asked.{Asked}
 use Rattle.handler.specs.declared.Done.{Done}
 use Rattle.handler.specs.declared.Done.the-variants as done
@@ -37,6 +42,10 @@ use Rattle.cassette.specs.Cassette.{CassetteGroup, withCassette, behind}
 use Rattle.cassette.specs.Cassette as cassette
 use Rattle.cassette.specs.Reads.{success, warned, TapeReads, bad, ended, given}
 use Rattle.cassette.proofs.Reading.{come-gives, read-always, read-only}
+use Rattle.disk.specs.Disk.{DiskGroup, placeAt}
+use Rattle.disk.specs.Says as disk
+use Rattle.disk.proofs.Keeps as disk-keeps
+use Rattle.disk.proofs.Says as disk-says
 use Rattle.console.specs.Group.{ConsoleGroup}
 use Rattle.console.specs.Handlers.{textOf, openOf, openS, prepareOf, prepareE, prepareS, readOf, readE, readS, readK, writeOf, writeE, writeS}
 use Rattle.console.specs.declared.Handler.the-variants as console
@@ -45,7 +54,7 @@ use Rattle.blocks.specs.declared.BlockState.{BlockState}
 use Rattle.blocks.specs.declared.BlockState.the-variants as block
 use Rattle.blocks.specs.declared.ControlBlock.{ControlBlock}
 use Rattle.blocks.specs.declared.Device.{Device}
-use Rattle.blocks.specs.declared.Device.the-variants.{E, S, K, P, C}
+use Rattle.blocks.specs.declared.Device.the-variants.{E, S, K, P, C, D}
 use Rattle.blocks.specs.declared.Kind.{Kind}
 use Rattle.blocks.specs.declared.Kind.the-variants.{Get, Put}
 use Rattle.blocks.specs.declared.Specification.{Specification}
@@ -57,7 +66,7 @@ use Rattle.blocks.specs.Blocks.{closedBlock, openBlock, blockAt, withBlock}
 use Rattle.blocks.specs.Opening.{areaLength, specificationOf, reads, writes, offersOf}
 use Rattle.blocks.specs.Made.{madeState}
 use Rattle.blocks.specs.Specified.{Specified, Malformed, NeededPast, Specifies, NotOffered}
-use Rattle.blocks.proofs.Keeps.{block-back, block-made, made-offers, keys-unwritten, paper-unread, tape-one-way}
+use Rattle.blocks.proofs.Keeps.{block-back, block-made, made-offers, keys-unwritten, disk-unwritten, paper-unread, tape-one-way}
 use Rattle.blocks.proofs.Specified.{specifies, offers-not}
 use Rattle.commands.specs.declared.Command.{Command}
 use Rattle.commands.specs.declared.Command.the-variants as command
@@ -74,7 +83,7 @@ use Rattle.plan.specs.declared.After.{After}
 use Rattle.plan.specs.declared.After.the-variants as after
 use Rattle.plan.specs.declared.Plan.{Plan}
 use Rattle.plan.specs.declared.Work.the-variants as work
-use Rattle.plan.specs.Plan.{atOnce, plannedOf, openPlan, areaPlan, transferPlan, blockPlan, callPlan, nameOf, planIn, planOf, groupNeeded, needOf}
+use Rattle.plan.specs.Plan.{atOnce, plannedOf, namedFor, namedPlan, openPlan, areaPlan, transferPlan, blockPlan, callPlan, nameOf, planIn, planOf, groupNeeded, needOf}
 use Rattle.cio.specs.Start.{loadStatus, thenOf, openedOf, blockAfter}
 use Rattle.alone.specs.Transfer.{TransferEnd, getting, putting, transferred}
 use Rattle.alone.specs.Left.{deviceLeft}
@@ -88,7 +97,7 @@ use Rattle.alone.proofs.Fit.{fit-part}
 use Rattle.alone.proofs.Lines.{device-lines, device-starts}
 use Rattle.rules.proofs.Marks.{read-mark, write-mark}
 use Rattle.rules.specs.Answers.{oneOf}
-use Rattle.rules.specs.Statuses.{replyStatus, directionBit, BadMode, OnBlock, OpenElsewhere, MarkedAs, AtEnd, at-end, AtBad, bad-record, BeforeEnd, before-end, OpenOnOpen, TransferOnClosed, Transfer, Undirected, Directed, Opening, PastArea, buffer-past, specification-past, NoDevice, NamesDevice, AlreadyOpen, block-open, tape-open, Illegal, bad-command, not-offered, special-on-open, special-on-closed, Passed, NoMode, open-mode, transfer-mode, Started, actsOn, sentBy, ReadsAt, WritesAt, EndOfFile, BadRecord, EndWarned, RecordCut, PastRows, CursorPast, Full, CallStatuses, CallBlocks, CallNeeds, GetReply, PutReply, Uncounted, CallReplies, LoadStatuses, LoadReplies, FetchReplies}
+use Rattle.rules.specs.Statuses.{replyStatus, directionBit, BadMode, OnBlock, OpenElsewhere, BehindColon, HasName, BadName, NoneMatches, LockedMatches, MarkedAs, AtEnd, at-end, AtBad, bad-record, BeforeEnd, before-end, OpenOnOpen, TransferOnClosed, Transfer, Undirected, Directed, Opening, PastArea, buffer-past, specification-past, name-past, NoDevice, NamesDevice, AlreadyOpen, block-open, tape-open, Illegal, bad-command, not-offered, special-on-open, special-on-closed, BadlyNamed, placeIn, NoFile, none-matches, status-unused, FileLocked, locked-matches, status-locked, Passed, NoMode, open-mode, transfer-mode, Started, actsOn, sentBy, ReadsAt, WritesAt, EndOfFile, BadRecord, BadChain, Warns, EndWarned, RecordCut, PastRows, CursorPast, Full, CallStatuses, CallBlocks, CallNeeds, GetReply, PutReply, Uncounted, CallReplies, LoadStatuses, LoadReplies, FetchReplies}
 
 -- What a handler says, as a number: a character or a success is 0, a refusal one more than its status
 abbrev gotNumber : Got → ℕ
@@ -123,34 +132,75 @@ screen-bad : (split inside : Bool) → or split (not inside) ≡ true → (split
 screen-bad true inside e = inl refl
 screen-bad false inside e = inr (not-true inside e)
 
+both : {P : Type 0} {t : Bool} → t ≡ true → t ≡ false → P
+both e f = absurd (subst T (sym e ∙ f) tt)
+
 -- what an opening says, s the devices
 pub data OpenSays (device : Device) (asked : Asked) (s : Groups) (says : Done) : Type 0 where
-  no-such-mode : BadMode device (asked .aux1) (asked .aux2) → says ≡ done.Refused 0x91 → OpenSays device asked s says
-  held-open : OpenElsewhere device s → (BadMode device (asked .aux1) (asked .aux2) → ⊥) → says ≡ done.Refused 0x81 → OpenSays device asked s says
-  opens-it : (BadMode device (asked .aux1) (asked .aux2) → ⊥) → (OpenElsewhere device s → ⊥) → says ≡ done.Success → OpenSays device asked s says
+  no-such-mode : BadMode device (asked .aux1) (asked .aux2) → (OpenElsewhere device s → ⊥) → (BadName device (asked .name) → ⊥)
+      → (NoneMatches device (asked .number) (asked .aux1) (asked .name) s → ⊥) → says ≡ done.Refused 0x91 → OpenSays device asked s says
+  held-open : (BadMode device (asked .aux1) (asked .aux2) → ⊥) → OpenElsewhere device s → (BadName device (asked .name) → ⊥)
+      → (NoneMatches device (asked .number) (asked .aux1) (asked .name) s → ⊥) → says ≡ done.Refused 0x81 → OpenSays device asked s says
+  badly-named : (BadMode device (asked .aux1) (asked .aux2) → ⊥) → (OpenElsewhere device s → ⊥) → BadName device (asked .name)
+      → (NoneMatches device (asked .number) (asked .aux1) (asked .name) s → ⊥) → says ≡ done.Refused 0xA5 → OpenSays device asked s says
+  not-there : (BadMode device (asked .aux1) (asked .aux2) → ⊥) → (OpenElsewhere device s → ⊥) → (BadName device (asked .name) → ⊥)
+      → NoneMatches device (asked .number) (asked .aux1) (asked .name) s → says ≡ done.Refused 0xAA → OpenSays device asked s says
+  opens-it : (BadMode device (asked .aux1) (asked .aux2) → ⊥) → (OpenElsewhere device s → ⊥) → (BadName device (asked .name) → ⊥)
+      → (NoneMatches device (asked .number) (asked .aux1) (asked .name) s → ⊥) → says ≡ done.Success → OpenSays device asked s says
+
+opens-disk : (asked : Asked) (s : Groups) (says : Done) → disk.DiskOpens asked (s .disk .images) says → OpenSays D asked s says
+opens-disk asked s says (disk.bad-name g e) = badly-named (λ b. b) (λ b. b) g (λ m. both (m .opens .good) g) e
+opens-disk asked s says (disk.no-match m e) = not-there (λ b. b) (λ b. b) (λ g. both (m .opens .good) g) m e
+opens-disk asked s says (disk.opened g n e) = opens-it (λ b. b) (λ b. b) (λ b. both g b) n e
 
 opens-says : (device : Device) (asked : Asked) (s : Groups) → OpenSays device asked s (deviceActs device asked .opens (getGroup (groupOf device) s) .says)
 unfolding openOf openS graphics.openOf cassette.tapeOpened
-opens-says E asked s = opens-it (λ b. b) (λ b. b) refl
+opens-says E asked s = opens-it (λ b. b) (λ b. b) (λ b. b) (λ b. b) refl
 opens-says S asked s =
     let split = bit 16 (asked .aux1) in
     let inside = within 3 8 (asked .aux2) in
     by-test (or split (not inside))
-    (λ t. no-such-mode (⊎-elim inl (λ e. inr (outside (asked .aux2) e)) (screen-bad split inside t)) (rw t))
-    (λ t. opens-it (λ b. absurd (subst T (sym (screen-refuses (asked .aux1) (asked .aux2) b) ∙ t) tt)) (λ b. b) (rw t))
-opens-says K asked s = opens-it (λ b. b) (λ b. b) refl
-opens-says P asked s = opens-it (λ b. b) (λ b. b) refl
+    (λ t. no-such-mode (⊎-elim inl (λ e. inr (outside (asked .aux2) e)) (screen-bad split inside t)) (λ b. b) (λ b. b) (λ b. b) (rw t))
+    (λ t. opens-it (λ b. absurd (subst T (sym (screen-refuses (asked .aux1) (asked .aux2) b) ∙ t) tt)) (λ b. b) (λ b. b) (λ b. b) (rw t))
+opens-says K asked s = opens-it (λ b. b) (λ b. b) (λ b. b) (λ b. b) refl
+opens-says P asked s = opens-it (λ b. b) (λ b. b) (λ b. b) (λ b. b) refl
 opens-says C asked s =
     by-eq (s .cassette .cassette .mark) 0
-    (λ e. opens-it (λ b. b) (λ n. n e) (rw (eq-eqb (s .cassette .cassette .mark) 0 e)))
-    (λ n. held-open n (λ b. b) (rw (ne-eqb (s .cassette .cassette .mark) 0 n)))
+    (λ e. opens-it (λ b. b) (λ n. n e) (λ b. b) (λ b. b) (rw (eq-eqb (s .cassette .cassette .mark) 0 e)))
+    (λ n. held-open (λ b. b) n (λ b. b) (λ b. b) (rw (ne-eqb (s .cassette .cassette .mark) 0 n)))
+opens-says D asked s =
+    opens-disk asked s (deviceActs D asked .opens (s .disk) .says) (disk-says.disk-opens asked (placeAt (asked .port) (asked .iocb) (s .disk .places)) (s .disk .images))
 
-status-says : (device : Device) (asked : Asked) (x : Part (groupOf device)) → deviceActs device asked .statuses x ≡ done.Success
-status-says E asked x = refl
-status-says S asked x = refl
-status-says K asked x = refl
-status-says P asked x = refl
-status-says C asked x = refl
+-- what GET STATUS says of a block that is opened for it
+pub data StatusSays (device : Device) (asked : Asked) (s : Groups) (says : Done) : Type 0 where
+  says-locked : LockedMatches device (asked .number) (asked .aux1) (asked .name) s → says ≡ done.Refused 0xA7 → StatusSays device asked s says
+  says-success : (LockedMatches device (asked .number) (asked .aux1) (asked .name) s → ⊥) → says ≡ done.Success → StatusSays device asked s says
+
+abbrev opensTo : (device : Device) → Asked → Groups → Answer Done (Part (groupOf device))
+opensTo device asked s = deviceActs device asked .opens (getGroup (groupOf device) s)
+
+status-disk : (asked : Asked) (s : Groups) (says : Done) → disk.StatusAfter asked (s .disk .images) says → StatusSays D asked s says
+status-disk asked s says (disk.match-locked m e) = says-locked m e
+status-disk asked s says (disk.match-free n e) = says-success n e
+
+status-says : (device : Device) (asked : Asked) (s : Groups) → FitGroups s → opensTo device asked s .says ≡ done.Success
+    → StatusSays device asked s (deviceActs device asked .statuses (opensTo device asked s .leaves))
+status-says E asked s f e = says-success (λ b. b) refl
+status-says S asked s f e = says-success (λ b. b) refl
+status-says K asked s f e = says-success (λ b. b) refl
+status-says P asked s f e = says-success (λ b. b) refl
+status-says C asked s f e = says-success (λ b. b) refl
+status-says D asked s f e =
+    status-disk asked s (deviceActs D asked .statuses (opensTo D asked s .leaves)) (disk-says.status-after asked (s .disk) (f .disk) e)
+
+-- a locked file opens
+locked-opens : (device : Device) (asked : Asked) (s : Groups) → LockedMatches device (asked .number) (asked .aux1) (asked .name) s → opensTo device asked s .says ≡ done.Success
+locked-opens E asked s b = absurd b
+locked-opens S asked s b = absurd b
+locked-opens K asked s b = absurd b
+locked-opens P asked s b = absurd b
+locked-opens C asked s b = absurd b
+locked-opens D asked s b = disk-says.locked-opens asked (placeAt (asked .port) (asked .iocb) (s .disk .places)) (s .disk .images) b
 
 special-says : (device : Device) (asked : Asked) (x : Part (groupOf device)) → deviceActs device asked .specials x .says ≡ done.Refused 0x84
 special-says E asked x = refl
@@ -158,6 +208,7 @@ special-says S asked x = refl
 special-says K asked x = refl
 special-says P asked x = refl
 special-says C asked x = refl
+special-says D asked x = refl
 
 -- "A transfer in mode 0 is $91 at the start.": S's
 abbrev NoPicture : (device : Device) → Part (groupOf device) → Type 0
@@ -166,6 +217,7 @@ NoPicture S x = x .console .mode ≡ 0
 NoPicture K x = ⊥
 NoPicture P x = ⊥
 NoPicture C x = ⊥
+NoPicture D x = ⊥
 
 abbrev Prepares : (device : Device) → Asked → Part (groupOf device) → Type 0
 Prepares device asked x =
@@ -179,6 +231,7 @@ prepares-says S asked x = by-eq (x .console .mode) 0 (λ e. inl (e, rw e)) (λ n
 prepares-says K asked x = inr (x, refl)
 prepares-says P asked x = inr (x, refl)
 prepares-says C asked x = inr (x, refl)
+prepares-says D asked x = inr (deviceActs D asked .prepares x .leaves, refl)
 
 -- what a character is refused with
 reads-E : (asked : Asked) (g : ConsoleGroup) (status : ℕ) → deviceActs E asked .reads g .says ≡ got.Refused status → ⊥
@@ -315,6 +368,7 @@ get-put S s x = refl
 get-put K s x = refl
 get-put P s x = refl
 get-put C s x = refl
+get-put D s x = refl
 
 -- a way fits its length
 way-fits : (way : Way) (records : Bool) (n : ℕ) → HasWay way records n → LengthFits way n
@@ -354,6 +408,53 @@ row-any : (t b : Bool) (A B : Type 0) → (B → b ≡ true) → row t A B → o
 row-any true b A B f r = refl
 row-any false b A B f r = f r
 
+-- what is read behind the colon
+no-past : {P : Type 0} (name : Name) → Found name ≡ Past → P
+no-past name e = let z : _≡_ {A = ℕ} 0 1 = cc in absurd (omega arith)
+
+found-one : (one other : Name) → Found one ≡ Found other → other ≡ one
+found-one one other e = cc
+
+module _ (half : List ℕ) (address : ℕ) where
+  abbrev afterColon : List ℕ
+  afterColon = drop (nameOf half address) half
+
+  past-behind : (device : Device) → namedFor device half address ≡ Past → BehindColon device half address Past
+  unfolding namedFor
+  past-behind E e = no-past _ e
+  past-behind S e = no-past _ e
+  past-behind K e = no-past _ e
+  past-behind P e = no-past _ e
+  past-behind C e = no-past _ e
+  past-behind D e = subst (NameReads afterColon) e (named-reads afterColon)
+
+  behind-past : (device : Device) → BehindColon device half address Past → namedFor device half address ≡ Past
+  unfolding namedFor
+  behind-past E b = absurd b
+  behind-past S b = absurd b
+  behind-past K b = absurd b
+  behind-past P b = absurd b
+  behind-past C b = absurd b
+  behind-past D b = reads-named afterColon Past b
+
+  found-name : (device : Device) (name : Name) → namedFor device half address ≡ Found name → HasName device half address name
+  unfolding namedFor
+  found-name E name e = found-one _ name e
+  found-name S name e = found-one _ name e
+  found-name K name e = found-one _ name e
+  found-name P name e = found-one _ name e
+  found-name C name e = found-one _ name e
+  found-name D name e = subst (NameReads afterColon) e (named-reads afterColon)
+
+  name-found : (device : Device) (name : Name) → HasName device half address name → namedFor device half address ≡ Found name
+  unfolding namedFor
+  name-found E name e = ap Found (sym e)
+  name-found S name e = ap Found (sym e)
+  name-found K name e = ap Found (sym e)
+  name-found P name e = ap Found (sym e)
+  name-found C name e = ap Found (sym e)
+  name-found D name e = reads-named afterColon (Found name) e
+
 module _ (c : Call) (l : Local) (s : Groups) where
   abbrev Row : ℕ → Type 0
   Row status =
@@ -373,7 +474,11 @@ module _ (c : Call) (l : Local) (s : Groups) where
       (row (eqb status 0x8D) (CursorPast c l s)
       (row (eqb status 0x8F) (BadRecord c l s)
       (row (eqb status 0x90) (Full c l s)
-      ⊥)))))))))))))))
+      (row (eqb status 0xA4) (BadChain c l s)
+      (row (eqb status 0xA5) (BadlyNamed c l s)
+      (row (eqb status 0xA7) (FileLocked c l s)
+      (row (eqb status 0xAA) (NoFile c l s)
+      ⊥)))))))))))))))))))
 
   abbrev half : List ℕ
   half = l .area
@@ -452,10 +557,23 @@ module _ (c : Call) (l : Local) (s : Groups) where
 
   -- An opening's
 
-  abbrev asks : (name : ℕ) → Asked
-  asks name = asksOpen (l .number) (c .iocb) (c .aux1) (c .aux2) name
+  abbrev asks : (number : ℕ) → Name → Asked
+  asks number name = asksOpen (l .number) (c .iocb) number (c .aux1) (c .aux2) name
 
-  module _ (device : Device) (then : After) (number name : ℕ) where
+  -- what a device says to it
+  abbrev openSays : (device : Device) → (number : ℕ) → Name → Done
+  openSays device number name = opensTo device (asks number name) s .says
+
+  -- and then to GET STATUS
+  abbrev thenSays : (device : Device) → (number : ℕ) → Name → Done
+  thenSays device number name = deviceActs device (asks number name) .statuses (opensTo device (asks number name) s .leaves)
+
+  -- GET STATUS leaves the block as it was
+  status-block : (d : Done) (opened before : ControlBlock) → blockAfter d after.Status opened before ≡ before
+  status-block done.Success opened before = refl
+  status-block (done.Refused status) opened before = refl
+
+  module _ (device : Device) (then : After) (number : ℕ) (name : Name) where
     abbrev opens : Plan
     opens = plannedOf device (work.Open then number name) c
 
@@ -463,11 +581,11 @@ module _ (c : Call) (l : Local) (s : Groups) where
     unfolding alonePlan aloneWork aloneOpening offersOf
     open-not e = rw e
 
-    open-said : offersOf device (c .aux1) ≡ true → replied opens ≡ uncounted (doneStatus (openedOf (deviceActs device (asks name)) then (own device) .says))
+    open-said : offersOf device (c .aux1) ≡ true → replied opens ≡ uncounted (doneStatus (openedOf (deviceActs device (asks number name)) then (own device) .says))
     unfolding alonePlan aloneWork aloneOpening offersOf openedOf
     open-said e = rw e
 
-    open-refused : (status : ℕ) → offersOf device (c .aux1) ≡ true → deviceActs device (asks name) .opens (own device) .says ≡ done.Refused status → replied opens ≡ uncounted status
+    open-refused : (status : ℕ) → offersOf device (c .aux1) ≡ true → openSays device number name ≡ done.Refused status → replied opens ≡ uncounted status
     unfolding openedOf
     open-refused status o e = open-said o ∙ rw e
 
@@ -480,53 +598,50 @@ module _ (c : Call) (l : Local) (s : Groups) where
     open-not-table e = rw e
 
     open-table : offersOf device (c .aux1) ≡ true
-        → tableOf opens ≡ withBlock (l .table) (c .iocb) (blockAfter (openedOf (deviceActs device (asks name)) then (own device) .says) then (openBlock device number (c .aux1)) (blockAt (l .table) (c .iocb)))
+        → tableOf opens ≡ withBlock (l .table) (c .iocb) (blockAfter (openedOf (deviceActs device (asks number name)) then (own device) .says) then (openBlock device number (c .aux1)) (blockAt (l .table) (c .iocb)))
     unfolding alonePlan aloneWork aloneOpening offersOf openedOf
     open-table e = rw e
 
-    open-refused-table : (status : ℕ) → offersOf device (c .aux1) ≡ true → deviceActs device (asks name) .opens (own device) .says ≡ done.Refused status → tableOf opens ≡ l .table
+    open-refused-table : (status : ℕ) → offersOf device (c .aux1) ≡ true → openSays device number name ≡ done.Refused status → tableOf opens ≡ l .table
     unfolding openedOf
     open-refused-table status o e = open-table o ∙ rw e same-block
 
-  -- with the device opened: "$01 or $84"
-  module _ (device : Device) (number name : ℕ) (o : offersOf device (c .aux1) ≡ true) (e : deviceActs device (asks name) .opens (own device) .says ≡ done.Success) where
+  -- with the device opened: "$01 or $84", of D "$A7 if the file is locked"
+  module _ (device : Device) (number : ℕ) (name : Name) (o : offersOf device (c .aux1) ≡ true) (e : openSays device number name ≡ done.Success) where
     opened-stays : replied (opens device after.Stay number name) ≡ uncounted 0x01
     unfolding openedOf thenOf
     opened-stays = open-said device after.Stay number name o ∙ rw e
 
-    opened-status : replied (opens device after.Status number name) ≡ uncounted 0x01
+    opened-status : (d : Done) → thenSays device number name ≡ d → replied (opens device after.Status number name) ≡ uncounted (doneStatus d)
     unfolding openedOf thenOf
-    opened-status = open-said device after.Status number name o ∙ rw (e, status-says device (asks name) (deviceActs device (asks name) .opens (own device) .leaves))
+    opened-status d q = open-said device after.Status number name o ∙ rw (e, q)
 
     opened-special : replied (opens device after.Special number name) ≡ uncounted 0x84
     unfolding openedOf thenOf
-    opened-special = open-said device after.Special number name o ∙ rw (e, special-says device (asks name) (deviceActs device (asks name) .opens (own device) .leaves))
+    opened-special = open-said device after.Special number name o ∙ rw (e, special-says device (asks number name) (opensTo device (asks number name) s .leaves))
 
     opened-stays-table : tableOf (opens device after.Stay number name) ≡ withBlock (l .table) (c .iocb) (openBlock device number (c .aux1))
     unfolding openedOf thenOf
     opened-stays-table = open-table device after.Stay number name o ∙ rw e
 
     opened-status-table : tableOf (opens device after.Status number name) ≡ l .table
-    unfolding openedOf thenOf
-    opened-status-table =
-        open-table device after.Status number name o
-        ∙ rw (e, status-says device (asks name) (deviceActs device (asks name) .opens (own device) .leaves)) same-block
+    opened-status-table = open-table device after.Status number name o ∙ ap (withBlock (l .table) (c .iocb)) (status-block (openedOf (deviceActs device (asks number name)) after.Status (own device) .says) (openBlock device number (c .aux1)) (blockAt (l .table) (c .iocb))) ∙ same-block
 
     opened-special-table : tableOf (opens device after.Special number name) ≡ l .table
     unfolding openedOf thenOf
     opened-special-table =
         open-table device after.Special number name o
-        ∙ rw (e, special-says device (asks name) (deviceActs device (asks name) .opens (own device) .leaves)) same-block
+        ∙ rw (e, special-says device (asks number name) (opensTo device (asks number name) s .leaves)) same-block
 
   -- the block that a specification opens
-  abbrev opensTo : Specification → ControlBlock
-  opensTo (Refused status) = closedBlock
-  opensTo (Names device number) = openBlock device number (c .aux1)
+  abbrev blockOf : Specification → ControlBlock
+  blockOf (Refused status) = closedBlock
+  blockOf (Names device number) = openBlock device number (c .aux1)
 
   opened-one : (device : Device) (number : ℕ) → Specified half (c .address) device number → (other : Device) (n : ℕ) → Specified half (c .address) other n
       → openBlock device number (c .aux1) ≡ openBlock other n (c .aux1)
   opened-one device number d other n e =
-      ap opensTo (sym (specifies half (c .address) .names device number .1 d) ∙ specifies half (c .address) .names other n .1 e)
+      ap blockOf (sym (specifies half (c .address) .names device number .1 d) ∙ specifies half (c .address) .names other n .1 e)
 
   -- "$84 AUX1 not offered"
   offered : (device : Device) → (NotOffered device (c .aux1) → ⊥) → offersOf device (c .aux1) ≡ true
@@ -535,60 +650,85 @@ module _ (c : Call) (l : Local) (s : Groups) where
   not-not : (device : Device) → offersOf device (c .aux1) ≡ true → NotOffered device (c .aux1) → ⊥
   not-not device t n = absurd (subst T (sym t ∙ offers-not device (c .aux1) .1 n) tt)
 
-  -- "a failed open's status stands"; else "$01 or $84"
-  accepted-row : (device : Device) (then : After) (number name : ℕ) (d : NamesDevice c l s device) → d .number ≡ number → ThenNumber then (c .command) → offersOf device (c .aux1) ≡ true
-      → (BadMode device (c .aux1) (c .aux2) → ⊥) → (OpenElsewhere device s → ⊥) → deviceActs device (asks name) .opens (own device) .says ≡ done.Success → Holds (opens device then number name)
-  accepted-row device after.Stay number name d m h t b z e =
-      leaf _ 0x01 (opened-stays device number name t e) (open-area device after.Stay number name) tt (record {
-        opens = λ q r other n f.
-            opened-stays-table device number name t e
-            ∙ ap (withBlock (l .table) (c .iocb)) (opened-one device number (subst (Specified half (c .address) device) m (d .specified)) other n f);
-        closes = λ i q. absurd (omega (arith, h, q));
-        others = λ x y. absurd (y h refl);
-      })
-  accepted-row device after.Status number name d m h t b z e =
-      leaf _ 0x01 (opened-status device number name t e) (open-area device after.Status number name) tt
-      (stays 0x01 _ (opened-status-table device number name t e) (λ i q. omega (arith, h, q)) (λ q r. omega (arith, h, q)))
-  accepted-row device after.Special number name d m h t b z e =
-      leaf _ 0x84 (opened-special device number name t e) (open-area device after.Special number name) (special-on-closed device d h (not-not device t) b z)
-      (stays 0x84 _ (opened-special-table device number name t e) (λ i q. omega (arith, h, q)) (λ q r. omega (arith, r)))
+  -- "a failed open's status stands"; else "$01 or $84", or of D "$A7 if the file is locked"
+  module _ (fg : FitGroups s) (device : Device) (d : NamesDevice c l s device) where
+    abbrev asked : Asked
+    asked = asks (d .number) (d .name)
 
-  offered-row : (device : Device) (then : After) (number name : ℕ) (d : NamesDevice c l s device) → d .number ≡ number → ThenNumber then (c .command) → offersOf device (c .aux1) ≡ true
-      → Holds (opens device then number name)
-  offered-row device then number name d m h t = by (opens-says device (asks name) s)
-    where
-      by : OpenSays device (asks name) s (deviceActs device (asks name) .opens (own device) .says) → Holds (opens device then number name)
-      by (no-such-mode b e) =
-          leaf _ 0x91 (open-refused device then number name 0x91 t e) (open-area device then number name) (open-mode device d (not-not device t) b)
-          (stays 0x91 _ (open-refused-table device then number name 0x91 t e) (opening-close (d .opening)) (λ q r. omega (arith, r)))
-      by (held-open z b e) =
-          leaf _ 0x81 (open-refused device then number name 0x81 t e) (open-area device then number name) (tape-open device d (not-not device t) z)
-          (stays 0x81 _ (open-refused-table device then number name 0x81 t e) (opening-close (d .opening)) (λ q r. omega (arith, r)))
-      by (opens-it b z e) = accepted-row device then number name d m h t b z e
+    abbrev opened-by : After → Plan
+    opened-by then = opens device then (d .number) (d .name)
 
-  device-row : (device : Device) (then : After) (number : ℕ) (d : NamesDevice c l s device) → d .number ≡ number → ThenNumber then (c .command)
-      → Holds (opens device then number (nameOf half (c .address)))
-  device-row device then number d m h =
-      by-test (offersOf device (c .aux1))
-      (offered-row device then number (nameOf half (c .address)) d m h)
-      (λ t.
-      leaf _ 0x84 (open-not device then number (nameOf half (c .address)) t) (open-area device then number (nameOf half (c .address))) (not-offered device d (offers-not device (c .aux1) .0 t))
-      (stays 0x84 _ (open-not-table device then number (nameOf half (c .address)) t) (opening-close (d .opening)) (λ q r. omega (arith, r))))
+    status-row : c .command ≡ 0x0D → (t : offersOf device (c .aux1) ≡ true) → openSays device (d .number) (d .name) ≡ done.Success → Holds (opened-by after.Status)
+    status-row h t e = by (status-says device asked s fg e)
+      where
+        by : StatusSays device asked s (thenSays device (d .number) (d .name)) → Holds (opened-by after.Status)
+        by (says-locked k q) =
+            leaf _ 0xA7 (opened-status device (d .number) (d .name) t e (done.Refused 0xA7) q) (open-area device after.Status (d .number) (d .name)) (locked-matches device d h (not-not device t) k)
+            (stays 0xA7 _ (opened-status-table device (d .number) (d .name) t e) (λ i u. omega (arith, h, u)) (λ u r. omega (arith, r)))
+        by (says-success n q) =
+            leaf _ 0x01 (opened-status device (d .number) (d .name) t e done.Success q) (open-area device after.Status (d .number) (d .name)) tt
+            (stays 0x01 _ (opened-status-table device (d .number) (d .name) t e) (λ i u. omega (arith, h, u)) (λ u r. omega (arith, h, u)))
 
-  specification-row : (then : After) (sp : Specification) → specificationOf half (c .address) ≡ sp → Opening c l s → ThenNumber then (c .command) → Holds (openPlan then sp half c)
-  specification-row then (Names device number) e o h =
-      device-row device then number (record { opening = o; number = number; specified = specifies half (c .address) .names device number .0 e }) refl h
-  specification-row then (Refused status) e o h =
-      by-eq status 0x82
-      (λ q.
-      leaf _ status (at-once status) (at-once-area status) (subst Row (sym q) (record { opening = o; malformed = specifies half (c .address) .malformed .0 (e ∙ ap Refused q) }))
-      (refuses status (opening-close o) (λ r. omega (arith, q, r))))
-      (λ n. let q = specifies half (c .address) .numbers status e n in
-      leaf _ status (at-once status) (at-once-area status) (subst Row (sym q) (specification-past o (specifies half (c .address) .past .0 (e ∙ ap Refused q))))
-      (refuses status (opening-close o) (λ r. omega (arith, q, r))))
+    accepted-row : (then : After) → ThenNumber then (c .command) → offersOf device (c .aux1) ≡ true → (BadMode device (c .aux1) (c .aux2) → ⊥) → (OpenElsewhere device s → ⊥)
+        → (BadName device (d .name) → ⊥) → (NoneMatches device (d .number) (c .aux1) (d .name) s → ⊥) → openSays device (d .number) (d .name) ≡ done.Success → Holds (opened-by then)
+    accepted-row after.Stay h t b z w m e =
+        leaf _ 0x01 (opened-stays device (d .number) (d .name) t e) (open-area device after.Stay (d .number) (d .name)) tt (record {
+          opens = λ q r other n f.
+              opened-stays-table device (d .number) (d .name) t e
+              ∙ ap (withBlock (l .table) (c .iocb)) (opened-one device (d .number) (d .specified) other n f);
+          closes = λ i q. absurd (omega (arith, h, q));
+          others = λ x y. absurd (y h refl);
+        })
+    accepted-row after.Status h t b z w m e = status-row h t e
+    accepted-row after.Special h t b z w m e =
+        leaf _ 0x84 (opened-special device (d .number) (d .name) t e) (open-area device after.Special (d .number) (d .name)) (special-on-closed device d h (not-not device t) b z w m)
+        (stays 0x84 _ (opened-special-table device (d .number) (d .name) t e) (λ i q. omega (arith, h, q)) (λ q r. omega (arith, r)))
 
-  opening-row : (then : After) → Opening c l s → ThenNumber then (c .command) → Holds (openPlan then (specificationOf half (c .address)) half c)
-  opening-row then o h = specification-row then (specificationOf half (c .address)) refl o h
+    refused-row : (then : After) (status : ℕ) → offersOf device (c .aux1) ≡ true → (status ≡ 0x01 → ⊥) → Row status → openSays device (d .number) (d .name) ≡ done.Refused status
+        → Holds (opened-by then)
+    refused-row then status t n r e =
+        leaf _ status (open-refused device then (d .number) (d .name) status t e) (open-area device then (d .number) (d .name)) r
+        (stays status _ (open-refused-table device then (d .number) (d .name) status t e) (opening-close (d .opening)) (λ q u. n u))
+
+    offered-row : (then : After) → ThenNumber then (c .command) → offersOf device (c .aux1) ≡ true → Holds (opened-by then)
+    offered-row then h t = by (opens-says device asked s)
+      where
+        by : OpenSays device asked s (openSays device (d .number) (d .name)) → Holds (opened-by then)
+        by (no-such-mode b z w m e) = refused-row then 0x91 t (λ r. omega (arith, r)) (open-mode device d (not-not device t) b) e
+        by (held-open b z w m e) = refused-row then 0x81 t (λ r. omega (arith, r)) (tape-open device d (not-not device t) z) e
+        by (badly-named b z w m e) =
+            refused-row then 0xA5 t (λ r. omega (arith, r)) (record { device = device; names = d; offered = not-not device t; bad = w }) e
+        by (not-there b z w m e) = refused-row then 0xAA t (λ r. omega (arith, r)) (none-matches device d (not-not device t) m) e
+        by (opens-it b z w m e) = accepted-row then h t b z w m e
+
+    device-row : (then : After) → ThenNumber then (c .command) → Holds (opened-by then)
+    device-row then h =
+        by-test (offersOf device (c .aux1)) (offered-row then h)
+        (λ t.
+        leaf _ 0x84 (open-not device then (d .number) (d .name) t) (open-area device then (d .number) (d .name)) (not-offered device d (offers-not device (c .aux1) .0 t))
+        (stays 0x84 _ (open-not-table device then (d .number) (d .name) t) (opening-close (d .opening)) (λ q r. omega (arith, r))))
+
+  module _ (fg : FitGroups s) (then : After) (o : Opening c l s) (h : ThenNumber then (c .command)) where
+    named-row : (device : Device) (number : ℕ) → Specified half (c .address) device number → (n : Named) → namedFor device half (c .address) ≡ n → Holds (namedPlan then device number n c)
+    named-row device number q Past e =
+        leaf _ 0xB0 (at-once 0xB0) (at-once-area 0xB0) (name-past device number o q (past-behind half (c .address) device e))
+        (refuses 0xB0 (opening-close o) (λ r. omega (arith, r)))
+    named-row device number q (Found name) e =
+        device-row fg device (record { opening = o; number = number; specified = q; name = name; named = found-name half (c .address) device name e }) then h
+
+    specification-row : (sp : Specification) → specificationOf half (c .address) ≡ sp → Holds (openPlan then sp half c)
+    specification-row (Names device number) e = named-row device number (specifies half (c .address) .names device number .0 e) (namedFor device half (c .address)) refl
+    specification-row (Refused status) e =
+        by-eq status 0x82
+        (λ q.
+        leaf _ status (at-once status) (at-once-area status) (subst Row (sym q) (record { opening = o; malformed = specifies half (c .address) .malformed .0 (e ∙ ap Refused q) }))
+        (refuses status (opening-close o) (λ r. omega (arith, q, r))))
+        (λ n. let q = specifies half (c .address) .numbers status e n in
+        leaf _ status (at-once status) (at-once-area status) (subst Row (sym q) (specification-past o (specifies half (c .address) .past .0 (e ∙ ap Refused q))))
+        (refuses status (opening-close o) (λ r. omega (arith, q, r))))
+
+    opening-row : Holds (openPlan then (specificationOf half (c .address)) half c)
+    opening-row = specification-row (specificationOf half (c .address)) refl
 
   -- A transfer's
 
@@ -611,10 +751,10 @@ module _ (c : Call) (l : Local) (s : Groups) where
     transfer-table k x e = rw e
 
     abbrev gets : Way → Part (groupOf device) → TransferEnd (Part (groupOf device))
-    gets way x = getting (actsOn c l s device) (deviceLeft device) (c .a) way (c .length) (c .address) 0 half x
+    gets way x = getting (actsOn c l s device) (deviceLeft device (l .number) (c .iocb)) (c .a) way (c .length) (c .address) 0 half x
 
     abbrev puts : Way → Part (groupOf device) → TransferEnd (Part (groupOf device))
-    puts way x = putting (actsOn c l s device) (deviceLeft device) (c .a) way (c .length) (c .address) 0 half x
+    puts way x = putting (actsOn c l s device) (deviceLeft device (l .number) (c .iocb)) (c .a) way (c .length) (c .address) 0 half x
 
     get-status : (way : Way) (x : Part (groupOf device)) → actsOn c l s device .prepares (own device) ≡ answer done.Success x → replied (plannedOf device (work.Transfer (Get way)) c) ≡ callReply (gets way x .status) (gets way x .count) (gets way x .a)
     unfolding alonePlan aloneWork aloneTransfer transferred
@@ -653,13 +793,13 @@ module _ (c : Call) (l : Local) (s : Groups) where
 
       got-ends : (t : Started c l s true device) → GetEnds (actsOn c l s device) (t .way) (c .length) (t .stands) (gets (t .way) (t .stands) .status) (gets (t .way) (t .stands) .count) (gets (t .way) (t .stands) .device)
       got-ends t =
-          get-ends (actsOn c l s device) (deviceLeft device) (c .a) (FitOwn (ownerOf device)) (device-lines device (asksOn (l .number) (c .iocb))) (t .way) (c .length) (c .address) half (t .stands)
+          get-ends (actsOn c l s device) (deviceLeft device (l .number) (c .iocb)) (c .a) (FitOwn (ownerOf device)) (device-lines device (l .number) (c .iocb)) (t .way) (c .length) (c .address) half (t .stands)
           (stands-fit (t .stands) (t .begins))
           (way-fits (t .way) (t .passed .directed .transfer .records) (c .length) (t .has-way))
 
     put-ended : (t : Started c l s false device) → PutEnds (actsOn c l s device) (t .way) (c .length) (sentBy c l s (t .way)) (t .stands) (puts (t .way) (t .stands) .status) (puts (t .way) (t .stands) .count) (puts (t .way) (t .stands) .device)
     put-ended t =
-        put-ends (actsOn c l s device) (deviceLeft device) (c .a) (t .way) (c .length) (c .address) half (t .stands)
+        put-ends (actsOn c l s device) (deviceLeft device (l .number) (c .iocb)) (c .a) (t .way) (c .length) (c .address) half (t .stands)
         (way-fits (t .way) (t .passed .directed .transfer .records) (c .length) (t .has-way))
 
   -- CLOSE, GET STATUS and SPECIAL on an open block
@@ -702,13 +842,33 @@ module _ (c : Call) (l : Local) (s : Groups) where
   unfolding alonePlan aloneWork
   close-said device = refl
 
-  status-said : (device : Device) → replied (plannedOf device work.Status c) ≡ uncounted 0x01
+  status-said : (device : Device) (d : Done) → actsOn c l s device .statuses (own device) ≡ d → replied (plannedOf device work.Status c) ≡ uncounted (doneStatus d)
   unfolding alonePlan aloneWork
-  status-said device = ap (λ (d : Done). uncounted (doneStatus d)) (status-says device (asksOn (l .number) (c .iocb)) (own device))
+  status-said device d e = ap (λ (d : Done). uncounted (doneStatus d)) e
 
   special-said : (device : Device) → replied (plannedOf device work.Special c) ≡ uncounted 0x84
   unfolding alonePlan aloneWork
   special-said device = ap (λ (d : Done). uncounted (doneStatus d)) (special-says device (asksOn (l .number) (c .iocb)) (own device))
+
+  -- GET STATUS on an open block: "$01", of D "its entry as it lies"
+  module _ (h : c .command ≡ 0x0D) where
+    asked-row : (device : Device) (status : ℕ) (d : Done) → actsOn c l s device .statuses (own device) ≡ d → doneStatus d ≡ status → Row status → Holds (plannedOf device work.Status c)
+    asked-row device status d e q r =
+        leaf _ status (status-said device d e ∙ ap uncounted q) (status-area device) r (stays status _ (status-table device) (λ i u. omega (arith, h, u)) (λ u v. omega (arith, h, u)))
+
+    entry-row : (number aux1 : ℕ) → OnBlock c l s (block.Open D number aux1) → disk.DiskStatus (placeIn c l s (s .disk)) (s .disk .images) (actsOn c l s D .statuses (s .disk))
+        → Holds (plannedOf D work.Status c)
+    entry-row number aux1 on (disk.entry-unused u e) = asked-row D 0xAA (done.Refused 0xAA) e refl (status-unused number aux1 on h u)
+    entry-row number aux1 on (disk.entry-locked u e) = asked-row D 0xA7 (done.Refused 0xA7) e refl (status-locked number aux1 on h u)
+    entry-row number aux1 on (disk.entry-free u k e) = asked-row D 0x01 done.Success e refl tt
+
+    open-status-row : (device : Device) (number aux1 : ℕ) → OnBlock c l s (block.Open device number aux1) → Holds (plannedOf device work.Status c)
+    open-status-row E number aux1 on = asked-row E 0x01 done.Success refl refl tt
+    open-status-row S number aux1 on = asked-row S 0x01 done.Success refl refl tt
+    open-status-row K number aux1 on = asked-row K 0x01 done.Success refl refl tt
+    open-status-row P number aux1 on = asked-row P 0x01 done.Success refl refl tt
+    open-status-row C number aux1 on = asked-row C 0x01 done.Success refl refl tt
+    open-status-row D number aux1 on = entry-row number aux1 on (disk-says.disk-status (placeIn c l s (s .disk)) (s .disk .images))
 
   module _ (fl : FitLocal l) (mk : MarkedAs l s) where
     -- the block is one that some OPEN makes
@@ -721,6 +881,9 @@ module _ (c : Call) (l : Local) (s : Groups) where
 
     unwritten : Directed c l s false K → ⊥
     unwritten d = absurd (subst T (sym (d .with) ∙ keys-unwritten (d .transfer .aux1) (block-offers K (d .transfer .number) (d .transfer .aux1) (d .transfer .on))) tt)
+
+    unwritten-disk : Directed c l s false D → ⊥
+    unwritten-disk d = absurd (subst T (sym (d .with) ∙ disk-unwritten (d .transfer .aux1) (block-offers D (d .transfer .number) (d .transfer .aux1) (d .transfer .on))) tt)
 
     -- the tape is open for the transfer's direction
     tape-read : Directed c l s true C → s .cassette .cassette .mark ≡ 1
@@ -746,8 +909,22 @@ module _ (c : Call) (l : Local) (s : Groups) where
     written-at-mark t k = write-marks tapeAsks (sentBy c l s (t .way)) k (t .stands) ∙ begun-mark false t ∙ tape-written (t .passed .directed)
 
     tape-row : (t : Started c l s true C) (k status : ℕ) → ReadsTo (actsOn c l s C) (t .way) (c .length) (t .stands) k → TapeRefused (readTo (actsOn c l s C) k (t .stands)) status → Row status
-    tape-row t k status q (tape-ends e a) = subst Row (sym e) (inr (record { started = t; k = k; comes = q; at = a }))
+    tape-row t k status q (tape-ends e a) = subst Row (sym e) (inr (inl (record { started = t; k = k; comes = q; at = a })))
     tape-row t k status q (tape-bad e a) = subst Row (sym e) (record { started = t; k = k; comes = q; at = a })
+
+    -- where a block's place stands on the diskettes after so many characters
+    abbrev diskAt : (t : Started c l s true D) (k : ℕ) → DiskGroup
+    diskAt t k = readTo (actsOn c l s D) k (t .stands)
+
+    disk-row : (t : Started c l s true D) (k status : ℕ) → ReadsTo (actsOn c l s D) (t .way) (c .length) (t .stands) k → readSays (actsOn c l s D) k (t .stands) ≡ got.Refused status → Row status
+    disk-row t k status q e =
+        let g = diskAt t k in
+        let p = placeIn c l s g in
+        let r = disk-says.disk-reads p (g .images) in
+        ⊎-elim
+        (λ (z : status ≡ 0x88). let u : EndOfFile c l s = inr (inr (record { started = t; k = k; comes = q; at = r .ended .0 (e ∙ ap got.Refused z) })) in subst Row (sym z) u)
+        (λ (z : status ≡ 0xA4). let u : BadChain c l s = record { started = t; k = k; comes = q; at = r .broken .0 (e ∙ ap got.Refused z) } in subst Row (sym z) u)
+        (disk-keeps.read-status p (g .images) status e)
 
     read-refused : (device : Device) (t : Started c l s true device) (k status : ℕ) → ReadsTo (actsOn c l s device) (t .way) (c .length) (t .stands) k
         → readSays (actsOn c l s device) k (t .stands) ≡ got.Refused status → Row status
@@ -760,6 +937,7 @@ module _ (c : Call) (l : Local) (s : Groups) where
         subst Row (sym (r .0)) (inl (record { started = t; k = k; comes = q; at = r .1 }))
     read-refused P t k status q e = absurd (unread (t .passed .directed))
     read-refused C t k status q e = tape-row t k status q (reads-C tapeAsks (readTo (actsOn c l s C) k (t .stands)) status (read-at-mark t k) e)
+    read-refused D t k status q e = disk-row t k status q e
 
     -- "other devices never give it"
     warned-row : (device : Device) (t : Started c l s true device) (k byte : ℕ) → ReadsTo (actsOn c l s device) (t .way) (c .length) (t .stands) k
@@ -769,8 +947,16 @@ module _ (c : Call) (l : Local) (s : Groups) where
     warned-row K t k byte q e final h = absurd (read-never-last console.K (readTo (actsOn c l s K) k (t .stands)) byte e)
     warned-row P t k byte q e final h = absurd (unread (t .passed .directed))
     warned-row C t k byte q e final h = record {
+      device = C;
       byte = byte;
       reads = record { started = t; k = k; comes = q; at = warned-C tapeAsks (readTo (actsOn c l s C) k (t .stands)) byte (read-at-mark t k) e };
+      final = final;
+      uncut = h;
+    }
+    warned-row D t k byte q e final h = record {
+      device = D;
+      byte = byte;
+      reads = record { started = t; k = k; comes = q; at = disk-says.disk-reads (placeIn c l s (diskAt t k)) (diskAt t k .images) .warned byte .0 e };
       final = final;
       uncut = h;
     }
@@ -795,6 +981,7 @@ module _ (c : Call) (l : Local) (s : Groups) where
     write-refused C t k status q e =
         let r = writes-C tapeAsks (getD (sentBy c l s (t .way)) k 0) (writtenTo (actsOn c l s C) (sentBy c l s (t .way)) k (t .stands)) status (written-at-mark t k) e in
         subst Row (sym (r .0)) (inr (record { started = t; k = k; comes = q; at = r .1 }))
+    write-refused D t k status q e = absurd (unwritten-disk (t .passed .directed))
 
     put-row : (device : Device) (t : Started c l s false device) {status count : ℕ} {y : Part (groupOf device)} → PutEnds (actsOn c l s device) (t .way) (c .length) (sentBy c l s (t .way)) (t .stands) status count y → Row status
     put-row device t (put-refused k status q e) = write-refused device t k status q e
@@ -806,6 +993,7 @@ module _ (c : Call) (l : Local) (s : Groups) where
     no-mode reading K p e = absurd e
     no-mode reading P p e = absurd e
     no-mode reading C p e = absurd e
+    no-mode reading D p e = absurd e
 
     abbrev started : (reading : Bool) (device : Device) (p : Passed c l s reading device) (x : Part (groupOf device)) → actsOn c l s device .prepares (own device) ≡ answer done.Success x → Started c l s reading device
     started reading device p x e = record {
@@ -874,7 +1062,7 @@ module _ (c : Call) (l : Local) (s : Groups) where
       block-row : (k : Command) (b : BlockState) → OnBlock c l s b → HasNumber k (c .command) → Holds (blockPlan k b c half)
       unfolding blockPlan
       block-row command.Bad b on h = leaf _ 0x84 (at-once 0x84) (at-once-area 0x84) (bad-command (on .iocb) h) (refuses 0x84 (λ i q. bad-number (c .command) h q) (λ r. omega (arith, r)))
-      block-row command.Open block.Closed on h = opening-row after.Stay (record { on = on; command = inl h }) h
+      block-row command.Open block.Closed on h = opening-row fg after.Stay (record { on = on; command = inl h }) h
       block-row command.Open (block.Open device number aux1) on h =
           leaf _ 0x81 (at-once 0x81) (at-once-area 0x81) (block-open (record { device = device; number = number; aux1 = aux1; on = on; command = h }))
           (refuses 0x81 (λ i q. omega (arith, h, q)) (λ r. omega (arith, r)))
@@ -890,10 +1078,9 @@ module _ (c : Call) (l : Local) (s : Groups) where
             closes = λ i q. close-table device;
             others = λ x y. absurd (x (on .iocb) h);
           })
-      block-row command.Status block.Closed on h = opening-row after.Status (record { on = on; command = inr (omega arith) }) h
-      block-row command.Status (block.Open device number aux1) on h =
-          leaf _ 0x01 (status-said device) (status-area device) tt (stays 0x01 _ (status-table device) (λ i q. omega (arith, h, q)) (λ q r. omega (arith, h, q)))
-      block-row command.Special block.Closed on h = opening-row after.Special (record { on = on; command = inr (omega arith) }) h
+      block-row command.Status block.Closed on h = opening-row fg after.Status (record { on = on; command = inr (omega arith) }) h
+      block-row command.Status (block.Open device number aux1) on h = open-status-row h device number aux1 on
+      block-row command.Special block.Closed on h = opening-row fg after.Special (record { on = on; command = inr (omega arith) }) h
       block-row command.Special (block.Open device number aux1) on h =
           leaf _ 0x84 (special-said device) (special-area device) (special-on-open device number aux1 on h)
           (stays 0x84 _ (special-table device) (λ i q. omega (arith, h, q)) (λ q r. omega (arith, r)))
@@ -974,16 +1161,17 @@ module _ (c : Call) (l : Local) (s : Groups) where
   pub record Opens : Type 0 where
     pub then : After
     pub plan : planned ≡ openPlan then (specificationOf half (c .address)) half c
+    pub status : c .command ≡ 0x0D → then ≡ after.Status
     pub special : 0x0D < c .command → then ≡ after.Special
 
   opening-plan : Opening c l s → Opens
   unfolding blockPlan
   opening-plan o =
       ⊎-elim
-      (λ e. record { then = after.Stay; plan = reached command.Open block.Closed (o .on) e; special = λ h. absurd (omega (arith, e, h)) })
+      (λ e. record { then = after.Stay; plan = reached command.Open block.Closed (o .on) e; status = λ h. absurd (omega (arith, e, h)); special = λ h. absurd (omega (arith, e, h)) })
       (λ g. by-eq (c .command) 0x0D
-      (λ e. record { then = after.Status; plan = reached command.Status block.Closed (o .on) e; special = λ h. absurd (omega (arith, e, h)) })
-      (λ n. record { then = after.Special; plan = reached command.Special block.Closed (o .on) (above (c .command) (omega (arith, g)) (λ e. omega (arith, e, g)) n); special = λ h. refl }))
+      (λ e. record { then = after.Status; plan = reached command.Status block.Closed (o .on) e; status = λ h. refl; special = λ h. absurd (omega (arith, e, h)) })
+      (λ n. record { then = after.Special; plan = reached command.Special block.Closed (o .on) (above (c .command) (omega (arith, g)) (λ e. omega (arith, e, g)) n); status = λ h. absurd (n h); special = λ h. refl }))
       (o .command)
 
   specification-plan : (o : Opening c l s) (status : ℕ) → specificationOf half (c .address) ≡ Refused status → Refuses status
@@ -999,69 +1187,128 @@ module _ (c : Call) (l : Local) (s : Groups) where
   plan-b0 (buffer-past reading device d h g) =
       directed reading device d ∙ rw (ne-eqb (c .length) 0 (omega (arith, h)), lt-leb (c .address + c .length) areaLength g)
   plan-b0 (specification-past o p) = specification-plan o 0xB0 (specifies half (c .address) .past .1 p)
+  plan-b0 (name-past device number o q b) =
+      let p = opening-plan o in
+      p .plan ∙ ap (λ (sp : Specification). openPlan (p .then) sp half c) (specifies half (c .address) .names device number .1 q)
+      ∙ ap (λ (n : Named). namedPlan (p .then) device number n c) (behind-past half (c .address) device b)
 
   -- an opening's plan, past the $82 check
-  device-plan : (device : Device) (d : NamesDevice c l s device) → planned ≡ opens device (opening-plan (d .opening) .then) (d .number) (nameOf half (c .address))
+  device-plan : (device : Device) (d : NamesDevice c l s device) → planned ≡ opens device (opening-plan (d .opening) .then) (d .number) (d .name)
   device-plan device d =
       let p = opening-plan (d .opening) in
       p .plan ∙ ap (λ (sp : Specification). openPlan (p .then) sp half c) (specifies half (c .address) .names device (d .number) .1 (d .specified))
+      ∙ ap (λ (n : Named). namedPlan (p .then) device (d .number) n c) (name-found half (c .address) device (d .name) (d .named))
 
-  opened : (device : Device) → (BadMode device (c .aux1) (c .aux2) → ⊥) → (OpenElsewhere device s → ⊥) → (name : ℕ) → deviceActs device (asks name) .opens (own device) .says ≡ done.Success
-  opened device b z name = by (opens-says device (asks name) s)
-    where
-      by : OpenSays device (asks name) s (deviceActs device (asks name) .opens (own device) .says) → deviceActs device (asks name) .opens (own device) .says ≡ done.Success
-      by (no-such-mode q e) = absurd (b q)
-      by (held-open q n e) = absurd (z q)
-      by (opens-it q n e) = e
+  module _ (device : Device) (d : NamesDevice c l s device) where
+    abbrev answersOpen : Done
+    answersOpen = openSays device (d .number) (d .name)
 
-  -- no device has both: S has modes, C is open once
-  one-of-both : (device : Device) → BadMode device (c .aux1) (c .aux2) → OpenElsewhere device s → ⊥
-  one-of-both E b z = b
-  one-of-both S b z = z
-  one-of-both K b z = b
-  one-of-both P b z = b
-  one-of-both C b z = b
+    abbrev OpensAs : Type 0
+    OpensAs = OpenSays device (asks (d .number) (d .name)) s answersOpen
 
-  unopened : (device : Device) → BadMode device (c .aux1) (c .aux2) → (name : ℕ) → deviceActs device (asks name) .opens (own device) .says ≡ done.Refused 0x91
-  unopened device b name = by (opens-says device (asks name) s)
-    where
-      by : OpenSays device (asks name) s (deviceActs device (asks name) .opens (own device) .says) → deviceActs device (asks name) .opens (own device) .says ≡ done.Refused 0x91
-      by (no-such-mode q e) = e
-      by (held-open q n e) = absurd (n b)
-      by (opens-it q n e) = absurd (q b)
+    opens-as : OpensAs
+    opens-as = opens-says device (asks (d .number) (d .name)) s
 
-  held-elsewhere : (device : Device) → OpenElsewhere device s → (name : ℕ) → deviceActs device (asks name) .opens (own device) .says ≡ done.Refused 0x81
-  held-elsewhere device z name = by (opens-says device (asks name) s)
-    where
-      by : OpenSays device (asks name) s (deviceActs device (asks name) .opens (own device) .says) → deviceActs device (asks name) .opens (own device) .says ≡ done.Refused 0x81
-      by (no-such-mode q e) = absurd (one-of-both device q z)
-      by (held-open q n e) = e
-      by (opens-it q n e) = absurd (n z)
+    opened : (BadMode device (c .aux1) (c .aux2) → ⊥) → (OpenElsewhere device s → ⊥) → (BadName device (d .name) → ⊥) → (NoneMatches device (d .number) (c .aux1) (d .name) s → ⊥)
+        → answersOpen ≡ done.Success
+    opened b z w m = by opens-as
+      where
+        by : OpensAs → answersOpen ≡ done.Success
+        by (no-such-mode q n v u e) = absurd (b q)
+        by (held-open q n v u e) = absurd (z n)
+        by (badly-named q n v u e) = absurd (w v)
+        by (not-there q n v u e) = absurd (m u)
+        by (opens-it q n v u e) = e
+
+    unopened : BadMode device (c .aux1) (c .aux2) → answersOpen ≡ done.Refused 0x91
+    unopened b = by opens-as
+      where
+        by : OpensAs → answersOpen ≡ done.Refused 0x91
+        by (no-such-mode q n v u e) = e
+        by (held-open q n v u e) = absurd (q b)
+        by (badly-named q n v u e) = absurd (q b)
+        by (not-there q n v u e) = absurd (q b)
+        by (opens-it q n v u e) = absurd (q b)
+
+    held-elsewhere : OpenElsewhere device s → answersOpen ≡ done.Refused 0x81
+    held-elsewhere z = by opens-as
+      where
+        by : OpensAs → answersOpen ≡ done.Refused 0x81
+        by (no-such-mode q n v u e) = absurd (n z)
+        by (held-open q n v u e) = e
+        by (badly-named q n v u e) = absurd (n z)
+        by (not-there q n v u e) = absurd (n z)
+        by (opens-it q n v u e) = absurd (n z)
+
+    unnamed : BadName device (d .name) → answersOpen ≡ done.Refused 0xA5
+    unnamed w = by opens-as
+      where
+        by : OpensAs → answersOpen ≡ done.Refused 0xA5
+        by (no-such-mode q n v u e) = absurd (v w)
+        by (held-open q n v u e) = absurd (v w)
+        by (badly-named q n v u e) = e
+        by (not-there q n v u e) = absurd (v w)
+        by (opens-it q n v u e) = absurd (v w)
+
+    unmatched : NoneMatches device (d .number) (c .aux1) (d .name) s → answersOpen ≡ done.Refused 0xAA
+    unmatched m = by opens-as
+      where
+        by : OpensAs → answersOpen ≡ done.Refused 0xAA
+        by (no-such-mode q n v u e) = absurd (u m)
+        by (held-open q n v u e) = absurd (u m)
+        by (badly-named q n v u e) = absurd (u m)
+        by (not-there q n v u e) = e
+        by (opens-it q n v u e) = absurd (u m)
+
+    -- refused by the device
+    open-ends : (status : ℕ) → (NotOffered device (c .aux1) → ⊥) → answersOpen ≡ done.Refused status → ends status
+    open-ends status n e = ap statusOf (device-plan device d) ∙ ap replyStatus (open-refused device _ (d .number) (d .name) status (offered device n) e)
+
+    -- GET STATUS
+    locked-then : FitGroups s → LockedMatches device (d .number) (c .aux1) (d .name) s → thenSays device (d .number) (d .name) ≡ done.Refused 0xA7
+    locked-then fg k = by (status-says device (asks (d .number) (d .name)) s fg (locked-opens device (asks (d .number) (d .name)) s k))
+      where
+        by : StatusSays device (asks (d .number) (d .name)) s (thenSays device (d .number) (d .name)) → thenSays device (d .number) (d .name) ≡ done.Refused 0xA7
+        by (says-locked m e) = e
+        by (says-success n e) = absurd (n k)
 
   line-81 : AlreadyOpen c l s → ends 0x81
   line-81 (block-open h) = refused-by 0x81 (plan-81 h)
-  line-81 (tape-open device d n z) =
-      let name = nameOf half (c .address) in
-      ap statusOf (device-plan device d) ∙ ap replyStatus (open-refused device _ (d .number) name 0x81 (offered device n) (held-elsewhere device z name))
+  line-81 (tape-open device d n z) = open-ends device d 0x81 n (held-elsewhere device d z)
 
   line-84 : Illegal c l s → ends 0x84
   unfolding blockPlan
   line-84 (bad-command i h) = refused-by 0x84 (plan-84 i h)
-  line-84 (not-offered device d n) = ap statusOf (device-plan device d) ∙ ap replyStatus (open-not device _ (d .number) _ (offers-not device (c .aux1) .1 n))
+  line-84 (not-offered device d n) = ap statusOf (device-plan device d) ∙ ap replyStatus (open-not device _ (d .number) (d .name) (offers-not device (c .aux1) .1 n))
   line-84 (special-on-open device number aux1 on h) = ap statusOf (reached command.Special (block.Open device number aux1) on h) ∙ ap replyStatus (special-said device)
-  line-84 (special-on-closed device d h n b z) =
-      let name = nameOf half (c .address) in
-      ap statusOf (device-plan device d ∙ ap (λ (then : After). opens device then (d .number) name) (opening-plan (d .opening) .special h))
-      ∙ ap replyStatus (opened-special device (d .number) name (offered device n) (opened device b z name))
+  line-84 (special-on-closed device d h n b z w m) =
+      ap statusOf (device-plan device d ∙ ap (λ (then : After). opens device then (d .number) (d .name)) (opening-plan (d .opening) .special h))
+      ∙ ap replyStatus (opened-special device (d .number) (d .name) (offered device n) (opened device d b z w m))
+
+  line-a5 : BadlyNamed c l s → ends 0xA5
+  line-a5 b = open-ends (b .device) (b .names) 0xA5 (b .offered) (unnamed (b .device) (b .names) (b .bad))
+
+  -- GET STATUS on an open block of D
+  entry-ends : (number aux1 status : ℕ) → OnBlock c l s (block.Open D number aux1) → c .command ≡ 0x0D → actsOn c l s D .statuses (s .disk) ≡ done.Refused status → ends status
+  unfolding blockPlan
+  entry-ends number aux1 status on h e = ap statusOf (reached command.Status (block.Open D number aux1) on h) ∙ ap replyStatus (status-said D (done.Refused status) e)
+
+  line-aa : NoFile c l s → ends 0xAA
+  line-aa (none-matches device d n m) = open-ends device d 0xAA n (unmatched device d m)
+  line-aa (status-unused number aux1 on h u) = entry-ends number aux1 0xAA on h (disk-says.unused-says (placeIn c l s (s .disk)) (s .disk .images) u)
+
+  line-a7 : FitGroups s → FileLocked c l s → ends 0xA7
+  line-a7 fg (locked-matches device d h n k) =
+      ap statusOf (device-plan device d ∙ ap (λ (then : After). opens device then (d .number) (d .name)) (opening-plan (d .opening) .status h))
+      ∙ ap replyStatus (opened-status device (d .number) (d .name) (offered device n) (locked-opens device (asks (d .number) (d .name)) s k) (done.Refused 0xA7) (locked-then device d fg k))
+  line-a7 fg (status-locked number aux1 on h u) = entry-ends number aux1 0xA7 on h (disk-says.locked-says (placeIn c l s (s .disk)) (s .disk .images) u)
 
   prepare-91 : s .console .console .mode ≡ 0 → actsOn c l s S .prepares (own S) .says ≡ done.Refused 0x91
   unfolding prepareOf prepareS
   prepare-91 e = rw e
 
   line-91 : NoMode c l s → ends 0x91
-  line-91 (open-mode device d n b) =
-      let name = nameOf half (c .address) in
-      ap statusOf (device-plan device d) ∙ ap replyStatus (open-refused device _ (d .number) name 0x91 (offered device n) (unopened device b name))
+  line-91 (open-mode device d n b) = open-ends device d 0x91 n (unopened device d b)
   line-91 (transfer-mode reading p e) = ap statusOf (passes reading S p) ∙ ap replyStatus (transfer-refused S _ 0x91 (prepare-91 e))
 
   -- the group that it needs
@@ -1118,23 +1365,40 @@ module _ (c : Call) (l : Local) (s : Groups) where
     line-88 fl mk (inl r) =
         get-line K (r .started)
         (get-refused (r .k) 0x88 (r .comes) (keys-reads (asksOn (l .number) (c .iocb)) (readTo (actsOn c l s K) (r .k) (r .started .stands)) (r .at)) (omega arith))
-    line-88 fl mk (inr r) =
+    line-88 fl mk (inr (inl r)) =
         get-line C (r .started)
         (get-refused (r .k) 0x88 (r .comes) (reads-end (asksOn (l .number) (c .iocb)) (readTo (actsOn c l s C) (r .k) (r .started .stands)) (read-at-mark fl mk (r .started) (r .k)) (r .at)) (omega arith))
+    line-88 fl mk (inr (inr r)) =
+        let g = readTo (actsOn c l s D) (r .k) (r .started .stands) in
+        get-line D (r .started) (get-refused (r .k) 0x88 (r .comes) (disk-says.ends-says (placeIn c l s g) (g .images) (r .at)) (omega arith))
+
+    line-a4 : BadChain c l s → ends 0xA4
+    line-a4 r =
+        let g = readTo (actsOn c l s D) (r .k) (r .started .stands) in
+        get-line D (r .started) (get-refused (r .k) 0xA4 (r .comes) (disk-says.bad-says (placeIn c l s g) (g .images) (r .at)) (omega arith))
 
     line-8f : FitLocal l → MarkedAs l s → BadRecord c l s → ends 0x8F
     line-8f fl mk r =
         get-line C (r .started)
         (get-refused (r .k) 0x8F (r .comes) (reads-bad (asksOn (l .number) (c .iocb)) (readTo (actsOn c l s C) (r .k) (r .started .stands)) (read-at-mark fl mk (r .started) (r .k)) (r .at)) (omega arith))
 
+    -- a character with $03
+    last-read : FitLocal l → MarkedAs l s → (device : Device) (byte : ℕ) (r : ReadsAt c l s device (Warns c l s device byte))
+        → readSays (actsOn c l s device) (r .k) (r .started .stands) ≡ got.Last byte
+    last-read fl mk E byte r = absurd (r .at)
+    last-read fl mk S byte r = absurd (r .at)
+    last-read fl mk K byte r = absurd (r .at)
+    last-read fl mk P byte r = absurd (r .at)
+    last-read fl mk C byte r =
+        tape-warns (asksOn (l .number) (c .iocb)) (readTo (actsOn c l s C) (r .k) (r .started .stands)) byte (read-at-mark fl mk (r .started) (r .k)) (r .at)
+    last-read fl mk D byte r =
+        let g = readTo (actsOn c l s D) (r .k) (r .started .stands) in
+        disk-says.before-says (placeIn c l s g) (g .images) byte (r .at)
+
     line-03 : FitLocal l → MarkedAs l s → EndWarned c l s → ends 0x03
     line-03 fl mk r =
-        let t = r .reads .started in
-        let k = r .reads .k in
-        get-line C t
-        (get-whole k 0x03 (r .byte) (r .reads .comes)
-        (warns (tape-warns (asksOn (l .number) (c .iocb)) (readTo (actsOn c l s C) k (t .stands)) (r .byte) (read-at-mark fl mk t k) (r .reads .at)) refl)
-        (r .final) (r .uncut))
+        get-line (r .device) (r .reads .started)
+        (get-whole (r .reads .k) 0x03 (r .byte) (r .reads .comes) (warns (last-read fl mk (r .device) (r .byte) (r .reads)) refl) (r .final) (r .uncut))
 
     line-89 : RecordCut c l s → ends 0x89
     line-89 r = get-line (r .device) (r .reads .started) (get-cut (r .reads .k) (r .status) (r .reads .comes) (r .reads .at) (r .way) (r .stored))
@@ -1163,7 +1427,7 @@ module _ (c : Call) (l : Local) (s : Groups) where
     to : (status : ℕ) → ends status → Row status
     to status e = subst Row e (row-holds fl mk fg .line)
 
-    one-of : (status : ℕ) → Row status → oneOf (0x01 ∷ 0x03 ∷ 0x86 ∷ 0x84 ∷ 0x81 ∷ 0x85 ∷ 0x83 ∷ 0x87 ∷ 0xB0 ∷ 0x82 ∷ 0x91 ∷ 0x88 ∷ 0x89 ∷ 0x8D ∷ 0x8F ∷ 0x90 ∷ []) status ≡ true
+    one-of : (status : ℕ) → Row status → oneOf (0x01 ∷ 0x03 ∷ 0x86 ∷ 0x84 ∷ 0x81 ∷ 0x85 ∷ 0x83 ∷ 0x87 ∷ 0xB0 ∷ 0x82 ∷ 0x91 ∷ 0x88 ∷ 0x89 ∷ 0x8D ∷ 0x8F ∷ 0x90 ∷ 0xA4 ∷ 0xA5 ∷ 0xA7 ∷ 0xAA ∷ []) status ≡ true
     one-of status r =
         row-any (eqb status 0x01) _ _ _
         (row-any (eqb status 0x03) _ _ _
@@ -1181,7 +1445,11 @@ module _ (c : Call) (l : Local) (s : Groups) where
         (row-any (eqb status 0x8D) _ _ _
         (row-any (eqb status 0x8F) _ _ _
         (row-any (eqb status 0x90) _ _ _
-        (λ n. absurd n)))))))))))))))) r
+        (row-any (eqb status 0xA4) _ _ _
+        (row-any (eqb status 0xA5) _ _ _
+        (row-any (eqb status 0xA7) _ _ _
+        (row-any (eqb status 0xAA) _ _ _
+        (λ n. absurd n)))))))))))))))))))) r
 
     pub call-statuses : CallStatuses c l s (replyStatus (aloneOf (call c) l s .reply))
     unfolding aloneOf planOf planIn
@@ -1201,6 +1469,10 @@ module _ (c : Call) (l : Local) (s : Groups) where
       cursor-past = (to 0x8D, line-8d fg);
       bad-tape = (to 0x8F, line-8f fg fl mk);
       full = (to 0x90, line-90 fl mk);
+      bad-chain = (to 0xA4, line-a4 fg);
+      bad-name = (to 0xA5, line-a5);
+      file-locked = (to 0xA7, line-a7 fg);
+      no-file = (to 0xAA, line-aa);
       numbers = one-of (statusOf planned) (row-holds fl mk fg .line);
     }
 
@@ -1223,9 +1495,9 @@ module _ (c : Call) (l : Local) (s : Groups) where
               (got-ends device fg t);
           stores =
               subst (Stores (actsOn c l s device) x (c .address) (r .count) half) (sym (ap areaOf p ∙ get-area device (t .way) x (t .begins)))
-              (get-stores (actsOn c l s device) (deviceLeft device) (c .a) (t .way) n (c .address) half x fits buffer);
-          a-read = λ z status byte e. get-read (actsOn c l s device) (deviceLeft device) (c .a) (t .way) n (c .address) half x status byte fits z e;
-          a-kept = λ none. get-kept (actsOn c l s device) (deviceLeft device) (c .a) (t .way) n (c .address) half x fits none;
+              (get-stores (actsOn c l s device) (deviceLeft device (l .number) (c .iocb)) (c .a) (t .way) n (c .address) half x fits buffer);
+          a-read = λ z status byte e. get-read (actsOn c l s device) (deviceLeft device (l .number) (c .iocb)) (c .a) (t .way) n (c .address) half x status byte fits z e;
+          a-kept = λ none. get-kept (actsOn c l s device) (deviceLeft device (l .number) (c .iocb)) (c .a) (t .way) n (c .address) half x fits none;
         }
 
     put-reply : (device : Device) (t : Started c l s false device) → PutReply c l s device t (replied planned) (areaOf planned) (leftOf device planned)
@@ -1238,13 +1510,13 @@ module _ (c : Call) (l : Local) (s : Groups) where
           count = r .count;
           says =
               ap replied p ∙ put-status device (t .way) x (t .begins)
-              ∙ ap (callReply (r .status) (r .count)) (put-kept (actsOn c l s device) (deviceLeft device) (c .a) (t .way) (c .length) (c .address) half x);
+              ∙ ap (callReply (r .status) (r .count)) (put-kept (actsOn c l s device) (deviceLeft device (l .number) (c .iocb)) (c .a) (t .way) (c .length) (c .address) half x);
           ends =
               subst (PutEnds (actsOn c l s device) (t .way) (c .length) (sentBy c l s (t .way)) x (r .status) (r .count)) (sym (ap (leftOf device) p ∙ put-left device (t .way) x (t .begins)))
               (put-ended device t);
           leaves =
               ap areaOf p ∙ put-area-left device (t .way) x (t .begins)
-              ∙ put-area (actsOn c l s device) (deviceLeft device) (c .a) (t .way) (c .length) (c .address) half x;
+              ∙ put-area (actsOn c l s device) (deviceLeft device (l .number) (c .iocb)) (c .a) (t .way) (c .length) (c .address) half x;
         }
 
     other-reply : Counted (replied planned) (areaOf planned) → ((reading : Bool) (device : Device) → Started c l s reading device → ⊥) → Uncounted c l s (replied planned) (areaOf planned)

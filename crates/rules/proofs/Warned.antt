@@ -1,5 +1,5 @@
 -- A GET from C that ends below $80 ends with its last character's status, and leaves the tape where that character left it: so the read
--- made next tells. And of the devices only C warns.
+-- made next tells. And of the devices only C and D warn.
 -- Assumes nothing.
 use mathlib.Core.Path.{_≡_, _∙_, refl, sym, ap, subst}
 use mathlib.Core.Logic.{_⊎_, _↔_, inl, inr}
@@ -41,7 +41,7 @@ use Rattle.alone.proofs.Ending.{on-got}
 use Rattle.alone.proofs.Lines.{tape-read-high}
 use Rattle.rules.specs.Statuses.{replyStatus, Transfer, Directed}
 use Rattle.rules.specs.ReadBack.{calledAlone}
-use Rattle.rules.specs.Warned.{ReadsNext, statusAlone, statusNext, RequestWarns, OnlyTapeWarns}
+use Rattle.rules.specs.Warned.{ReadsNext, statusAlone, statusNext, RequestWarns, OthersNeverWarn}
 use Rattle.rules.proofs.ReadBack.{get-is, past-is, ended}
 
 -- what a status below $80 tells of the tape behind it
@@ -132,7 +132,7 @@ module _ (c : Call) (l : Local) (s : Groups) (d : Directed c l s true device.C) 
   has-way = way-has way (t .records) (c .length) .0 refl
 
   abbrev got-by : TransferEnd CassetteGroup
-  got-by = getting (cassetteActs (asksOn (l .number) (c .iocb))) (deviceLeft device.C) (c .a) way (c .length) (c .address) 0 (l .area) (s .cassette)
+  got-by = getting (cassetteActs (asksOn (l .number) (c .iocb))) (deviceLeft device.C (l .number) (c .iocb)) (c .a) way (c .length) (c .address) 0 (l .area) (s .cassette)
 
   abbrev low : c .iocb ≤ 7
   low = t .on .iocb
@@ -160,11 +160,11 @@ module _ (c : Call) (l : Local) (s : Groups) (d : Directed c l s true device.C) 
         let m = calledAlone c l s .local in
         let u = calledAlone c l s .groups in
         ap (λ (y : Alone). replyStatus (y .reply)) (get-is next m u next-low (o .records) One (t .number) (t .aux1) (o .command) after-block (d .with) (inl (o .one)) (o .one))
-        ∙ handler-says (asksOn (m .number) (next .iocb)) (deviceLeft device.C) (next .a) (m .area) (u .cassette)
+        ∙ handler-says (asksOn (m .number) (next .iocb)) (deviceLeft device.C (m .number) (next .iocb)) (next .a) (m .area) (u .cassette)
         ∙ ap (λ (y : Alone). gotStatus (readOf (y .groups .cassette) .says)) e
 
     tells-next : statusAlone c l s < 0x80 → NextTells c next l s
-    tells-next k = by (getting-tells (asksOn (l .number) (c .iocb)) (deviceLeft device.C) (c .a) way (t .records) (c .length) (c .address) (l .area) (s .cassette) has-way (subst (λ (n : ℕ). n < 0x80) same k))
+    tells-next k = by (getting-tells (asksOn (l .number) (c .iocb)) (deviceLeft device.C (l .number) (c .iocb)) (c .a) way (t .records) (c .length) (c .address) (l .area) (s .cassette) has-way (subst (λ (n : ℕ). n < 0x80) same k))
       where
         same : statusAlone c l s ≡ got-by .status
         same = ap (λ (y : Alone). replyStatus (y .reply)) e
@@ -190,9 +190,10 @@ request-warns c next l s o = record {
     only n (inl p) = absurd (n (p .1))
     only n (inr p) = p .0
 
-pub only-tape-warns : OnlyTapeWarns
-only-tape-warns device.E n asked x = console-keeps.read-never-last console.E x
-only-tape-warns device.S n asked x = console-keeps.read-never-last console.S x
-only-tape-warns device.K n asked x = console-keeps.read-never-last console.K x
-only-tape-warns device.P n asked x = printer-keeps.read-never-last asked x
-only-tape-warns device.C n asked x = absurd (n refl)
+pub others-never-warn : OthersNeverWarn
+others-never-warn device.E c d asked x = console-keeps.read-never-last console.E x
+others-never-warn device.S c d asked x = console-keeps.read-never-last console.S x
+others-never-warn device.K c d asked x = console-keeps.read-never-last console.K x
+others-never-warn device.P c d asked x = printer-keeps.read-never-last asked x
+others-never-warn device.C c d asked x = absurd (c refl)
+others-never-warn device.D c d asked x = absurd (d refl)

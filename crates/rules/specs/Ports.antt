@@ -29,6 +29,7 @@ pub record OnlyOwn (port : ℕ) (s : Stick) (l : Lent) (o : Outcome) : Type 0 wh
   pub screen : o .lent .screen ≡ l .screen
   pub paper : o .lent .paper ≡ l .paper
   pub tape : o .lent .tape ≡ l .tape
+  pub images : o .lent .images ≡ l .images
 
 -- only the port's own phase is another
 pub record OnlyPhase (port : ℕ) (s : Stick) (l : Lent) (o : Outcome) : Type 0 where
@@ -45,4 +46,5 @@ pub record OnlyKey (code : ℕ) (s : Stick) (l : Lent) (o : Outcome) : Type 0 wh
   pub printer : o .stick .devices .printer ≡ s .devices .printer
   pub cassette : o .stick .devices .cassette ≡ s .devices .cassette
   pub pending : o .stick .devices .pending ≡ s .devices .pending
+  pub places : o .stick .devices .places ≡ s .devices .places
   pub buffers : o .lent ≡ l

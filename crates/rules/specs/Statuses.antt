@@ -1,13 +1,19 @@
 -- Document 01, Statuses: the table and the order of the checks, a line each: a request alone ends with a status exactly when its line
--- says so. From the message, the port's blocks and area, and the device alone. With document 02's Asks 1 and 7: the lines of the tape.
+-- says so. From the message, the port's blocks and area, and the device alone. With document 02's Asks 1, 7 and 12: the lines of the
+-- tape and of the diskettes.
 -- Assumes nothing.
 use mathlib.Core.Path.{_≡_}
 use mathlib.Core.Logic.{_↔_, _⊎_}
 use mathlib.Core.Bool.{Bool, true, false}
 use mathlib.Core.List.{List, [], _∷_}
 use Prim.Native.Nat.{ℕ, _+_, _*_, _<_, _≤_}
-use lib.ListN.{length, getD}
+use lib.ListN.{length, getD, drop}
 use Rattle.base.specs.Choice.{bit}
+use Rattle.names.specs.declared.Name.{Name}
+use Rattle.names.specs.declared.Named.{Named}
+use Rattle.names.specs.declared.Named.the-variants.{Past, Found}
+use Rattle.names.specs.Names.{noName}
+use Rattle.names.specs.Read.{NameReads}
 use Rattle.handler.specs.declared.Done.the-variants as done
 use Rattle.handler.specs.Answer.{answer, Gives}
 use Rattle.handler.specs.Acts.{Acts, asksOn}
@@ -19,10 +25,12 @@ use Rattle.records.specs.Records.{recordAt}
 use Rattle.records.specs.Kinds.{HoldsCharacters, Wrong}
 use Rattle.cassette.specs.Cassette.{CassetteGroup, markOf}
 use Rattle.cassette.specs.Reads.{Stands, TapeEnds, EndsBehind}
+use Rattle.disk.specs.Disk.{DiskGroup, placeAt}
+use Rattle.disk.specs.Says.{NoMatch, MatchLocked, EntryUnused, EntryLocked, DiskEnds, DiskBad, DiskBefore}
 use Rattle.blocks.specs.declared.BlockState.{BlockState}
 use Rattle.blocks.specs.declared.BlockState.the-variants as block
 use Rattle.blocks.specs.declared.Device.{Device}
-use Rattle.blocks.specs.declared.Device.the-variants.{E, S, K, P, C}
+use Rattle.blocks.specs.declared.Device.the-variants.{E, S, K, P, C, D}
 use Rattle.blocks.specs.declared.Way.{Way}
 use Rattle.blocks.specs.declared.Way.the-variants.{Record}
 use Rattle.blocks.specs.declared.Table.{Table}
@@ -38,6 +46,7 @@ use Rattle.transfer.specs.Transfer.{eol}
 use Rattle.devices.specs.declared.Group.{Group}
 use Rattle.devices.specs.declared.Group.the-variants as group
 use Rattle.devices.specs.Groups.{Groups, Part, getGroup, groupOf, deviceActs}
+use Rattle.plan.specs.Plan.{nameOf}
 use Rattle.alone.specs.Alone.{Local}
 use Rattle.alone.specs.Loading.{LoadLeaves}
 use Rattle.alone.specs.Ending.{IsLast, readTo, ReadsTo, GetEnds, Stores, mostSent, writtenTo, WritesTo, PutEnds}
@@ -77,6 +86,7 @@ BadMode S aux1 aux2 = (bit 16 aux1 ≡ true) ⊎ ((aux2 < 3) ⊎ (8 < aux2))
 BadMode K aux1 aux2 = ⊥
 BadMode P aux1 aux2 = ⊥
 BadMode C aux1 aux2 = ⊥
+BadMode D aux1 aux2 = ⊥
 
 -- "while any block of either port has C open, another open is $81": a start sees its own port and its group alone, so the group itself
 -- says that one has. It does so by its mark, 0 where none has
@@ -98,6 +108,52 @@ OpenElsewhere S s = ⊥
 OpenElsewhere K s = ⊥
 OpenElsewhere P s = ⊥
 OpenElsewhere C s = TapeOpen s
+OpenElsewhere D s = ⊥
+
+-- "01's "nothing after the colon" is not for D.": what is read behind it, of a device that has names
+abbrev pub BehindColon : Device → (area : List ℕ) → (address : ℕ) → Named → Type 0
+BehindColon E area address named = ⊥
+BehindColon S area address named = ⊥
+BehindColon K area address named = ⊥
+BehindColon P area address named = ⊥
+BehindColon C area address named = ⊥
+BehindColon D area address named = NameReads (drop (nameOf area address) area) named
+
+-- the name that it is opened by; other devices have none
+abbrev pub HasName : Device → (area : List ℕ) → (address : ℕ) → Name → Type 0
+HasName E area address name = name ≡ noName
+HasName S area address name = name ≡ noName
+HasName K area address name = name ≡ noName
+HasName P area address name = name ≡ noName
+HasName C area address name = name ≡ noName
+HasName D area address name = BehindColon D area address (Found name)
+
+-- "(a byte outside A-Z, 0-9, these, one dot and the end, EOL or blank: $A5, with the group held ..)"
+abbrev pub BadName : Device → Name → Type 0
+BadName E name = ⊥
+BadName S name = ⊥
+BadName K name = ⊥
+BadName P name = ⊥
+BadName C name = ⊥
+BadName D name = name .good ≡ false
+
+-- "The first match opens, none is $AA"
+abbrev pub NoneMatches : Device → (number aux1 : ℕ) → Name → Groups → Type 0
+NoneMatches E number aux1 name s = ⊥
+NoneMatches S number aux1 name s = ⊥
+NoneMatches K number aux1 name s = ⊥
+NoneMatches P number aux1 name s = ⊥
+NoneMatches C number aux1 name s = ⊥
+NoneMatches D number aux1 name s = NoMatch (s .disk .images) number aux1 name
+
+-- "then $A7 if the file is locked"
+abbrev pub LockedMatches : Device → (number aux1 : ℕ) → Name → Groups → Type 0
+LockedMatches E number aux1 name s = ⊥
+LockedMatches S number aux1 name s = ⊥
+LockedMatches K number aux1 name s = ⊥
+LockedMatches P number aux1 name s = ⊥
+LockedMatches C number aux1 name s = ⊥
+LockedMatches D number aux1 name s = MatchLocked (s .disk .images) number aux1 name
 
 -- the group's mark and the port's blocks are at one: none of "the group's mark and the blocks at odds"
 pub record MarkedAs (l : Local) (s : Groups) : Type 0 where
@@ -167,17 +223,21 @@ module _ (c : Call) (l : Local) (s : Groups) where
   pub data PastArea : Type 0 where
     buffer-past : (reading : Bool) (device : Device) → Directed reading device → 0 < c .length → areaLength < c .address + c .length → PastArea
     specification-past : Opening → NeededPast (l .area) (c .address) → PastArea
+    -- "$82 and $B0 from left to right ($B0 if the area ends before the name)"
+    name-past : (device : Device) (number : ℕ) → Opening → Specified (l .area) (c .address) device number → BehindColon device (l .area) (c .address) Past → PastArea
 
   -- "$82 unknown device, or malformed specification"
   pub record NoDevice : Type 0 where
     pub opening : Opening
     pub malformed : Malformed (l .area) (c .address)
 
-  -- an opening past the $82 check
+  -- an opening past the $82 check, and past $B0
   pub record NamesDevice (device : Device) : Type 0 where
     pub opening : Opening
     pub number : ℕ
     pub specified : Specified (l .area) (c .address) device number
+    pub name : Name
+    pub named : HasName device (l .area) (c .address) name
 
   -- "$81 OPEN on an open block"; "while any block of either port has C open, another open is $81, checked after AUX1 with the group held"
   pub data AlreadyOpen : Type 0 where
@@ -190,8 +250,30 @@ module _ (c : Call) (l : Local) (s : Groups) where
     not-offered : (device : Device) → NamesDevice device → NotOffered device (c .aux1) → Illegal
     special-on-open : (device : Device) (number aux1 : ℕ) → OnBlock (block.Open device number aux1) → 0x0D < c .command → Illegal
     -- "a failed open's status stands"
-    special-on-closed : (device : Device) → NamesDevice device → 0x0D < c .command → (NotOffered device (c .aux1) → ⊥) → (BadMode device (c .aux1) (c .aux2) → ⊥)
-        → (OpenElsewhere device s → ⊥) → Illegal
+    special-on-closed : (device : Device) (d : NamesDevice device) → 0x0D < c .command → (NotOffered device (c .aux1) → ⊥) → (BadMode device (c .aux1) (c .aux2) → ⊥)
+        → (OpenElsewhere device s → ⊥) → (BadName device (d .name) → ⊥) → (NoneMatches device (d .number) (c .aux1) (d .name) s → ⊥) → Illegal
+
+  -- "$A5": "with the group held $84, $A5, $AA"
+  pub record BadlyNamed : Type 0 where
+    pub device : Device
+    pub names : NamesDevice device
+    pub offered : NotOffered device (c .aux1) → ⊥
+    pub bad : BadName device (names .name)
+
+  -- the place of the call's block on the diskettes
+  abbrev pub placeIn : DiskGroup → List ℕ
+  placeIn g = placeAt (l .number) (c .iocb) (g .places)
+
+  -- "$AA": "OPEN's refusals stand"; GET STATUS "On an open file block its entry as it lies: not in use $AA"
+  pub data NoFile : Type 0 where
+    none-matches : (device : Device) (d : NamesDevice device) → (NotOffered device (c .aux1) → ⊥) → NoneMatches device (d .number) (c .aux1) (d .name) s → NoFile
+    status-unused : (number aux1 : ℕ) → OnBlock (block.Open D number aux1) → c .command ≡ 0x0D → EntryUnused (placeIn (s .disk)) (s .disk .images) → NoFile
+
+  -- "$A7": "GET STATUS on a closed block: OPEN's refusals stand; then $A7 if the file is locked"; on an open file block "locked $A7"
+  pub data FileLocked : Type 0 where
+    locked-matches : (device : Device) (d : NamesDevice device) → c .command ≡ 0x0D → (NotOffered device (c .aux1) → ⊥) → LockedMatches device (d .number) (c .aux1) (d .name) s
+        → FileLocked
+    status-locked : (number aux1 : ℕ) → OnBlock (block.Open D number aux1) → c .command ≡ 0x0D → EntryLocked (placeIn (s .disk)) (s .disk .images) → FileLocked
 
   -- a transfer past the $B0 check
   pub record Passed (reading : Bool) (device : Device) : Type 0 where
@@ -232,19 +314,36 @@ module _ (c : Call) (l : Local) (s : Groups) where
     pub comes : WritesTo (actsOn device) (started .way) (c .length) (sentBy (started .way)) (started .stands) k
     pub at : At (getD (sentBy (started .way)) k 0) (writtenTo (actsOn device) (sentBy (started .way)) k (started .stands))
 
-  -- "$88 .. end of file from K": "Empty, above $BF, or no character: $88": key translation gives no character; and from C
+  -- "$88 .. end of file from K": "Empty, above $BF, or no character: $88": key translation gives no character; and from C and D: "$03 and
+  -- $88 come as from tape."
   abbrev pub EndOfFile : Type 0
-  EndOfFile = ReadsAt K (λ (g : ConsoleGroup). let k = g .console .keyboard in 256 ≤ translateOf (k .code) (k .lock) (k .inverse)) ⊎ ReadsAt C AtEnd
+  EndOfFile =
+      ReadsAt K (λ (g : ConsoleGroup). let k = g .console .keyboard in 256 ≤ translateOf (k .code) (k .lock) (k .inverse))
+      ⊎ (ReadsAt C AtEnd ⊎ ReadsAt D (λ (g : DiskGroup). DiskEnds (placeIn g) (g .images)))
 
   -- "$8F" a bad record
   abbrev pub BadRecord : Type 0
   BadRecord = ReadsAt C AtBad
 
-  -- "A request that no refusal ends, its last character with $03, ends with $03, except that a cut record still ends with $89."; "other
-  -- devices never give it"
+  -- "A link above 719, a wrong file number, a data count above 125 or a 720th sector in one chain gives $A4 to the read that meets it."
+  abbrev pub BadChain : Type 0
+  BadChain = ReadsAt D (λ (g : DiskGroup). DiskBad (placeIn g) (g .images))
+
+  -- "A tape read after which the next would give $88": this is its character; of D "$03 and $88 come as from tape."; "other devices never
+  -- give it"
+  abbrev pub Warns : (device : Device) → (byte : ℕ) → Part (groupOf device) → Type 0
+  Warns E byte g = ⊥
+  Warns S byte g = ⊥
+  Warns K byte g = ⊥
+  Warns P byte g = ⊥
+  Warns C byte g = BeforeEnd g byte
+  Warns D byte g = DiskBefore (placeIn g) (g .images) byte
+
+  -- "A request that no refusal ends, its last character with $03, ends with $03, except that a cut record still ends with $89."
   pub record EndWarned : Type 0 where
+    pub device : Device
     pub byte : ℕ
-    pub reads : ReadsAt C (λ (g : CassetteGroup). BeforeEnd g byte)
+    pub reads : ReadsAt device (Warns device byte)
     pub final : IsLast (reads .started .way) (c .length) (reads .k) byte
     pub uncut : reads .started .way ≡ Record → reads .k < c .length
 
@@ -285,8 +384,12 @@ module _ (c : Call) (l : Local) (s : Groups) where
     pub cursor-past : (status ≡ 0x8D) ↔ CursorPast
     pub bad-tape : (status ≡ 0x8F) ↔ BadRecord
     pub full : (status ≡ 0x90) ↔ Full
+    pub bad-chain : (status ≡ 0xA4) ↔ BadChain
+    pub bad-name : (status ≡ 0xA5) ↔ BadlyNamed
+    pub file-locked : (status ≡ 0xA7) ↔ FileLocked
+    pub no-file : (status ≡ 0xAA) ↔ NoFile
     -- "$01 success", where none of these; no other status
-    pub numbers : oneOf (0x01 ∷ 0x03 ∷ 0x86 ∷ 0x84 ∷ 0x81 ∷ 0x85 ∷ 0x83 ∷ 0x87 ∷ 0xB0 ∷ 0x82 ∷ 0x91 ∷ 0x88 ∷ 0x89 ∷ 0x8D ∷ 0x8F ∷ 0x90 ∷ []) status ≡ true
+    pub numbers : oneOf (0x01 ∷ 0x03 ∷ 0x86 ∷ 0x84 ∷ 0x81 ∷ 0x85 ∷ 0x83 ∷ 0x87 ∷ 0xB0 ∷ 0x82 ∷ 0x91 ∷ 0x88 ∷ 0x89 ∷ 0x8D ∷ 0x8F ∷ 0x90 ∷ 0xA4 ∷ 0xA5 ∷ 0xA7 ∷ 0xAA ∷ []) status ≡ true
 
   -- "Reply $90, length 4: status, count (2), A.": of a GET, with the area and the device that it leaves
   pub record GetReply (device : Device) (t : Started true device) (reply area : List ℕ) (left : Part (groupOf device)) : Type 0 where

@@ -8,7 +8,7 @@ use Prim.Native.Nat.{ℕ, _<_}
 use Rattle.handler.specs.declared.Asked.{Asked}
 use Rattle.handler.specs.Answer.{NeverLast}
 use Rattle.blocks.specs.declared.Device.{Device}
-use Rattle.blocks.specs.declared.Device.the-variants.{C}
+use Rattle.blocks.specs.declared.Device.the-variants.{C, D}
 use Rattle.commands.specs.declared.Command.the-variants as command
 use Rattle.commands.specs.Numbers.{HasNumber}
 use Rattle.wire.specs.declared.Call.{Call}
@@ -37,6 +37,6 @@ pub record RequestWarns (c next : Call) (l : Local) (s : Groups) : Type 0 where
   pub exactly : statusAlone c l s < 0x80 → (statusAlone c l s ≡ 0x03) ↔ (statusNext c next l s ≡ 0x88)
   pub success : statusAlone c l s < 0x80 → (statusNext c next l s ≡ 0x88 → ⊥) → statusAlone c l s ≡ 0x01
 
--- "other devices never give it"
-abbrev pub OnlyTapeWarns : Type 0
-OnlyTapeWarns = (device : Device) → (device ≡ C → ⊥) → (asked : Asked) (x : Part (groupOf device)) → NeverLast (deviceActs device asked .reads x .says)
+-- "other devices never give it"; and Ask 12: "$03 and $88 come as from tape."
+abbrev pub OthersNeverWarn : Type 0
+OthersNeverWarn = (device : Device) → (device ≡ C → ⊥) → (device ≡ D → ⊥) → (asked : Asked) (x : Part (groupOf device)) → NeverLast (deviceActs device asked .reads x .says)

@@ -55,9 +55,10 @@ pub fn advance_at(
     screen: &mut [u8],
     paper: &mut [u8],
     tape: &mut [u8],
+    images: &[u8],
 )
-    requires { ⌜ Going port run (buffers (now state) (now area) (now screen) (now paper) (now tape)) ⌝ }
-    ensures { λ _. ⌜ buffers (now (state .exit)) (now (area .exit)) (now (screen .exit)) (now (paper .exit)) (now (tape .exit)) ≡ advanceOn port run (buffers (now (state .entry)) (now (area .entry)) (now (screen .entry)) (now (paper .entry)) (now (tape .entry))) ⌝ }
+    requires { ⌜ Going port run (buffers (now state) (now area) (now screen) (now paper) (now tape) (now images)) ⌝ }
+    ensures { λ _. ⌜ buffers (now (state .exit)) (now (area .exit)) (now (screen .exit)) (now (paper .exit)) (now (tape .exit)) (now (images .entry)) ≡ advanceOn port run (buffers (now (state .entry)) (now (area .entry)) (now (screen .entry)) (now (paper .entry)) (now (tape .entry)) (now (images .entry))) ⌝ }
 {
     let from = AREA * (port as usize);
     let end = from + AREA;
@@ -69,6 +70,7 @@ pub fn advance_at(
         screen,
         paper,
         tape,
+        images,
     );
     carry_at(port, run, carried, state);
 }

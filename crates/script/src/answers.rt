@@ -63,7 +63,8 @@ pub fn next(
     screen: &mut [u8],
     paper: &mut [u8],
     tape: &mut [u8],
+    images: &mut [u8],
 ) -> Op {
-    let done = writes::done(op, area, screen, paper, tape);
+    let done = writes::done(op, area, screen, paper, tape, images);
     answered(done, number, state, area, screen, paper, tape)
 }

@@ -1,4 +1,5 @@
-// A dump: area, screen and paper whole, then what the state holds but for the cassette, from its bytes.
+// A dump: area, screen and paper whole, then what the state holds but for the cassette and the blocks' places on diskettes, from its
+// bytes.
 use crate::say;
 use layout::places;
 
@@ -15,7 +16,8 @@ fn letter(device: u8) -> u8 {
         2 => b'S',
         3 => b'K',
         4 => b'P',
-        _ => b'C',
+        5 => b'C',
+        _ => b'D',
     }
 }
 

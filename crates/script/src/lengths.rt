@@ -7,6 +7,7 @@ pub struct LentLengths {
     pub paper: u32,
     pub state: u32,
     pub tape: u32,
+    pub images: u32,
 }
 
 impl LentLengths {
@@ -18,10 +19,11 @@ impl LentLengths {
             paper: u32::MAX,
             state: u32::MAX,
             tape: u32::MAX,
+            images: u32::MAX,
         }
     }
 
-    // Another length for buffer 0, area; 1, screen; 2, paper; 3, state; 4, tape.
+    // Another length for buffer 0, area; 1, screen; 2, paper; 3, state; 4, tape; 6, images.
     fn lend(self, which: u8, length: u32) -> LentLengths {
         let mut next = self;
         match which {
@@ -39,6 +41,9 @@ impl LentLengths {
             }
             4 => {
                 next.tape = length;
+            }
+            6 => {
+                next.images = length;
             }
             _ => {}
         }

@@ -6,6 +6,8 @@ const CASSETTE: usize = places::DEVICES + places::CASSETTE;
 
 const PENDING: usize = places::DEVICES + places::PENDING;
 
+const DISK: usize = places::DEVICES + places::DISK;
+
 // The cassette's mark, while the tape is written.
 const WRITING: u8 = 2;
 
@@ -35,7 +37,7 @@ fn write_cassette(state: &[u8]) {
         say::byte(state[CASSETTE + 1]);
         say::byte(0);
         say::byte(place);
-        write_pending(&state[PENDING..places::ROOMS], pending(mark, place));
+        write_pending(&state[PENDING..DISK], pending(mark, place));
     }
 }
 

@@ -17,7 +17,7 @@ fn put(some: &[u8], at: u32, into: &mut [u8]) {
     copy(some, &mut into[from..]);
 }
 
-// Into buffer 0, area; 1, screen; 2, paper; 4, tape; no other has bytes that a script writes.
+// Into buffer 0, area; 1, screen; 2, paper; 4, tape; 6, images; no other has bytes that a script writes.
 fn put_into(
     which: u8,
     at: u32,
@@ -26,12 +26,14 @@ fn put_into(
     screen: &mut [u8],
     paper: &mut [u8],
     tape: &mut [u8],
+    images: &mut [u8],
 ) {
     match which {
         0 => put(some, at, area),
         1 => put(some, at, screen),
         2 => put(some, at, paper),
         4 => put(some, at, tape),
+        6 => put(some, at, images),
         _ => {}
     }
 }
@@ -45,12 +47,13 @@ fn write(
     screen: &mut [u8],
     paper: &mut [u8],
     tape: &mut [u8],
+    images: &mut [u8],
 ) -> bool {
     let got = io::read_full(STDIN_FILENO, some);
     if got < some.len() {
         return false;
     }
-    put_into(which, at, some, area, screen, paper, tape);
+    put_into(which, at, some, area, screen, paper, tape, images);
     true
 }
 
@@ -64,9 +67,19 @@ fn write_some(
     screen: &mut [u8],
     paper: &mut [u8],
     tape: &mut [u8],
+    images: &mut [u8],
 ) -> bool {
     let n = io::count(count as isize, space);
-    write(which, at, &mut space[..n], area, screen, paper, tape)
+    write(
+        which,
+        at,
+        &mut space[..n],
+        area,
+        screen,
+        paper,
+        tape,
+        images,
+    )
 }
 
 fn write_all(
@@ -77,20 +90,28 @@ fn write_all(
     screen: &mut [u8],
     paper: &mut [u8],
     tape: &mut [u8],
+    images: &mut [u8],
 ) -> bool {
     let mut room = io::large_buffer();
     let space: &mut [u8] = &mut room;
-    write_some(which, at, count, space, area, screen, paper, tape)
+    write_some(which, at, count, space, area, screen, paper, tape, images)
 }
 
 // What an op writes into a buffer; the op, or the end of the script where the input ends inside it.
-pub fn done(op: Op, area: &mut [u8], screen: &mut [u8], paper: &mut [u8], tape: &mut [u8]) -> Op {
+pub fn done(
+    op: Op,
+    area: &mut [u8],
+    screen: &mut [u8],
+    paper: &mut [u8],
+    tape: &mut [u8],
+    images: &mut [u8],
+) -> Op {
     match op {
         Op::Start => op,
         Op::End => op,
         Op::Lend(which, length) => op,
         Op::Write(which, at, count) => {
-            if write_all(which, at, count, area, screen, paper, tape) {
+            if write_all(which, at, count, area, screen, paper, tape, images) {
                 return op;
             }
             Op::End

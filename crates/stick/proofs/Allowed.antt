@@ -1,4 +1,4 @@
--- A take and a press have 0 for a byte and leave area, screen, paper and tape, so that the promises of `take_at`, which is lent these to read
+-- A take and a press have 0 for a byte and leave area, screen, paper, tape and images, so that the promises of `take_at`, which is lent these to read
 -- only, and of `press_at` allow an outcome.
 -- Assumes nothing.
 use mathlib.Core.Path.{_≡_, refl, sym, ap}
@@ -16,7 +16,7 @@ use Rattle.calls.specs.Bytes.{Buffers, buffers, Left, left, leftOf, stickBy, le
 
 -- an outcome that has no byte and leaves all but the state
 abbrev pub Leaves : Buffers → Left → Type 0
-Leaves b o = left (o .answer) 0 (buffers (o .buffers .state) (b .area) (b .screen) (b .paper) (b .tape)) ≡ o
+Leaves b o = left (o .answer) 0 (buffers (o .buffers .state) (b .area) (b .screen) (b .paper) (b .tape) (b .images)) ≡ o
 
 no-byte : (phase : Phase) (port : Port) (room : List ℕ) (byte : ℕ) → 0 ≡ takePort phase port room byte .byte
 unfolding takePort

@@ -19,9 +19,10 @@ pub fn take_at(
     screen: &[u8],
     paper: &[u8],
     tape: &[u8],
+    images: &[u8],
 ) -> u8
-    requires { ⌜ Called port (buffers (now state) (now area) (now screen) (now paper) (now tape)) ⌝ }
-    ensures { λ r. ⌜ left r 0 (buffers (now (state .exit)) (now (area .entry)) (now (screen .entry)) (now (paper .entry)) (now (tape .entry))) ≡ leftOf (takeAt port (stickBy (buffers (now (state .entry)) (now (area .entry)) (now (screen .entry)) (now (paper .entry)) (now (tape .entry)))) (lentBy (buffers (now (state .entry)) (now (area .entry)) (now (screen .entry)) (now (paper .entry)) (now (tape .entry)))) byte) ⌝ }
+    requires { ⌜ Called port (buffers (now state) (now area) (now screen) (now paper) (now tape) (now images)) ⌝ }
+    ensures { λ r. ⌜ left r 0 (buffers (now (state .exit)) (now (area .entry)) (now (screen .entry)) (now (paper .entry)) (now (tape .entry)) (now (images .entry))) ≡ leftOf (takeAt port (stickBy (buffers (now (state .entry)) (now (area .entry)) (now (screen .entry)) (now (paper .entry)) (now (tape .entry)) (now (images .entry)))) (lentBy (buffers (now (state .entry)) (now (area .entry)) (now (screen .entry)) (now (paper .entry)) (now (tape .entry)) (now (images .entry)))) byte) ⌝ }
 {
     let room = ROOMS + ROOM * (port as usize);
     let past = room + ROOM;
@@ -54,9 +55,10 @@ pub fn give_at(
     screen: &[u8],
     paper: &[u8],
     tape: &[u8],
+    images: &[u8],
 ) -> u16
-    requires { ⌜ Called port (buffers (now state) (now area) (now screen) (now paper) (now tape)) ⌝ }
-    ensures { λ r. ⌜ returned r (buffers (now (state .exit)) (now (area .entry)) (now (screen .entry)) (now (paper .entry)) (now (tape .entry))) ≡ bothOf (leftOf (giveAt port (stickBy (buffers (now (state .entry)) (now (area .entry)) (now (screen .entry)) (now (paper .entry)) (now (tape .entry)))) (lentBy (buffers (now (state .entry)) (now (area .entry)) (now (screen .entry)) (now (paper .entry)) (now (tape .entry)))))) ⌝ }
+    requires { ⌜ Called port (buffers (now state) (now area) (now screen) (now paper) (now tape) (now images)) ⌝ }
+    ensures { λ r. ⌜ returned r (buffers (now (state .exit)) (now (area .entry)) (now (screen .entry)) (now (paper .entry)) (now (tape .entry)) (now (images .entry))) ≡ bothOf (leftOf (giveAt port (stickBy (buffers (now (state .entry)) (now (area .entry)) (now (screen .entry)) (now (paper .entry)) (now (tape .entry)) (now (images .entry)))) (lentBy (buffers (now (state .entry)) (now (area .entry)) (now (screen .entry)) (now (paper .entry)) (now (tape .entry)) (now (images .entry)))))) ⌝ }
 {
     let room = ROOMS + ROOM * (port as usize);
     let past = room + ROOM;
@@ -100,9 +102,10 @@ pub fn press_at(
     screen: &[u8],
     paper: &[u8],
     tape: &[u8],
+    images: &[u8],
 ) -> u8
-    requires { ⌜ Called 0 (buffers (now state) (now area) (now screen) (now paper) (now tape)) ⌝ }
-    ensures { λ r. ⌜ left r 0 (buffers (now (state .exit)) (now (area .entry)) (now (screen .entry)) (now (paper .entry)) (now (tape .entry))) ≡ leftOf (pressAt (stickBy (buffers (now (state .entry)) (now (area .entry)) (now (screen .entry)) (now (paper .entry)) (now (tape .entry)))) (lentBy (buffers (now (state .entry)) (now (area .entry)) (now (screen .entry)) (now (paper .entry)) (now (tape .entry)))) code) ⌝ }
+    requires { ⌜ Called 0 (buffers (now state) (now area) (now screen) (now paper) (now tape) (now images)) ⌝ }
+    ensures { λ r. ⌜ left r 0 (buffers (now (state .exit)) (now (area .entry)) (now (screen .entry)) (now (paper .entry)) (now (tape .entry)) (now (images .entry))) ≡ leftOf (pressAt (stickBy (buffers (now (state .entry)) (now (area .entry)) (now (screen .entry)) (now (paper .entry)) (now (tape .entry)) (now (images .entry)))) (lentBy (buffers (now (state .entry)) (now (area .entry)) (now (screen .entry)) (now (paper .entry)) (now (tape .entry)) (now (images .entry)))) code) ⌝ }
 {
     if holds_console(0, state) {
         return 6;

@@ -16,11 +16,18 @@ fn fresh_ports(state: &mut [u8])
     ports::set_port(1, Port::fresh(), state);
 }
 
-pub fn fresh_all(state: &mut [u8], area: &mut [u8], screen: &mut [u8], paper: &[u8], tape: &[u8])
-    requires { ⌜ Lengths (buffers (now state) (now area) (now screen) (now paper) (now tape)) ⌝ }
-    ensures { λ _. ⌜ buffers (now (state .exit)) (now (area .exit)) (now (screen .exit)) (now (paper .entry)) (now (tape .entry)) ≡ freshOn (buffers (now (state .entry)) (now (area .entry)) (now (screen .entry)) (now (paper .entry)) (now (tape .entry))) ⌝ }
+pub fn fresh_all(
+    state: &mut [u8],
+    area: &mut [u8],
+    screen: &mut [u8],
+    paper: &[u8],
+    tape: &[u8],
+    images: &[u8],
+)
+    requires { ⌜ Lengths (buffers (now state) (now area) (now screen) (now paper) (now tape) (now images)) ⌝ }
+    ensures { λ _. ⌜ buffers (now (state .exit)) (now (area .exit)) (now (screen .exit)) (now (paper .entry)) (now (tape .entry)) (now (images .entry)) ≡ freshOn (buffers (now (state .entry)) (now (area .entry)) (now (screen .entry)) (now (paper .entry)) (now (tape .entry)) (now (images .entry))) ⌝ }
 {
     fresh_ports(state);
     cells::part::paint(area, 0);
-    devices::fresh::fresh(&mut state[DEVICES..ROOMS], screen, paper, tape);
+    devices::fresh::fresh(&mut state[DEVICES..ROOMS], screen, paper, tape, images);
 }

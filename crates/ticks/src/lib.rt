@@ -50,9 +50,10 @@ fn errand_at(
     screen: &[u8],
     paper: &[u8],
     tape: &[u8],
+    images: &[u8],
 )
     requires { ⌜ Halves port (now state) (now area) ⌝ }
-    ensures { λ _. ⌜ buffers (now (state .exit)) (now (area .exit)) (now (screen .entry)) (now (paper .entry)) (now (tape .entry)) ≡ errandOn port errand (buffers (now (state .entry)) (now (area .entry)) (now (screen .entry)) (now (paper .entry)) (now (tape .entry))) ⌝ }
+    ensures { λ _. ⌜ buffers (now (state .exit)) (now (area .exit)) (now (screen .entry)) (now (paper .entry)) (now (tape .entry)) (now (images .entry)) ≡ errandOn port errand (buffers (now (state .entry)) (now (area .entry)) (now (screen .entry)) (now (paper .entry)) (now (tape .entry)) (now (images .entry))) ⌝ }
 {
     let from = AREA * (port as usize);
     let end = from + AREA;
@@ -71,9 +72,10 @@ fn job_at(
     screen: &mut [u8],
     paper: &mut [u8],
     tape: &mut [u8],
+    images: &[u8],
 )
-    requires { ⌜ Called port (buffers (now state) (now area) (now screen) (now paper) (now tape)) ⌝ }
-    ensures { λ _. ⌜ buffers (now (state .exit)) (now (area .entry)) (now (screen .exit)) (now (paper .exit)) (now (tape .exit)) ≡ jobOn port job (buffers (now (state .entry)) (now (area .entry)) (now (screen .entry)) (now (paper .entry)) (now (tape .entry))) ⌝ }
+    requires { ⌜ Called port (buffers (now state) (now area) (now screen) (now paper) (now tape) (now images)) ⌝ }
+    ensures { λ _. ⌜ buffers (now (state .exit)) (now (area .entry)) (now (screen .exit)) (now (paper .exit)) (now (tape .exit)) (now (images .entry)) ≡ jobOn port job (buffers (now (state .entry)) (now (area .entry)) (now (screen .entry)) (now (paper .entry)) (now (tape .entry)) (now (images .entry))) ⌝ }
 {
     let call = job.call;
     let iocb = call.iocb;
@@ -86,6 +88,7 @@ fn job_at(
         screen,
         paper,
         tape,
+        images,
     );
     let after = begin.block;
     let next = begin.next;
@@ -101,13 +104,14 @@ fn start_at(
     screen: &mut [u8],
     paper: &mut [u8],
     tape: &mut [u8],
+    images: &[u8],
 )
-    requires { ⌜ Called port (buffers (now state) (now area) (now screen) (now paper) (now tape)) ⌝ }
-    ensures { λ _. ⌜ buffers (now (state .exit)) (now (area .exit)) (now (screen .exit)) (now (paper .exit)) (now (tape .exit)) ≡ startOn port plan (buffers (now (state .entry)) (now (area .entry)) (now (screen .entry)) (now (paper .entry)) (now (tape .entry))) ⌝ }
+    requires { ⌜ Called port (buffers (now state) (now area) (now screen) (now paper) (now tape) (now images)) ⌝ }
+    ensures { λ _. ⌜ buffers (now (state .exit)) (now (area .exit)) (now (screen .exit)) (now (paper .exit)) (now (tape .exit)) (now (images .entry)) ≡ startOn port plan (buffers (now (state .entry)) (now (area .entry)) (now (screen .entry)) (now (paper .entry)) (now (tape .entry)) (now (images .entry))) ⌝ }
 {
     match plan {
-        Plan::Free(errand) => errand_at(port, errand, state, area, screen, paper, tape),
-        Plan::On(job) => job_at(port, job, state, area, screen, paper, tape),
+        Plan::Free(errand) => errand_at(port, errand, state, area, screen, paper, tape, images),
+        Plan::On(job) => job_at(port, job, state, area, screen, paper, tape, images),
     }
 }
 
@@ -120,15 +124,16 @@ fn ready_at(
     screen: &mut [u8],
     paper: &mut [u8],
     tape: &mut [u8],
+    images: &[u8],
 ) -> u8
-    requires { ⌜ Called port (buffers (now state) (now area) (now screen) (now paper) (now tape)) ⌝ }
-    ensures { λ r. ⌜ left r 0 (buffers (now (state .exit)) (now (area .exit)) (now (screen .exit)) (now (paper .exit)) (now (tape .exit))) ≡ readyOn port header (buffers (now (state .entry)) (now (area .entry)) (now (screen .entry)) (now (paper .entry)) (now (tape .entry))) ⌝ }
+    requires { ⌜ Called port (buffers (now state) (now area) (now screen) (now paper) (now tape) (now images)) ⌝ }
+    ensures { λ r. ⌜ left r 0 (buffers (now (state .exit)) (now (area .exit)) (now (screen .exit)) (now (paper .exit)) (now (tape .exit)) (now (images .entry))) ≡ readyOn port header (buffers (now (state .entry)) (now (area .entry)) (now (screen .entry)) (now (paper .entry)) (now (tape .entry)) (now (images .entry))) ⌝ }
 {
     let plan = plan_at(port, header, state, area);
     if waits(port, plan, state) {
         return 8;
     }
-    start_at(port, plan, state, area, screen, paper, tape);
+    start_at(port, plan, state, area, screen, paper, tape, images);
     0
 }
 
@@ -139,19 +144,20 @@ pub fn tick_at(
     screen: &mut [u8],
     paper: &mut [u8],
     tape: &mut [u8],
+    images: &[u8],
 ) -> u8
-    requires { ⌜ Called port (buffers (now state) (now area) (now screen) (now paper) (now tape)) ⌝ }
-    ensures { λ r. ⌜ left r 0 (buffers (now (state .exit)) (now (area .exit)) (now (screen .exit)) (now (paper .exit)) (now (tape .exit))) ≡ leftOf (tickAt port (stickBy (buffers (now (state .entry)) (now (area .entry)) (now (screen .entry)) (now (paper .entry)) (now (tape .entry)))) (lentBy (buffers (now (state .entry)) (now (area .entry)) (now (screen .entry)) (now (paper .entry)) (now (tape .entry))))) ⌝ }
+    requires { ⌜ Called port (buffers (now state) (now area) (now screen) (now paper) (now tape) (now images)) ⌝ }
+    ensures { λ r. ⌜ left r 0 (buffers (now (state .exit)) (now (area .exit)) (now (screen .exit)) (now (paper .exit)) (now (tape .exit)) (now (images .entry))) ≡ leftOf (tickAt port (stickBy (buffers (now (state .entry)) (now (area .entry)) (now (screen .entry)) (now (paper .entry)) (now (tape .entry)) (now (images .entry)))) (lentBy (buffers (now (state .entry)) (now (area .entry)) (now (screen .entry)) (now (paper .entry)) (now (tape .entry)) (now (images .entry))))) ⌝ }
 {
     let number = ports::phase_number(port, state);
     if number == 2 {
         let run = ports::run_of(port, state);
-        running::advance_at(port, run, state, area, screen, paper, tape);
+        running::advance_at(port, run, state, area, screen, paper, tape, images);
         return 0;
     }
     if number == 1 {
         let header = ports::header_of(port, state);
-        return ready_at(port, header, state, area, screen, paper, tape);
+        return ready_at(port, header, state, area, screen, paper, tape, images);
     }
     7
 }

@@ -35,6 +35,7 @@ fn device_number(device: Device) -> u8
         Device::K => 3,
         Device::P => 4,
         Device::C => 5,
+        Device::D => 6,
     }
 }
 

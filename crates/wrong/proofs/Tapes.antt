@@ -23,7 +23,7 @@ use Rattle.devices.specs.declared.Group.the-variants as groups
 use Rattle.devices.specs.Groups.{Groups, putGroup, clash}
 use Rattle.devices.specs.Marks.{marksIn}
 use Rattle.commands.specs.Commands.{commandOf, wayOf}
-use Rattle.plan.specs.Plan.{nameOf, areaPlan, transferPlan, blockPlan, callPlan, planIn, planOf}
+use Rattle.plan.specs.Plan.{nameOf, namedFor, areaPlan, transferPlan, blockPlan, callPlan, planIn, planOf}
 use Rattle.moves.specs.Move as moves
 use Rattle.cio.specs.Start.{loadedOf, loadStatus, thenOf, openedOf, openingOf, transferOf, workOf}
 use Rattle.alone.specs.Transfer.{getOne, putOne, getCharacters, dropLine, getRecord, putCharacters, putRecord, getting, putting, transferred}
@@ -46,6 +46,7 @@ lockOf groups.Nobody = groups.Nobody
 lockOf groups.Console = groups.Console
 lockOf groups.Printer = groups.Printer
 lockOf groups.Cassette = groups.Console
+lockOf groups.Disk = groups.Disk
 
 abbrev locks : Group → Phase real → Bool
 locks g (gathering x) = false
@@ -73,7 +74,7 @@ abbrev tapeAndConsole : List (CoreCall real)
 tapeAndConsole = loads port-1 4 (0x45 ∷ 0x3A ∷ []) ++ says port-1 (calls 0 0x03 0 0 0x0D) ++ opens port-0 0x43 0 8 ++ does port-0 writesTwo 1 0
 
 pub tape-lock-wrong : WaitingRule real (with-call real tapeLock) → ⊥
-unfolding after feed fedOf goodField senseOf badStatus messageOf errandStep planStep moveBy keys.keys keys-to.entryOf keys-to.keyAnswer keys-to.translateOf keyboard.obeyed keyboard.struckBy keyboard.getOf printer.putOf openE openOf prepareE prepareOf readE readK readOf writeE writeOf deviceOf numberOf namedOf specificationOf offersOf bytesAt fetchStatus fetchReply moves.getOf moves.putOf moves.goOf moves.advanceOf commandOf wayOf areaPlan transferPlan blockPlan nameOf callPlan planIn planOf loadedOf loadStatus thenOf openedOf openingOf transferOf workOf onwardOf recordOf gotCharacter gotOf sentByte sentRecord sentNext sentOf loaded cassette.tapeOpened cassette.writeOf cassette.takenOf cassette.closeOf
+unfolding after feed fedOf goodField senseOf badStatus messageOf errandStep planStep moveBy keys.keys keys-to.entryOf keys-to.keyAnswer keys-to.translateOf keyboard.obeyed keyboard.struckBy keyboard.getOf printer.putOf openE openOf prepareE prepareOf readE readK readOf writeE writeOf deviceOf numberOf namedOf specificationOf offersOf bytesAt fetchStatus fetchReply moves.getOf moves.putOf moves.goOf moves.advanceOf commandOf wayOf areaPlan transferPlan blockPlan nameOf namedFor callPlan planIn planOf loadedOf loadStatus thenOf openedOf openingOf transferOf workOf onwardOf recordOf gotCharacter gotOf sentByte sentRecord sentNext sentOf loaded cassette.tapeOpened cassette.writeOf cassette.takenOf cassette.closeOf
 tape-lock-wrong w = true≢false (sym (w .waits (led tapeLock tapeAndConsole) (leads tapeLock tapeAndConsole tt) port-1 opensE refl .0 refl))
 
 -- "$81 .. without the group": an opening of C is refused while the other port still writes on the tape
@@ -103,7 +104,7 @@ abbrev bothTape : List (CoreCall real)
 bothTape = asksTape port-1 ++ opens port-0 0x43 0 8 ++ does port-0 writesTwo 1 0
 
 pub hasty-wrong : WaitingRule real (with-call real hasty) → ⊥
-unfolding after feed fedOf goodField senseOf badStatus messageOf errandStep planStep moveBy keys.keys keys-to.entryOf keys-to.keyAnswer keys-to.translateOf keyboard.obeyed keyboard.struckBy keyboard.getOf printer.putOf openE openOf prepareE prepareOf readE readK readOf writeE writeOf deviceOf numberOf namedOf specificationOf offersOf bytesAt fetchStatus fetchReply moves.getOf moves.putOf moves.goOf moves.advanceOf commandOf wayOf areaPlan transferPlan blockPlan nameOf callPlan planIn planOf loadedOf loadStatus thenOf openedOf openingOf transferOf workOf onwardOf recordOf gotCharacter gotOf sentByte sentRecord sentNext sentOf loaded cassette.tapeOpened cassette.writeOf cassette.takenOf cassette.closeOf
+unfolding after feed fedOf goodField senseOf badStatus messageOf errandStep planStep moveBy keys.keys keys-to.entryOf keys-to.keyAnswer keys-to.translateOf keyboard.obeyed keyboard.struckBy keyboard.getOf printer.putOf openE openOf prepareE prepareOf readE readK readOf writeE writeOf deviceOf numberOf namedOf specificationOf offersOf bytesAt fetchStatus fetchReply moves.getOf moves.putOf moves.goOf moves.advanceOf commandOf wayOf areaPlan transferPlan blockPlan nameOf namedFor callPlan planIn planOf loadedOf loadStatus thenOf openedOf openingOf transferOf workOf onwardOf recordOf gotCharacter gotOf sentByte sentRecord sentNext sentOf loaded cassette.tapeOpened cassette.writeOf cassette.takenOf cassette.closeOf
 hasty-wrong w =
     let e = w .waits (led hasty bothTape) (leads hasty bothTape tt) port-1 opensTape refl .1 refl in
     let z : _≡_ {A = ℕ} 0 8 = ap (number real) e in omega arith
@@ -130,7 +131,7 @@ abbrev secondOpens : List (CoreCall real)
 secondOpens = opens port-1 0x43 0 4 ++ asksTape port-0
 
 pub own-only-wrong : AloneRule real (with-call real ownOnly) → ⊥
-unfolding after feed fedOf goodField senseOf badStatus messageOf errandStep planStep moveBy keys.keys keys-to.entryOf keys-to.keyAnswer keys-to.translateOf keyboard.obeyed keyboard.struckBy keyboard.getOf printer.putOf openE openOf prepareE prepareOf readE readK readOf writeE writeOf deviceOf numberOf namedOf specificationOf offersOf bytesAt fetchStatus fetchReply moves.getOf moves.putOf moves.goOf moves.advanceOf commandOf wayOf areaPlan transferPlan blockPlan nameOf callPlan planIn planOf loadedOf loadStatus thenOf openedOf openingOf transferOf workOf onwardOf recordOf gotCharacter gotOf sentByte sentRecord sentNext sentOf loaded ticked aloneOf alonePlan aloneErrand aloneWork aloneTransfer aloneOpening transferred getting putting getOne putOne getCharacters putCharacters getRecord putRecord dropLine cassette.tapeOpened cassette.writeOf cassette.takenOf cassette.closeOf
+unfolding after feed fedOf goodField senseOf badStatus messageOf errandStep planStep moveBy keys.keys keys-to.entryOf keys-to.keyAnswer keys-to.translateOf keyboard.obeyed keyboard.struckBy keyboard.getOf printer.putOf openE openOf prepareE prepareOf readE readK readOf writeE writeOf deviceOf numberOf namedOf specificationOf offersOf bytesAt fetchStatus fetchReply moves.getOf moves.putOf moves.goOf moves.advanceOf commandOf wayOf areaPlan transferPlan blockPlan nameOf namedFor callPlan planIn planOf loadedOf loadStatus thenOf openedOf openingOf transferOf workOf onwardOf recordOf gotCharacter gotOf sentByte sentRecord sentNext sentOf loaded ticked aloneOf alonePlan aloneErrand aloneWork aloneTransfer aloneOpening transferred getting putting getOne putOne getCharacters putCharacters getRecord putRecord dropLine cassette.tapeOpened cassette.writeOf cassette.takenOf cassette.closeOf
 own-only-wrong a =
     let w = led ownOnly secondOpens in
     let q = replied-stays ownAt (λ r v. refl) (ownOnly (tick port-0) w .world) (replyBy (callReply 0x01 0 0)) refl mostMoves in

@@ -60,9 +60,17 @@ fn take(player: &mut Player, port: u8, message: &[u8]) -> Result<(), String> {
     same("take", &play(player, &script), &vec![0; message.len()])
 }
 
-fn tick(player: &mut Player, port: u8, ticks: u16) -> Result<(), String> {
-    let [low, high] = ticks.to_le_bytes();
-    same("ticks", &play(player, &[b'X', port, 0xFF, 0xFF]), &[low, high, 0])
+/// By `X` of 65,535, again while there are more.
+fn tick(player: &mut Player, port: u8, mut ticks: u32) -> Result<(), String> {
+    loop {
+        let part = ticks.min(0xFFFF);
+        let [low, high] = (part as u16).to_le_bytes();
+        same("ticks", &play(player, &[b'X', port, 0xFF, 0xFF]), &[low, high, 0])?;
+        ticks -= part;
+        if ticks == 0 {
+            return Ok(());
+        }
+    }
 }
 
 fn give(player: &mut Player, port: u8, reply: &[u8]) -> Result<(), String> {
@@ -71,7 +79,7 @@ fn give(player: &mut Player, port: u8, reply: &[u8]) -> Result<(), String> {
     same("reply", &play(player, &script), &expected)
 }
 
-fn ask(player: &mut Player, port: u8, message: &[u8], ticks: u16, reply: &[u8]) -> Result<(), String> {
+fn ask(player: &mut Player, port: u8, message: &[u8], ticks: u32, reply: &[u8]) -> Result<(), String> {
     take(player, port, message)?;
     tick(player, port, ticks)?;
     give(player, port, reply)?;

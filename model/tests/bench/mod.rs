@@ -1,6 +1,7 @@
 //! A bench for the tests: whole requests on a model.
 #![allow(dead_code)]
 
+pub mod disks;
 pub mod examples;
 pub mod tapes;
 

@@ -15,4 +15,5 @@ device-of-spec =
     (λ c. search tests)  -- returns-3
     (λ c. search tests)  -- returns-4
     (λ c. search tests)  -- returns-5
-    (λ c. search tests))  -- returns-6
+    (λ c. search tests)  -- returns-6
+    (λ c. search tests))  -- returns-7

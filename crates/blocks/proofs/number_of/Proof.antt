@@ -11,6 +11,7 @@ number-of-spec =
     (tie.spec
     (λ c κs. search needs)  -- colon-of-requires
     (λ c. search number-low)  -- returns
+    (λ c κs. search needs)  -- last-digit-requires
     (λ c κs. search needs)  -- colon-of-requires-2
     (λ c. search number-high)  -- returns-2
     (λ c. search number-past)  -- returns-3

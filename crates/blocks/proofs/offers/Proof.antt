@@ -1,6 +1,6 @@
--- `offers` meets its contract, by `offers-forced`, `offers-one-way`, `offers-unread`, `offers-screen`, `offers-keys`, `offers-paper` and `offers-unread-tape`.
+-- `offers` meets its contract, by `offers-forced`, `offers-one-way`, `offers-unread`, `offers-screen`, `offers-keys`, `offers-paper`, `offers-unread-tape` and `offers-disk`.
 -- Assumes nothing.
-use Rattle.blocks.proofs.Laws.{offers-forced, offers-unread, offers-screen, offers-keys, offers-paper, offers-one-way, offers-unread-tape}
+use Rattle.blocks.proofs.Laws.{offers-forced, offers-unread, offers-screen, offers-keys, offers-paper, offers-one-way, offers-unread-tape, offers-disk}
 use borrow.Author.Needs.{needs}
 use Rattle.blocks.proofs.offers.Statement.{statement}
 use Rattle.blocks.proofs.offers.Tie as tie
@@ -21,8 +21,11 @@ offers-spec =
     (λ c κs. search needs)  -- aux1-reads-requires-3
     (λ c κs. search needs)  -- aux1-writes-requires-2
     (λ c. search offers-one-way)  -- returns-2
+    (λ c. search needs)  -- enum-told-6
+    (λ c κs. search needs)  -- aux1-writes-requires-3
     (λ c. search offers-unread)  -- returns-3
     (λ c. search offers-screen)  -- returns-4
     (λ c. search offers-keys)  -- returns-5
     (λ c. search offers-paper)  -- returns-6
-    (λ c. search offers-unread-tape))  -- returns-7
+    (λ c. search offers-unread-tape)  -- returns-7
+    (λ c. search offers-disk))  -- returns-8

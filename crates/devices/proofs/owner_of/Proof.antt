@@ -14,8 +14,10 @@ owner-of-spec =
     (λ c. search needs)  -- enum-told-3
     (λ c. search needs)  -- enum-told-4
     (λ c. search needs)  -- enum-told-5
+    (λ c. search needs)  -- enum-told-6
     (λ c. search owner-arm)  -- returns
     (λ c. search owner-arm)  -- returns-2
     (λ c. search owner-arm)  -- returns-3
     (λ c. search owner-arm)  -- returns-4
-    (λ c. search needs))  -- returns-5
+    (λ c. search owner-arm)  -- returns-5
+    (λ c. search needs))  -- returns-6

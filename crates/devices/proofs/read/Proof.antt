@@ -1,6 +1,6 @@
--- `read` meets its contract, by `read-console`, `read-printer` and `read-cassette`.
+-- `read` meets its contract, by `read-console`, `read-printer`, `read-cassette` and `read-disk`.
 -- Assumes nothing.
-use Rattle.devices.proofs.Arms.{read-console, read-printer, read-cassette}
+use Rattle.devices.proofs.Arms.{read-console, read-printer, read-cassette, read-disk}
 use borrow.Author.Needs.{needs}
 use Rattle.devices.proofs.read.Statement.{statement}
 use Rattle.devices.proofs.read.Tie as tie
@@ -17,10 +17,14 @@ read-spec =
     (λ c. search needs)  -- enum-told
     (λ c. search needs)  -- enum-told-2
     (λ c κs. search needs)  -- read-requires-2
+    (λ c. search needs)  -- enum-told-3
+    (λ c κs. search needs)  -- read-requires-3
     (λ c. search needs)  -- same-length
     (λ c. search needs)  -- same-length-2
     (λ c. search read-console)  -- returns
     (λ c. search read-printer)  -- returns-2
     (λ c. search needs)  -- same-length-3
     (λ c. search needs)  -- same-length-4
-    (λ c. search read-cassette))  -- returns-3
+    (λ c. search read-cassette)  -- returns-3
+    (λ c. search needs)  -- same-length-5
+    (λ c. search read-disk))  -- returns-4

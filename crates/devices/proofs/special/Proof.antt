@@ -1,6 +1,6 @@
--- `special` meets its contract, by `special-console`, `special-printer` and `special-cassette`.
+-- `special` meets its contract, by `special-console`, `special-printer`, `special-cassette` and `special-disk`.
 -- Assumes nothing.
-use Rattle.devices.proofs.Arms.{special-console, special-printer, special-cassette}
+use Rattle.devices.proofs.Arms.{special-console, special-printer, special-cassette, special-disk}
 use borrow.Author.Needs.{needs}
 use Rattle.devices.proofs.special.Statement.{statement}
 use Rattle.devices.proofs.special.Tie as tie
@@ -15,7 +15,9 @@ special-spec =
     (λ c κs. search needs)  -- set-console-requires
     (λ c. search needs)  -- enum-told
     (λ c. search needs)  -- enum-told-2
+    (λ c. search needs)  -- enum-told-3
     (λ c. search needs)  -- same-length
     (λ c. search special-console)  -- returns
     (λ c. search special-printer)  -- returns-2
-    (λ c. search special-cassette))  -- returns-3
+    (λ c. search special-cassette)  -- returns-3
+    (λ c. search special-disk))  -- returns-4

@@ -1,6 +1,6 @@
--- `status` meets its contract, by `status-console`, `status-printer` and `status-cassette`.
+-- `status` meets its contract, by `status-console`, `status-printer`, `status-cassette` and `status-disk`.
 -- Assumes nothing.
-use Rattle.devices.proofs.Arms.{status-console, status-printer, status-cassette}
+use Rattle.devices.proofs.Arms.{status-console, status-printer, status-cassette, status-disk}
 use borrow.Author.Needs.{needs}
 use Rattle.devices.proofs.status.Statement.{statement}
 use Rattle.devices.proofs.status.Tie as tie
@@ -13,6 +13,9 @@ status-spec =
     (λ c. search needs)  -- enum-known-owner
     (λ c. search needs)  -- enum-told
     (λ c. search needs)  -- enum-told-2
+    (λ c. search needs)  -- enum-told-3
+    (λ c κs. search needs)  -- status-requires
     (λ c. search status-console)  -- returns
     (λ c. search status-printer)  -- returns-2
-    (λ c. search status-cassette))  -- returns-3
+    (λ c. search status-cassette)  -- returns-3
+    (λ c. search status-disk))  -- returns-4

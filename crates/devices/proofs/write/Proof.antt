@@ -1,6 +1,6 @@
--- `write` meets its contract, by `write-console`, `write-printer` and `write-cassette`.
+-- `write` meets its contract, by `write-console`, `write-printer`, `write-cassette` and `write-disk`.
 -- Assumes nothing.
-use Rattle.devices.proofs.Arms.{write-console, write-printer, write-cassette}
+use Rattle.devices.proofs.Arms.{write-console, write-printer, write-cassette, write-disk}
 use borrow.Author.Needs.{needs}
 use Rattle.devices.proofs.write.Statement.{statement}
 use Rattle.devices.proofs.write.Tie as tie
@@ -20,6 +20,7 @@ write-spec =
     (λ c κs. search needs)  -- set-printer-requires
     (λ c. search needs)  -- enum-told-2
     (λ c κs. search needs)  -- write-requires-2
+    (λ c. search needs)  -- enum-told-3
     (λ c. search needs)  -- same-length
     (λ c. search needs)  -- same-length-2
     (λ c. search write-console)  -- returns
@@ -28,4 +29,5 @@ write-spec =
     (λ c. search write-printer)  -- returns-2
     (λ c. search needs)  -- same-length-5
     (λ c. search needs)  -- same-length-6
-    (λ c. search write-cassette))  -- returns-3
+    (λ c. search write-cassette)  -- returns-3
+    (λ c. search write-disk))  -- returns-4

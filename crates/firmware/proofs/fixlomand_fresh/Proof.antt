@@ -10,11 +10,12 @@ fixlomand-fresh-spec =
     tie.close
     (tie.spec
     (λ c κs. search needs)  -- lengths-fit-requires
-    (λ c κs. all-by _ _ _ _ _ _ (c .before .before .before .before .before .before .lengths-fit .ensures) (c .before .before .before .before .before .if1 .taken))  -- fresh-all-requires
+    (λ c κs. all-by _ _ _ _ _ _ _ (c .before .before .before .before .before .before .before .lengths-fit .ensures) (c .before .before .before .before .before .before .if1 .taken))  -- fresh-all-requires
     (λ c. search needs)  -- same-length
     (λ c. search needs)  -- same-length-2
     (λ c. search needs)  -- same-length-3
     (λ c. search needs)  -- same-length-4
     (λ c. search needs)  -- same-length-5
+    (λ c. search needs)  -- same-length-6
     (λ c. search fresh-done)  -- returns
     (λ c. search fresh-refused))  -- returns-2

@@ -16,4 +16,5 @@ aux1-whole-spec =
     (λ c. search calls)  -- returns-4
     (λ c. search calls)  -- returns-5
     (λ c. search calls)  -- returns-6
-    (λ c. search calls))  -- returns-7
+    (λ c. search calls)  -- returns-7
+    (λ c. search calls))  -- returns-8

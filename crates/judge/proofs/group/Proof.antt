@@ -13,4 +13,5 @@ group-spec =
     (λ c. search calls)  -- returns
     (λ c. search calls)  -- returns-2
     (λ c. search calls)  -- returns-3
-    (λ c. search calls))  -- returns-4
+    (λ c. search calls)  -- returns-4
+    (λ c. search calls))  -- returns-5

@@ -11,6 +11,6 @@ unfolding markWhole
 mark-whole-spec =
     tie.close
     (tie.spec
-    (λ c. search calls)  -- returns
     (λ c κs. search needs)  -- mark-of-requires
-    (λ c. search mark-told))  -- returns-2
+    (λ c. search mark-told)  -- returns
+    (λ c. search calls))  -- returns-2

@@ -2,6 +2,7 @@
 -- Assumes nothing.
 use mathlib.Core.Path.{_≡_, refl}
 use Prim.Native.Nat.{_+_, _*_}
+use Rattle.disk.specs.Disk.{placeLength}
 use Rattle.layout.specs.Places.{blockLength, portLength}
 use Rattle.damage.specs.Whole.{tableWhole}
 use Rattle.judge.proofs.Calls.{TableFrom, table-yes, table-no, table-last}
@@ -10,10 +11,10 @@ use Rattle.judge.proofs.table.Statement.{statement}
 use Rattle.judge.proofs.table.Tie as tie
 
 abbrev Inv-loop : tie.InvT-loop
-Inv-loop bytes mark place₀ left₀ place left = (place + 2 * blockLength * left ≡ portLength) × TableFrom mark bytes place left
+Inv-loop bytes from mark place₀ at₀ left₀ place at left = (place + 2 * blockLength * left ≡ portLength) × ((at + 2 * placeLength * left ≡ from + 8 * placeLength) × TableFrom mark bytes from place at left)
 
 abbrev μ-loop : tie.MeasureT-loop
-μ-loop bytes mark place₀ left₀ place left = left
+μ-loop bytes from mark place₀ at₀ left₀ place at left = left
 
 pub table-spec : {M : Type 1} → statement M
 unfolding tableWhole
@@ -22,11 +23,12 @@ table-spec =
     (tie.spec
     Inv-loop
     μ-loop
-    (λ c. (search needs, refl))  -- loop-holds
+    (λ c. (search needs, (search needs, refl)))  -- loop-holds
     (λ c κs. search needs)  -- two-requires
     (λ c. search needs)  -- add-place
+    (λ c. search needs)  -- add-at
     (λ c. search needs)  -- sub-left
     (λ c. search needs)  -- loop-less
-    (λ c. (search needs, search table-yes))  -- loop-again
+    (λ c. (search needs, (search needs, search table-yes)))  -- loop-again
     (λ c. search table-no)  -- returns
     (λ c. search table-last))  -- returns-2

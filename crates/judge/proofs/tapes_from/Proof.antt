@@ -1,6 +1,6 @@
 -- `tapes_from` meets its contract, by `tapes-on` and `tapes-all`.
 -- Assumes nothing.
-use mathlib.Core.Path.{_≡_, refl}
+use mathlib.Core.Path.{_≡_}
 use Prim.Native.Nat.{_+_, _*_, _≤_}
 use Rattle.layout.specs.Places.{blockLength, tableLength}
 use Rattle.damage.specs.Whole.{tapesFrom}

@@ -30,6 +30,7 @@ two-spec =
     (λ c. search two-closed)  -- returns
     (λ c κs. search needs)  -- block-requires
     (λ c. search needs)  -- add-block
+    (λ c. search needs)  -- add-block-2
     (λ c κs. search needs)  -- block-requires-2
     (λ c. search calls)  -- returns-2
     (λ c. search calls))  -- returns-3

@@ -12,7 +12,7 @@ open-plan-spec =
     (λ c κs. search needs)  -- specification-at-requires
     (λ c. search needs)  -- enum-known-specification
     (λ c. search needs)  -- enum-known-specification-2
-    (λ c κs. search needs)  -- name-at-requires
-    (λ c κs. search needs)  -- planned-requires
+    (λ c κs. search needs)  -- named-for-requires
+    (λ c κs. search needs)  -- named-plan-requires
     (λ c. search open-refused)  -- returns
     (λ c. search open-names))  -- returns-2

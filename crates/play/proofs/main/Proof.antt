@@ -6,10 +6,10 @@ use Rattle.play.proofs.main.Statement.{statement}
 use Rattle.play.proofs.main.Tie as tie
 
 abbrev Inv-loop : tie.InvT-loop
-Inv-loop state₀ area₀ screen₀ paper₀ tape₀ op₀ lengths₀ i₀ state area screen paper tape op lengths i = i ≤ 18446744073709551615
+Inv-loop state₀ area₀ screen₀ paper₀ tape₀ images₀ op₀ lengths₀ i₀ state area screen paper tape images op lengths i = i ≤ 18446744073709551615
 
 abbrev μ-loop : tie.MeasureT-loop
-μ-loop state₀ area₀ screen₀ paper₀ tape₀ op₀ lengths₀ i₀ state area screen paper tape op lengths i = 18446744073709551615 - i
+μ-loop state₀ area₀ screen₀ paper₀ tape₀ images₀ op₀ lengths₀ i₀ state area screen paper tape images op lengths i = 18446744073709551615 - i
 
 pub main-spec : {M : Type 1} → statement M
 main-spec =
@@ -22,6 +22,7 @@ main-spec =
     (λ c. search needs)  -- slice-aggregate-screen
     (λ c. search needs)  -- slice-aggregate-paper
     (λ c. search needs)  -- slice-aggregate-tape
+    (λ c. search needs)  -- slice-aggregate-images
     (λ c κs. search needs)  -- whole-requires
     (λ c. search needs)  -- loop-holds
     (λ c κs. search needs)  -- ends-requires
@@ -30,7 +31,7 @@ main-spec =
     (λ c κs. search needs)  -- perform-cut-requires
     (λ c κs. search needs)  -- after-requires
     (λ c κs. search needs)  -- next-requires
-    (λ c. search (needs, c .before .before .before .before .before .before .before .before .before .before .before .before .before .before .before .before .before .before .before .before .before .before .before .before .before .before .before .before .before .before .before .before .before .before .loop-test .taken))  -- add-i
-    (λ c. search (needs, c .before .before .before .before .before .before .before .before .before .before .before .before .before .before .before .before .before .before .before .before .before .before .before .before .before .before .before .before .before .before .before .before .before .before .loop-test .taken))  -- loop-less
-    (λ c. search (needs, c .before .before .before .before .before .before .before .before .before .before .before .before .before .before .before .before .before .before .before .before .before .before .before .before .before .before .before .before .before .before .before .before .before .before .loop-test .taken))  -- loop-again
+    (λ c. search (needs, c .before .before .before .before .before .before .before .before .before .before .before .before .before .before .before .before .before .before .before .before .before .before .before .before .before .before .before .before .before .before .before .before .before .before .before .before .before .before .before .before .loop-test .taken))  -- add-i
+    (λ c. search (needs, c .before .before .before .before .before .before .before .before .before .before .before .before .before .before .before .before .before .before .before .before .before .before .before .before .before .before .before .before .before .before .before .before .before .before .before .before .before .before .before .before .loop-test .taken))  -- loop-less
+    (λ c. search (needs, c .before .before .before .before .before .before .before .before .before .before .before .before .before .before .before .before .before .before .before .before .before .before .before .before .before .before .before .before .before .before .before .before .before .before .before .before .before .before .before .before .loop-test .taken))  -- loop-again
     (λ c. search needs))  -- returns-2

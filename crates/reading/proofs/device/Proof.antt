@@ -14,4 +14,5 @@ device-spec =
     (λ c. search tests)  -- returns-2
     (λ c. search tests)  -- returns-3
     (λ c. search tests)  -- returns-4
-    (λ c. search tests))  -- returns-5
+    (λ c. search tests)  -- returns-5
+    (λ c. search tests))  -- returns-6

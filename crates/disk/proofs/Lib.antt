@@ -1,0 +1,9 @@
+pub mod Laws
+pub mod Cases
+pub mod Keeps
+pub mod Reading
+pub mod Says
+pub mod Chains
+pub mod Listings
+pub mod Examples
+pub mod Decided

@@ -1,0 +1,5 @@
+pub mod Disk
+pub mod Fit
+pub mod Left
+pub mod Reads
+pub mod Says

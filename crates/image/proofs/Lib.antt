@@ -1,0 +1,5 @@
+pub mod Laws
+pub mod Standing
+pub mod Chain
+pub mod Placed
+pub mod Decided

@@ -1,0 +1,4 @@
+pub mod Names
+pub mod Matching
+pub mod Fields
+pub mod Read
