@@ -13,7 +13,7 @@ SLOW = REPOSITORY / "docs" / "slow-crates.txt"
 
 LIMIT = 15
 """The seconds that a crate with must-fail edits may take."""
-MOST = 40
+MOST = 50
 """The seconds that a crate may take at all."""
 
 
@@ -45,7 +45,7 @@ class Gate(unittest.TestCase):
     def test_what_is_wrong(self) -> None:
         self.assertEqual(faults({"never_there": 20}), ["no crate never_there"])
         self.assertEqual(faults({"base": 20}), ["base is slow and has must-fail edits"])
-        self.assertEqual(len(faults({"judge": 15, "cio": 41})), 2)
+        self.assertEqual(len(faults({"judge": 15, "cio": 51})), 2)
 
 
 if __name__ == "__main__":

@@ -40,7 +40,7 @@ deviceOf byte =
 abbrev pub needed : List ℕ → ℕ → (ℕ → Specification) → Specification
 needed half place reading = pick (ltb place areaLength) (reading (getD half place 0)) (Refused 0xB0)
 
--- "a colon"; "$82 .. malformed specification"; "nothing after the colon is read"
+-- "a colon"; "$82 .. malformed specification"; "nothing after the colon is read", but of D: what names it is the plan's
 abbrev pub colonOf : Device → ℕ → ℕ → Specification
 colonOf device number byte = pick (eqb byte 0x3A) (Names device number) (Refused 0x82)
 

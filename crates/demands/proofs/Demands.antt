@@ -6,6 +6,8 @@ use mathlib.Core.List.{List}
 use Prim.Native.Nat.{ℕ}
 use native.Mathlib.Omega.{arith}
 use lib.ListN.{length, take}
+use Rattle.image.proofs.Chain.{chain-rule}
+use Rattle.disk.proofs.Opens.{open-rule}
 use Rattle.disk.proofs.Reading.{read-warns}
 use Rattle.disk.proofs.Chains.{file-gives}
 use Rattle.disk.proofs.Listings.{directory-gives}
@@ -19,6 +21,7 @@ use Rattle.layout.proofs.WriteRead.{head-back}
 use Rattle.damage.proofs.Undamaged.{in-bytes}
 use Rattle.calls.specs.Returned.{Returned}
 use Rattle.serial.proofs.Follows as follow
+use Rattle.rules.proofs.FileGets.{file-gets}
 use Rattle.rules.proofs.Warned.{request-warns, others-never-warn}
 use Rattle.machine.specs.Real.{real}
 use Rattle.machine.proofs.Lawful.{lawful}
@@ -70,7 +73,10 @@ demands = record {
   never-3 = never-3;
   kept = kept;
   disk-warns = λ place images l. read-warns place images l;
+  opens = λ asked place images l. open-rule asked place images l;
+  chains = λ images unit file first. chain-rule images unit file 719 first;
   files = λ images whole unit file first few. file-gives images unit file whole few first;
+  file-gets = λ c l s unit file first bytes fit few o chain. file-gets c l s unit file first bytes fit few o chain;
   directories = λ images unit name good. directory-gives images unit name good;
   images-kept = images-kept;
   decodes = λ s w rooms. (read-write s rooms w, (head-stands s rooms, head-length s));

@@ -10,9 +10,12 @@ use mathlib.Core.List.{List, _++_}
 use Prim.Native.Nat.{ℕ, _*_, _<_}
 use lib.ListN.{length, take, replicate}
 use Rattle.names.specs.declared.Name.{Name}
+use Rattle.handler.specs.declared.Asked.{Asked}
 use Rattle.image.specs.Image.{imagesLength}
+use Rattle.image.specs.Chain.{ChainRule, FileBytes}
 use Rattle.disk.specs.Disk.{placeLength}
 use Rattle.disk.specs.Reads.{ReadWarns, FileGives, DirectoryGives}
+use Rattle.disk.specs.Opens.{OpenRule}
 use Rattle.wire.specs.declared.Call.{Call}
 use Rattle.wire.specs.Messages.{roomLength}
 use Rattle.layout.specs.Places.{roomsPlace, stateLength}
@@ -22,6 +25,7 @@ use Rattle.layout.specs.Stands.{stands}
 use Rattle.layout.specs.InBytes.{Bytes, InBytes, Typed}
 use Rattle.damage.specs.Fits.{stickFits}
 use Rattle.devices.specs.Groups.{Groups}
+use Rattle.devices.specs.Fit.{FitGroups}
 use Rattle.alone.specs.Alone.{Local}
 use Rattle.calls.specs.Bytes.{Buffers, freshBytes, giveBytes}
 use Rattle.calls.specs.Returned.{Returned, returned, answerOf}
@@ -44,6 +48,7 @@ use Rattle.serial.specs.Demand1.{Demand1}
 use Rattle.serial.specs.Demand2.{Demand2}
 use Rattle.serial.specs.Demand3.{Demand3, UnfinishedRule}
 use Rattle.serial.specs.Follows.{Follows}
+use Rattle.rules.specs.FileGets.{GetsFile, FileGets}
 use Rattle.rules.specs.Warned.{ReadsNext, RequestWarns, OthersNeverWarn}
 use Rattle.machine.specs.Real.{real}
 use Rattle.machine.specs.Statuses.{MarkRule, StatusRule, FieldsRule, NeedsRule}
@@ -115,9 +120,15 @@ pub record Demands : Type 0 where
       → stands x ≡ true → stands y ≡ true → stickIn x ≡ stickIn y → take roomsPlace x ≡ take roomsPlace y
   -- Document 02, Ask 12: "$03 and $88 come as from tape.", of each read of D that gives a character
   pub disk-warns : (place images : List ℕ) → length place ≡ placeLength → ReadWarns place images
-  -- a file's reads give its chain's bytes, in order: "next or first 0 ends the file"; "A link above 719, a wrong file number, a data count
-  -- above 125 or a 720th sector in one chain gives $A4 to the read that meets it."
+  -- "The first match opens, none is $AA": what an opening answers and leaves at its block's place
+  pub opens : (asked : Asked) (place images : List ℕ) → length place ≡ placeLength → OpenRule asked place images
+  -- each chain has its bytes, and a file's reads give them in order: "next or first 0 ends the file"; "A link above 719, a wrong file
+  -- number, a data count above 125 or a 720th sector in one chain gives $A4 to the read that meets it."
+  pub chains : (images : List ℕ) (unit file first : ℕ) → ChainRule images unit file 719 first
   pub files : (images : List ℕ) → length images ≡ imagesLength → (unit file first : ℕ) → unit < 4 → FileGives images unit file first
+  -- the same by whole requests, which `demand2` links to these calls: GET CHARACTERS from a file's OPEN on
+  pub file-gets : (c : Call) (l : Local) (s : Groups) (unit file first : ℕ) (bytes : List ℕ) → FitGroups s → unit < 4 → GetsFile c l s unit file first
+      → FileBytes (s .disk .images) unit file first bytes → FileGets c l s bytes
   -- "the directory lists every match once in directory order", and then the free-sector record
   pub directories : (images : List ℕ) (unit : ℕ) (name : Name) → name .good ≡ true → DirectoryGives images unit name
   -- diskettes are read: no call changes an image

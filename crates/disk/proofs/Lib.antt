@@ -3,6 +3,7 @@ pub mod Cases
 pub mod Keeps
 pub mod Reading
 pub mod Says
+pub mod Opens
 pub mod Chains
 pub mod Listings
 pub mod Examples

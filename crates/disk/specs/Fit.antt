@@ -21,7 +21,8 @@ directoryFits p =
     pick (ltb (entryOf p) 64) (leb (placeOf p) 17)
     (pick (eqb (entryOf p) 64) (leb (placeOf p) 16) (and (eqb (entryOf p) 65) (eqb (placeOf p) 0)))
 
--- the place of a block that has D open with this number and this AUX1
+-- the place of a block that has D open with this number and this AUX1: its drive and its kind are theirs, else "a stored number outside its
+-- range here"
 unfoldable pub placeFits : (number aux1 : ℕ) → List ℕ → Bool
 placeFits number aux1 p =
     and (eqb (unitOf p) (number - 1))

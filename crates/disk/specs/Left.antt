@@ -1,5 +1,5 @@
--- Document 02, Ask 12: how many characters a place has before it: "The bound of 61,441 becomes 89,876": 719 sectors of 125 characters,
--- and a refusal.
+-- Document 02, Ask 12: how many characters a place has before it at most: "The bound of 61,441 becomes 89,876.": 719 sectors of 125
+-- characters, and a refusal.
 -- Assumes nothing.
 use mathlib.Core.List.{List}
 use Prim.Native.Nat.{ℕ, _-_, _*_}

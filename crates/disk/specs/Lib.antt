@@ -3,3 +3,4 @@ pub mod Fit
 pub mod Left
 pub mod Reads
 pub mod Says
+pub mod Opens

@@ -82,7 +82,8 @@ unfoldable pub repeated : (n : ℕ) → List ℕ → List ℕ
 repeated zero bytes = []
 repeated (suc n) bytes = bytes ++ repeated n bytes
 
--- "in a ring, $A4": a full sector that is linked to itself gives 719 times its 125 characters from its OPEN, 89,875 in all, and then $A4
+-- "in a ring, $A4": 719 times the 125 characters of a sector from its OPEN, 89,875 in all, and then $A4. So reads one that is full, good and
+-- linked to itself, which whoever has this has shown
 pub record RingGives (images : List ℕ) (unit file sector : ℕ) : Type 0 where
   pub many : length (repeated 719 (sectorData images unit sector)) ≡ 89875
   pub gives : ReadsThen images (filePlace unit file sector) 89875 (unwarned (repeated 719 (sectorData images unit sector))) 0xA4

@@ -37,7 +37,7 @@ module _ (images : List ℕ) (number aux1 : ℕ) (name : Name) where
     pub first : FirstMatch images (number - 1) name 0 entry
     pub is-locked : locked (flagOf images (number - 1) entry) ≡ true
 
--- "with the group held $84, $A5, $AA"
+-- "with the group held $84, $A5, $AA": the handler's are the last two
 pub data DiskOpens (asked : Asked) (images : List ℕ) (says : Done) : Type 0 where
   bad-name : asked .name .good ≡ false → says ≡ Refused 0xA5 → DiskOpens asked images says
   no-match : NoMatch images (asked .number) (asked .aux1) (asked .name) → says ≡ Refused 0xAA → DiskOpens asked images says
@@ -83,7 +83,7 @@ module _ (p images : List ℕ) where
         → byte ≡ sectorByte images (unitOf p) sector place → DiskBefore byte
     directory-before : isDirectory p ≡ true → entryOf p ≡ 64 → 16 ≤ placeOf p → byte ≡ 0x9B → DiskBefore byte
 
-  -- a read says these exactly there; it has no other refusal
+  -- a read says these exactly there
   pub record DiskReadRule : Type 0 where
     pub ended : (placeRead p images .says ≡ got.Refused 0x88) ↔ DiskEnds
     pub broken : (placeRead p images .says ≡ got.Refused 0xA4) ↔ DiskBad

@@ -179,7 +179,29 @@ fn block(bytes: &[u8], place: usize, at: usize, mark: u8) -> bool
     false
 }
 
-// Two blocks, from this place on: most are closed both, and their other bytes then 0, by two comparisons.
+// Both of two blocks, where D may be open on either.
+fn both(bytes: &[u8], place: usize, at: usize, mark: u8) -> bool
+    requires { ⌜ Blocks (now bytes) place at 2 ⌝ }
+    ensures { λ r. ⌜ r ≡ twoWhole mark (now (bytes .entry)) place at ⌝ }
+{
+    if block(bytes, place, at, mark) {
+        return block(bytes, place + BLOCK, at + disk::PLACE, mark);
+    }
+    false
+}
+
+// A block that has not D open: it is closed, or some OPEN makes it.
+fn plain(mark: u8, device: u8, number: u8, aux1: u8) -> bool
+    ensures { λ r. ⌜ r ≡ pick (eqb device 0) (unused 0 0 number aux1) (openWhole mark device number aux1) ⌝ }
+{
+    if device == 0 {
+        return none(0, 0, number, aux1);
+    }
+    open_whole(mark, device, number, aux1)
+}
+
+// Two blocks, from this place on: most are closed both, and their other bytes then 0, by two comparisons. Places are looked at only where
+// D is open.
 fn two(bytes: &[u8], place: usize, at: usize, mark: u8) -> bool
     requires { ⌜ Blocks (now bytes) place at 2 ⌝ }
     ensures { λ r. ⌜ r ≡ twoWhole mark (now (bytes .entry)) place at ⌝ }
@@ -192,8 +214,19 @@ fn two(bytes: &[u8], place: usize, at: usize, mark: u8) -> bool
             bytes[place + BLOCK + 2],
         );
     }
-    if block(bytes, place, at, mark) {
-        return block(bytes, place + BLOCK, at + disk::PLACE, mark);
+    if bytes[place] == 6 {
+        return both(bytes, place, at, mark);
+    }
+    if bytes[place + BLOCK] == 6 {
+        return both(bytes, place, at, mark);
+    }
+    if plain(mark, bytes[place], bytes[place + 1], bytes[place + 2]) {
+        return plain(
+            mark,
+            bytes[place + BLOCK],
+            bytes[place + BLOCK + 1],
+            bytes[place + BLOCK + 2],
+        );
     }
     false
 }

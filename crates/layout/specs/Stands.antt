@@ -1,5 +1,5 @@
--- Whether bytes stand for a stick: each has a value that the stick's types can hold and give back, and unused ones are 0. Ranges that
--- the types do not have, as of a mode, a row or a block's number, are judged of the stick: whether it is damaged.
+-- Whether bytes stand for a stick: each has a value that the stick's types can hold and give back, and those of a port or a block that
+-- are unused are 0. Ranges that the types do not have, as of a mode, a row or a block's number, are judged of the stick: whether it is damaged.
 -- Assumes nothing.
 use mathlib.Core.Bool.{Bool, true, false}
 use mathlib.Core.List.{List}

@@ -87,7 +87,7 @@ unfoldable pub transferPlan : (reads records : Bool) → Device → (aux1 : ℕ)
 transferPlan true records device aux1 call = pick (reads aux1) (areaPlan true records device call) (atOnce 0x83 call)
 transferPlan false records device aux1 call = pick (writes aux1) (areaPlan false records device call) (atOnce 0x87 call)
 
--- "$81 OPEN on an open block"; "$85 transfer on a closed block"; CLOSE: "$01, also if closed before"; "GET STATUS, SPECIAL. On a
+-- "$81 OPEN on an open block"; "$85 transfer on a closed block"; CLOSE: "$01, also if closed before"; "GET STATUS .. SPECIAL .. On a
 -- closed block: opened as OPEN does, then $01 or $84, then closed .. On an open one: $01 or $84."
 unfoldable pub blockPlan : Command → BlockState → Call → List ℕ → Plan
 blockPlan command.Bad state call half = atOnce 0x84 call

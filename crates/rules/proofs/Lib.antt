@@ -12,3 +12,4 @@ pub mod Waits
 pub mod FreshStart
 pub mod ReadBack
 pub mod Warned
+pub mod FileGets

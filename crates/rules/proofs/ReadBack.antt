@@ -114,7 +114,7 @@ module _ {D : Type 0} (put : ℕ → D → Answer Done D) where
   taken-all (byte ∷ bytes) x = taken-all bytes (put byte x .leaves)
 
 -- a character with so many left behind it
-abbrev before : (left byte : ℕ) → Got
+abbrev pub before : (left byte : ℕ) → Got
 before zero byte = got.Last byte
 before (suc left) byte = got.Character byte
 
@@ -131,15 +131,15 @@ parts-make k bytes h = omega (arith, length-parts k bytes, length-take-le k byte
 
 -- characters that it gives, with so many left behind them
 module _ {D : Type 0} (get : D → Answer Got D) where
-  abbrev GivesAll : (left : ℕ) → List ℕ → D → Type 0
+  abbrev pub GivesAll : (left : ℕ) → List ℕ → D → Type 0
   GivesAll left [] x = Unit {0}
   GivesAll left (byte ∷ bytes) x = (get x .says ≡ before (length bytes + left) byte) × GivesAll left bytes (get x .leaves)
 
-  abbrev given : List ℕ → D → D
+  abbrev pub given : List ℕ → D → D
   given [] x = x
   given (byte ∷ bytes) x = given bytes (get x .leaves)
 
-  gives-split : (k left : ℕ) (bytes : List ℕ) (x : D) → GivesAll left bytes x → GivesAll (length (drop k bytes) + left) (take k bytes) x × GivesAll left (drop k bytes) (given (take k bytes) x)
+  pub gives-split : (k left : ℕ) (bytes : List ℕ) (x : D) → GivesAll left bytes x → GivesAll (length (drop k bytes) + left) (take k bytes) x × GivesAll left (drop k bytes) (given (take k bytes) x)
   gives-split zero left bytes x g = (tt, g)
   gives-split (suc k) left [] x g = (tt, tt)
   gives-split (suc k) left (byte ∷ bytes) x g =
@@ -151,7 +151,7 @@ module _ {D : Type 0} (get : D → Answer Got D) where
   given-more [] ys x = refl
   given-more (byte ∷ xs) ys x = given-more xs ys (get x .leaves)
 
-  gives-all : (bytes : List ℕ) (x : D) → getsOf get (length bytes) x .says ≡ lastWarned bytes → GivesAll 0 bytes x
+  pub gives-all : (bytes : List ℕ) (x : D) → getsOf get (length bytes) x .says ≡ lastWarned bytes → GivesAll 0 bytes x
   unfolding getsOf
   gives-all [] x e = tt
   gives-all (byte ∷ []) x e = (ap (λ (l : List Got). getD l 0 (got.Refused 0)) e, tt)
@@ -160,7 +160,7 @@ module _ {D : Type 0} (get : D → Answer Got D) where
     gives-all (next ∷ bytes) (get x .leaves) (ap (λ (l : List Got). drop 1 l) e),
   )
 
-  given-all : (bytes : List ℕ) (x : D) → getsOf get (length bytes) x .leaves ≡ given bytes x
+  pub given-all : (bytes : List ℕ) (x : D) → getsOf get (length bytes) x .leaves ≡ given bytes x
   unfolding getsOf
   given-all [] x = refl
   given-all (byte ∷ bytes) x = given-all bytes (get x .leaves)
@@ -252,22 +252,24 @@ module _ {D : Type 0} (H : Acts D) (left : D → ℕ) (a : ℕ) where
         let d = record-over first n (place + 1) (count + 1) area y (rw (add-one place) z) (t .1) e in
         record { says = rw (b, t .0, v) (d .says); counts = rw (b, t .0, v) (omega (arith, d .counts)); keeps = rw (b, t .0, v) (d .keeps) })
 
-  record Brought (behind : ℕ) (bytes : List ℕ) (place : ℕ) (area : List ℕ) (x : D) (r : TransferEnd D) : Type 0 where
-    status : r .status ≡ statusBefore behind
-    device : r .device ≡ given (H .reads) bytes x
-    stores : r .area ≡ sets area place bytes
+  pub record Brought (behind : ℕ) (bytes : List ℕ) (place : ℕ) (area : List ℕ) (x : D) (count : ℕ) (r : TransferEnd D) : Type 0 where
+    pub status : r .status ≡ statusBefore behind
+    pub device : r .device ≡ given (H .reads) bytes x
+    pub stores : r .area ≡ sets area place bytes
+    pub counts : r .count ≡ count + length bytes
+    pub keeps : r .a ≡ a
 
   -- the status of the character before is that of the last where there is none behind it
-  get-characters : (behind said : ℕ) (bytes : List ℕ) (place count : ℕ) (area : List ℕ) (x : D) → (length bytes ≡ 0 → said ≡ statusBefore behind) → GivesAll (H .reads) behind bytes x
-      → Brought behind bytes place area x (getCharacters H left a said (length bytes) place count area x)
+  pub get-characters : (behind said : ℕ) (bytes : List ℕ) (place count : ℕ) (area : List ℕ) (x : D) → (length bytes ≡ 0 → said ≡ statusBefore behind) → GivesAll (H .reads) behind bytes x
+      → Brought behind bytes place area x count (getCharacters H left a said (length bytes) place count area x)
   unfolding getCharacters
-  get-characters behind said [] place count area x z g = record { status = z refl; device = refl; stores = refl }
+  get-characters behind said [] place count area x z g = record { status = z refl; device = refl; stores = refl; counts = omega arith; keeps = refl }
   get-characters behind said (byte ∷ bytes) place count area x z g =
       let said-now = statusBefore (length bytes + behind) in
       let q = get-characters behind said-now bytes (place + 1) (count + 1) (set area place byte) (H .reads x .leaves)
       (λ e. ap (λ (n : ℕ). statusBefore (n + behind)) e ∙ ap statusBefore (zero-add behind)) (g .1) in
-      by-before (Brought behind (byte ∷ bytes) place area x) (H .reads x .says) (length bytes + behind) byte _ _ (g .0)
-      (record { status = q .status; device = q .device; stores = q .stores ∙ ap (λ (k : ℕ). sets (set area place byte) k bytes) (add-one place) })
+      by-before (Brought behind (byte ∷ bytes) place area x count) (H .reads x .says) (length bytes + behind) byte _ _ (g .0)
+      (record { status = q .status; device = q .device; stores = q .stores ∙ ap (λ (k : ℕ). sets (set area place byte) k bytes) (add-one place); counts = omega (arith, q .counts); keeps = q .keeps })
 
   -- "n = 0: one character by A"
   record BroughtOne (behind byte : ℕ) (x : D) (r : TransferEnd D) : Type 0 where
@@ -280,13 +282,13 @@ module _ {D : Type 0} (H : Acts D) (left : D → ℕ) (a : ℕ) where
   get-single behind byte count area x e = by-before (BroughtOne behind byte x) (H .reads x .says) behind byte _ _ e (record { status = refl; device = refl; in-a = refl })
 
   -- those that are left, and then $88
-  record Ended (bytes : List ℕ) (place count : ℕ) (area : List ℕ) (r : TransferEnd D) : Type 0 where
-    status : r .status ≡ 0x88
-    counts : r .count ≡ count + length bytes
-    keeps : r .a ≡ a
-    stores : r .area ≡ sets area place bytes
+  pub record Ended (bytes : List ℕ) (place count : ℕ) (area : List ℕ) (r : TransferEnd D) : Type 0 where
+    pub status : r .status ≡ 0x88
+    pub counts : r .count ≡ count + length bytes
+    pub keeps : r .a ≡ a
+    pub stores : r .area ≡ sets area place bytes
 
-  get-over : (behind said : ℕ) (bytes : List ℕ) (n place count : ℕ) (area : List ℕ) (x : D) → length bytes < n → GivesAll (H .reads) behind bytes x → H .reads (given (H .reads) bytes x) .says ≡ got.Refused 0x88
+  pub get-over : (behind said : ℕ) (bytes : List ℕ) (n place count : ℕ) (area : List ℕ) (x : D) → length bytes < n → GivesAll (H .reads) behind bytes x → H .reads (given (H .reads) bytes x) .says ≡ got.Refused 0x88
       → Ended bytes place count area (getCharacters H left a said n place count area x)
   unfolding getCharacters
   get-over behind said bytes zero place count area x h g e = absurd (omega arith)
@@ -298,7 +300,7 @@ module _ {D : Type 0} (H : Acts D) (left : D → ℕ) (a : ℕ) where
 
 -- A CALL alone, by its block and its command
 module _ (c : Call) (l : Local) (s : Groups) (low : c .iocb ≤ 7) where
-  on-block : (k : Command) (b : ControlBlock) → HasNumber k (c .command) → blockAt (l .table) (c .iocb) ≡ b → calledAlone c l s ≡ alonePlan (blockPlan k (b .state) c (l .area)) [] l s
+  pub on-block : (k : Command) (b : ControlBlock) → HasNumber k (c .command) → blockAt (l .table) (c .iocb) ≡ b → calledAlone c l s ≡ alonePlan (blockPlan k (b .state) c (l .area)) [] l s
   unfolding aloneOf planOf planIn callPlan
   on-block k b h e = rw (le-ltb 7 (c .iocb) low, command-number k (c .command) .1 h, e)
 
@@ -318,7 +320,7 @@ module _ (c : Call) (l : Local) (s : Groups) (low : c .iocb ≤ 7) where
   abbrev pub ended : TransferEnd CassetteGroup → Alone
   ended r = alone (withArea (r .area) l) (putGroup group.Cassette s (r .device)) (callReply (r .status) (r .count) (r .a))
 
-  fits : (c .length ≡ 0) ⊎ (c .address + c .length ≤ areaLength) → or (eqb (c .length) 0) (leb (c .address + c .length) areaLength) ≡ true
+  pub fits : (c .length ≡ 0) ⊎ (c .address + c .length ≤ areaLength) → or (eqb (c .length) 0) (leb (c .address + c .length) areaLength) ≡ true
   fits (inl e) = rw e
   fits (inr h) = rw (le-leb (c .address + c .length) areaLength h) (or-true (eqb (c .length) 0))
 
@@ -477,8 +479,8 @@ module _ (iocb : ℕ) (low : iocb ≤ 7) where
         unfolding getting
         get-some behind bytes n h p f g =
             let e = get-is c m t own-low false Characters number aux1 h own-block w (inr f) (p, refl) in
-            let d : Brought H (deviceLeft C (m .number) (c .iocb)) (c .a) behind bytes (c .address) (m .area) (t .cassette) (getBy Characters) =
-            subst (λ (k : ℕ). Brought H (deviceLeft C (m .number) (c .iocb)) (c .a) behind bytes (c .address) (m .area) (t .cassette) (getCharacters H (deviceLeft C (m .number) (c .iocb)) (c .a) 0x01 k (c .address) 0 (m .area) (t .cassette))) n
+            let d : Brought H (deviceLeft C (m .number) (c .iocb)) (c .a) behind bytes (c .address) (m .area) (t .cassette) 0 (getBy Characters) =
+            subst (λ (k : ℕ). Brought H (deviceLeft C (m .number) (c .iocb)) (c .a) behind bytes (c .address) (m .area) (t .cassette) 0 (getCharacters H (deviceLeft C (m .number) (c .iocb)) (c .a) 0x01 k (c .address) 0 (m .area) (t .cassette))) n
             (get-characters H (deviceLeft C (m .number) (c .iocb)) (c .a) behind 0x01 bytes (c .address) 0 (m .area) (t .cassette) (λ z. absurd (omega (arith, z, n, p))) g) in
             record {
               status = ap (λ (y : Alone). replyStatus (y .reply)) e ∙ d .status;

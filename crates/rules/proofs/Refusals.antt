@@ -94,7 +94,7 @@ stored-part (suc p) (suc n) [] = refl
 stored-part (suc p) n (x ∷ xs) = behind-first (part p n xs) xs x p ∙ ap (λ (r : List ℕ). x ∷ r) (stored-part p n xs)
 
 -- a block's place, put back as it was
-place-back : (port iocb : ℕ) (g : DiskGroup) → putPlace port iocb g (getPlace port iocb g) ≡ g
+pub place-back : (port iocb : ℕ) (g : DiskGroup) → putPlace port iocb g (getPlace port iocb g) ≡ g
 place-back port iocb g = ap (λ (y : List ℕ). diskGroup y (g .images)) (stored-part (placeLength * placeNumber port iocb) placeLength (g .places))
 
 -- "GET STATUS $0D, SPECIAL above .. $01 or $84": so says every handler but D's, and SPECIAL changes no device

@@ -5,3 +5,4 @@ pub mod Running
 pub mod Statuses
 pub mod ReadBack
 pub mod Warned
+pub mod FileGets
