@@ -1,8 +1,8 @@
 /* bench: how fast the library is, and how deep its stack gets. It tests nothing but that each request ends as it should;
  * what it prints depends on the machine, and under an emulator only the proportions say something.
  *
- *   bench          calls a second, kind by kind; whole requests; ticks of short and of long requests
- *   bench stack    the bytes of stack of the deepest call, kind by kind */
+ *   bench          calls a second, kind by kind; whole requests; ticks of short and of long requests; the doctor
+ *   bench stack    the bytes of stack of the deepest call, kind by kind, and of the doctor */
 #define _XOPEN_SOURCE 700 /* clock_gettime, ucontext */
 #include "fixlomand.h"
 
@@ -29,10 +29,12 @@ enum { BLOCK_E = 0, BLOCK_S = 1, BLOCK_K = 2, BLOCK_P = 0, BLOCK_C = 1, BLOCK_D 
 enum { RECORDS = 250, RECORD_LEN = FIXLOMAND_TAPE_LEN / RECORDS, CHARACTERS = FIXLOMAND_PENDING_LEN };
 /* the sectors that a file of a diskette may have, and the characters of each */
 enum { SECTORS = FIXLOMAND_SECTORS - 1, SECTOR_CHARACTERS = 125 };
+/* the sectors that the files of a sound diskette may have together, and those of each where 64 files have them all */
+enum { USABLE = 707, FILE_SECTORS = USABLE / FIXLOMAND_ENTRIES };
 
 static uint8_t state[FIXLOMAND_STATE_LEN], area[FIXLOMAND_AREA_LEN];
 static uint8_t screen[FIXLOMAND_SCREEN_LEN], paper[FIXLOMAND_PAPER_LEN], tape[FIXLOMAND_TAPE_LEN];
-static uint8_t images[FIXLOMAND_IMAGES_LEN];
+static uint8_t images[FIXLOMAND_IMAGES_LEN], list[FIXLOMAND_LIST_LEN];
 
 #define LENT                                                                                                           \
     state, sizeof state, area, sizeof area, screen, sizeof screen, paper, sizeof paper, tape, sizeof tape, images,     \
@@ -208,6 +210,81 @@ static void rewind_diskette(void)
     uint8_t *place = state + FIXLOMAND_PLACES + FIXLOMAND_PLACE_LEN * (FIXLOMAND_BLOCK_COUNT + BLOCK_D);
     memset(place + FIXLOMAND_PLACE_AT, 0, FIXLOMAND_PLACE_PASSED + 2 - FIXLOMAND_PLACE_AT);
     place[FIXLOMAND_PLACE_SECTOR] = 1;
+}
+
+/* ---- diskettes for the doctor ---- */
+
+/* Free count and map where no sector is free. */
+static void fill_map(uint8_t byte)
+{
+    uint8_t *bytes = images + FIXLOMAND_SECTOR(1, FIXLOMAND_MAP_SECTOR);
+    memset(bytes, 0, FIXLOMAND_SECTOR_LEN);
+    bytes[0] = FIXLOMAND_DOS_2;
+    bytes[3] = bytes[4] = byte;
+    memset(bytes + 10, byte, 90);
+}
+
+/* A sound diskette in the first drive: so many files have all usable sectors, one after the other. */
+static void fill_files(unsigned files)
+{
+    unsigned sector = 4;
+    memset(images, 'A', FIXLOMAND_IMAGE_LEN);
+    memset(images + FIXLOMAND_SECTOR(1, 361), 0, FIXLOMAND_ENTRIES * 16);
+    fill_map(0);
+    for (unsigned file = 0; file < files; file++) {
+        uint8_t *entry = images + FIXLOMAND_SECTOR(1, 361) + 16 * file;
+        unsigned length = file + 1 < files ? FILE_SECTORS : USABLE - FILE_SECTORS * (files - 1);
+        memset(entry, 'A', 16);
+        entry[0] = 0x42;
+        entry[1] = (uint8_t)length;
+        entry[2] = (uint8_t)(length >> 8);
+        entry[3] = (uint8_t)sector;
+        entry[4] = (uint8_t)(sector >> 8);
+        for (; length > 0; length--) {
+            uint8_t *bytes = images + FIXLOMAND_SECTOR(1, sector);
+            sector = sector == 359 ? 369 : sector + 1;
+            bytes[125] = (uint8_t)(4 * file + (length > 1 ? sector / 256 : 0));
+            bytes[126] = (uint8_t)(length > 1 ? sector : 0);
+            bytes[127] = SECTOR_CHARACTERS;
+        }
+    }
+}
+
+/* The same of 64 files, of which each has a further link from its last sector, into the directory, and a wrong count; the
+ * free count and each byte of the map are wrong too. */
+static void fill_damaged(void)
+{
+    fill_files(FIXLOMAND_ENTRIES);
+    fill_map(0xFF);
+    for (unsigned sector = 4; sector <= SECTORS; sector = sector == 359 ? 369 : sector + 1) {
+        uint8_t *bytes = images + FIXLOMAND_SECTOR(1, sector);
+        if (bytes[125] % 4 == 0 && bytes[126] == 0) {
+            bytes[125] |= 361 / 256;
+            bytes[126] = 361 % 256;
+        }
+    }
+    for (unsigned file = 0; file < FIXLOMAND_ENTRIES; file++)
+        memset(images + FIXLOMAND_SECTOR(1, 361) + 16 * file + 1, 0xFF, 2);
+}
+
+/* What the doctor must change in it. */
+static unsigned changes_now;
+
+static unsigned long doctor_once(void)
+{
+    uint32_t given = fixlomand_doctor(images, FIXLOMAND_IMAGE_LEN, list, sizeof list);
+    want(FIXLOMAND_ANSWER(given) == FIXLOMAND_DONE && FIXLOMAND_CHANGES(given) == changes_now, "the doctor");
+    return 1;
+}
+
+/* With the old bytes put back behind it, as its list says them. */
+static unsigned long doctor_undone(void)
+{
+    doctor_once();
+    for (const uint8_t *change = list; change < list + FIXLOMAND_CHANGE_LEN * changes_now;
+         change += FIXLOMAND_CHANGE_LEN)
+        images[FIXLOMAND_CHANGE_AT(change)] = change[FIXLOMAND_CHANGE_OLD];
+    return 1;
 }
 
 /* ---- calls a second ---- */
@@ -436,6 +513,22 @@ static void say_kinds(void)
     say("key translation", translate_many);
 }
 
+static void say_doctor(void)
+{
+    printf("\n%-48s%12s%16s\n", "the doctor, over a whole image", "ns a run", "runs a second");
+    memset(images, 0, FIXLOMAND_IMAGE_LEN);
+    changes_now = 91;
+    say("an empty image: 91 changes, undone", doctor_undone);
+    fill_files(1);
+    changes_now = 0;
+    say("one file of all 707 sectors, sound", doctor_once);
+    fill_files(FIXLOMAND_ENTRIES);
+    say("64 files of all 707 sectors, sound", doctor_once);
+    fill_damaged();
+    changes_now = FIXLOMAND_CHANGES_MOST;
+    say("the same damaged: 348 changes, undone", doctor_undone);
+}
+
 static void say_requests(void)
 {
     printf("\n%-48s%12s%16s%12s%20s\n", "whole requests: take, tick, give", "ns a call", "calls a second", "calls",
@@ -565,6 +658,11 @@ static void work_translate(void)
     fixlomand_translate(0x3F, FIXLOMAND_LOCK_SHIFT, 0);
 }
 
+static void work_doctor(void)
+{
+    fixlomand_doctor(images, FIXLOMAND_IMAGE_LEN, list, sizeof list);
+}
+
 static size_t deepest;
 
 static void say_depth(const char *what, void (*work)(void))
@@ -638,6 +736,10 @@ static void say_stack(void)
     say_call("GET from S", 0, BLOCK_S, GET_CHARACTERS, 2, 0, 0);
     say_call("PUT to E, which opens it again", 0, BLOCK_E, PUT_CHARACTERS, 2, 0, 0);
     printf("  %-48s%8zu\n", "deepest", deepest);
+    fill_files(FIXLOMAND_ENTRIES);
+    say_depth("the doctor, a sound image", work_doctor);
+    fill_damaged();
+    say_depth("the doctor, 348 changes", work_doctor);
 }
 
 int main(int words, char **word)
@@ -649,5 +751,6 @@ int main(int words, char **word)
     say_kinds();
     say_requests();
     say_lengths();
+    say_doctor();
     return 0;
 }

@@ -16,8 +16,9 @@
  * FIXLOMAND_TAPE_CLOSED. A tape of zeros, as here, reads as bad until a host has written it.
  *
  * The diskettes are what the board puts into board.images, before the first call (in board_begin) or between two, as
- * from a card; the core only reads them, so that nothing is to be copied back. Zeros, as here, are drives without a
- * diskette: no file is found there, and the directory tells of no free sector. */
+ * from a card; the calls only read them, so that nothing is to be copied back, but for what a board has the doctor
+ * change (fixlomand_doctor, which this one does not use). Zeros, as here, are drives without a diskette: no file is found
+ * there, and the directory tells of no free sector. */
 struct board {
     uint8_t state[FIXLOMAND_STATE_LEN];
     uint8_t area[FIXLOMAND_AREA_LEN];

@@ -2,14 +2,15 @@
  *
  * The stick has two plugs, port 0 and port 1. At each a host sends messages and reads replies, byte by byte; the core
  * does what they ask with an area of memory for each port, and with a screen, a keyboard, a printer, a cassette and
- * diskettes in four drives that both ports share. The core is a library of six functions. It has no memory of its own,
- * starts no thread, waits for nothing and calls no function of your firmware, which lends it six buffers in every call,
- * moves the bytes of the two links, scans the keys, shows the screen and the paper, keeps the tape and puts in the
- * diskettes. What the bytes of the links mean is in docs/HOSTS.md; the firmware need not know it.
+ * diskettes in four drives that both ports share. The core is a library of seven functions: five calls, key translation
+ * and a diskette doctor. It has no memory of its own, starts no thread, waits for nothing and calls no function of your
+ * firmware, which lends it six buffers in every call, moves the bytes of the two links, scans the keys, shows the screen
+ * and the paper, keeps the tape and puts in the diskettes. What the bytes of the links mean is in docs/HOSTS.md; the
+ * firmware need not know it.
  *
- * The answers, and every byte that a call leaves, are proved for every value of every argument; what is said of whole
- * requests is proved for calls after a fresh start; as long as the last section holds, "What the core cannot test". Times
- * and stack are measured, not proved (firmware/measure).
+ * The answers, and every byte that a call or the doctor leaves, are proved for every value of every argument; what is
+ * said of whole requests is proved for calls after a fresh start; as long as the last section holds, "What the core
+ * cannot test". Times and stack are measured, not proved (firmware/measure).
  *
  * firmware/build, or rt staticlib firmware, writes target/staticlib/libfirmware.a, for x86-64: link it after your own
  * objects, as in
@@ -34,8 +35,8 @@ extern "C" {
 
 /* The version of this header, and of the library that it was installed with; as a number it is 10,000 times the first
  * part, plus 100 times the second, plus the third. */
-#define FIXLOMAND_VERSION "3.0.0"
-#define FIXLOMAND_VERSION_NUMBER 30000
+#define FIXLOMAND_VERSION "3.1.0"
+#define FIXLOMAND_VERSION_NUMBER 30100
 
 /* ---- What you lend -------------------------------------------------------------------------------------------------
  *
@@ -63,11 +64,12 @@ extern "C" {
  *   images   what is on the diskettes in the drives D1 to D4, one image after the other, each of 720 sectors of 128
  *            bytes as DOS 2.0S writes them: sector s, 1 to 720, of drive n lies at FIXLOMAND_SECTOR(n, s), which is
  *            92,160 x (n - 1) + 128 x (s - 1). An ATR file of single density is such an image behind a header of 16
- *            bytes. Hosts read them; no call changes an image, a fresh start neither. Any bytes are a diskette: a chain
- *            of sectors that is none is told to the host that reads it. An image of zeros, as for an empty drive, has no
- *            file and no free sector. You may put in another between two calls, best while no block of either port has
- *            that drive open (device FIXLOMAND_D and the drive's number): a block that has goes on from its place in
- *            what lies there then.
+ *            bytes. Hosts read them; no call changes an image, a fresh start neither: only the doctor does, where you
+ *            have it do so. Any bytes are a diskette: a chain of sectors that is none is told to the host that reads
+ *            it. An image of zeros, as for an empty drive, has no file and no free sector. You may put in another
+ *            between two calls, or have the doctor change it, best while no block of either port has that drive open
+ *            (device FIXLOMAND_D and the drive's number): a block that has goes on from its place in what lies there
+ *            then.
  */
 #define FIXLOMAND_STATE_LEN 973
 #define FIXLOMAND_AREA_LEN 32768
@@ -198,6 +200,81 @@ enum {
     FIXLOMAND_MEANS_END_OF_FILE = 261,  /* the key of end of file */
     FIXLOMAND_MEANS_BAD_LOCK = 262      /* lock or inverse is none of those above, whatever the code */
 };
+
+/* ---- The diskette doctor -------------------------------------------------------------------------------------------
+ *
+ * It sets one diskette's image right, so that each sector of 1 to 719 is reserved, free or in exactly one file, and
+ * lists each byte that it has changed. It is no call of the stick: no message asks for it, it needs no state and no fresh
+ * start, and it changes nothing but the two buffers that it is lent:
+ *
+ *   image    one diskette's: what you are about to put in, or has come out, or one of the four of the images, which is
+ *            at images + FIXLOMAND_IMAGE(drive), between two calls.
+ *   list     room for 512 changes of five bytes: sector (2), place in the sector, 0 to 127, the byte that was there
+ *            (old), the byte that is there now (new). Behind the last change it stays as lent.
+ *
+ * What it does:
+ *
+ * - It walks every file's chain in directory order. Files are the entries whose flag has $40 and not $80, locked ones
+ *   too, before the first entry with flag 0.
+ * - It keeps a chain's sectors up to the first one that is
+ *     reserved: 1 to 3 and 360 to 368;
+ *     claimed already: an earlier file has kept it, or this one, in a ring;
+ *     bad: above 719, or with another file number (byte 125), or with a data count (byte 127) above 125.
+ *   There it cuts: the last sector that is kept gets next sector 0, in byte 126 and the two low bits of byte 125; its
+ *   file number and data count stay. Where it is the file's first sector already, nothing is kept: the flag becomes
+ *   exactly $80, deleted, and nothing else of the entry changes. A file with first sector 0 is empty, and kept.
+ * - The sector count of a file that is kept becomes the number of its sectors.
+ * - Free are the sectors of 1 to 719 that are neither reserved nor kept for a file. The free count, bytes 3 and 4 of
+ *   sector 360, becomes their number, and the map, bytes 10 to 99, has a 1 for exactly these.
+ *
+ * All else stays: data, names, first sectors, entries that are no file, entries behind the end of the directory, the
+ * map's bit of sector 0, the other bytes of sector 360, and sector 720.
+ *
+ * A byte is in the list if and only if it has changed, and once. The order: file by file byte 125, byte 126, the low and
+ * the high byte of the sector count, or the flag alone; then of sector 360 bytes 3, 4 and 10 to 99. So there are at most
+ * 64 x 4 + 2 + 90 = 348 changes, and some images have as many.
+ *
+ * A sound image, in which no chain has a sector to cut before, and all counts and the map are right, is left untouched
+ * with an empty list; what the doctor leaves is sound. Reserved, free and in a file are then 719 sectors together, each
+ * of the three counted by itself. Replaying the list on the old image gives the new one, and with old in the place of
+ * new the list undoes it:
+ *
+ *     for (change = list; change < list + number * FIXLOMAND_CHANGE_LEN; change += FIXLOMAND_CHANGE_LEN)
+ *         image[FIXLOMAND_CHANGE_AT(change)] = change[FIXLOMAND_CHANGE_OLD];
+ *
+ * All of this is proved for every image, and any bytes are one (that some have 348 changes is tested). So it warns nobody
+ * of a diskette of another system, on which these bytes mean something else: it makes one of DOS 2.0S of it. DOS 2.0S
+ * writes FIXLOMAND_DOS_2 into the first byte of sector 360. Where another is there,
+ * image[FIXLOMAND_SECTOR(1, FIXLOMAND_MAP_SECTOR)], a firmware should ask first;
+ * and keep the list in any case, until somebody has looked at the files.
+ *
+ * It does all its work before it returns, and meanwhile no port is ticked. Of 720 sectors it remembers which are claimed,
+ * a byte each, on the stack: it needs 848 bytes of it where the deepest call needs 672 (firmware/measure prints both, and
+ * how long it takes).
+ */
+#define FIXLOMAND_LIST_LEN 2560
+
+enum {
+    FIXLOMAND_CHANGE_LEN = 5,
+    FIXLOMAND_CHANGE_SECTOR = 0,
+    FIXLOMAND_CHANGE_PLACE = 2,
+    FIXLOMAND_CHANGE_OLD = 3,
+    FIXLOMAND_CHANGE_NEW = 4,
+    FIXLOMAND_CHANGES_MOST = 348
+};
+enum { FIXLOMAND_MAP_SECTOR = 360, FIXLOMAND_DOS_2 = 2 };
+
+/* Where in the image the byte of a change is; change points to the first of its five bytes. */
+#define FIXLOMAND_CHANGE_AT(change)                                                                                    \
+    (FIXLOMAND_SECTOR(1, (change)[FIXLOMAND_CHANGE_SECTOR] + 256 * (change)[FIXLOMAND_CHANGE_SECTOR + 1]) +            \
+     (change)[FIXLOMAND_CHANGE_PLACE])
+
+/* Gives the answer (0 or 1) in the low byte, FIXLOMAND_ANSWER, and the number of changes in the bytes above it, which are
+ * 0 beside a refusal. Refused, exactly if the image has not FIXLOMAND_IMAGE_LEN bytes or the list not FIXLOMAND_LIST_LEN,
+ * it has changed no byte of either. */
+uint32_t fixlomand_doctor(uint8_t *image, size_t image_len, uint8_t *list, size_t list_len);
+enum { FIXLOMAND_DOCTOR_REFUSED = 1 };
+#define FIXLOMAND_CHANGES(given) ((given) >> 8)
 
 /* ---- What the hosts send and get -----------------------------------------------------------------------------------
  *
@@ -464,6 +541,8 @@ enum { FIXLOMAND_ENTRIES = 64, FIXLOMAND_FREE_RECORD = 64, FIXLOMAND_LISTING_END
  * - Between two calls nobody writes them either, but for a tape that is not open, and images. If somebody does, the core
  *   still answers, and still reads and writes nothing outside them; but then it works on with what it finds, and what it
  *   finds may be another host's bytes.
+ * - While the doctor runs, all this holds of the two buffers that it is lent; where its image is one of the four, no call
+ *   is made with them meanwhile.
  */
 
 #ifdef __cplusplus

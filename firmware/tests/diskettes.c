@@ -1,6 +1,6 @@
 /* diskettes: D through the C calls: files, their ends and bad chains, the directory, names, GET STATUS, both ports at the
- * one group, and what damages a place. The images are lent where they can only be read, so that a call that writes a byte
- * of them ends the test. */
+ * one group, what damages a place, and what the doctor has set right (doctor.c tests the doctor itself). The images are
+ * lent where they can only be read, so that a call that writes a byte of them ends the test. */
 #include "fixlomand.h"
 #include "guard.h"
 
@@ -579,6 +579,35 @@ static void check_places(void)
     want(fixlomand_tick(LENT, 0), FIXLOMAND_IDLE, "the block as it was");
 }
 
+/* What the doctor has set right reads to its end, and a block that was open goes on from its place; the doctor's rules for
+ * a bad sector are D's. */
+static void check_doctored(void)
+{
+    static uint8_t list[FIXLOMAND_LIST_LEN];
+    uint32_t given;
+    start();
+    write_entry(1, 0, 0x42, 9, 4, "HELLO   TXT");
+    write_sector(1, 4, 0, 5, 2, 'h');
+    write_sector(1, 5, 1, 0, 3, 'g'); /* a sector of file 1 */
+    write_entry(1, 1, 0x62, 1, 4, "GONE       ");
+    write_free(1, 12);
+    want_open(R, "D:HELLO.TXT", SUCCESS);
+    want(call(0, 0, GET_CHARACTERS, 3, 0), BAD_CHAIN, "a chain into another file");
+    want(opened(0, 1, R, "D:GONE"), SUCCESS, "OPEN of a file that begins in another");
+    want(call(0, 1, GET_CHARACTERS, 1, 0), BAD_CHAIN, "a file that begins in another");
+    given = fixlomand_doctor(images + FIXLOMAND_IMAGE(1), FIXLOMAND_IMAGE_LEN, list, sizeof list);
+    want(FIXLOMAND_ANSWER(given), FIXLOMAND_DONE, "the doctor");
+    want(call(0, 0, GET_CHARACTERS, 1, 0), END, "a read behind the cut, the block open as before");
+    want_open(R, "D:HELLO.TXT", SUCCESS);
+    want(call(0, 0, GET_CHARACTERS, 2, 0), LAST, "the file that is cut");
+    want_stored(0, "hh", 2, "the file that is cut");
+    want(call(0, 0, GET_CHARACTERS, 1, 0), END, "a read behind its end");
+    want(opened(0, 1, R, "D:GONE"), NOT_FOUND, "OPEN of the file that is deleted");
+    want(opened(0, 1, DIRECTORY, "D:*.*"), SUCCESS, "OPEN of the directory");
+    want_record(1, "  HELLO   TXT 001", SUCCESS);
+    want_record(1, "706 FREE SECTORS", LAST);
+}
+
 /* "No call changes an image, a fresh start neither." Of the other calls the memory that can only be read has shown it. */
 static void check_images(void)
 {
@@ -605,8 +634,9 @@ int main(void)
     check_status();
     check_ports();
     check_places();
+    check_doctored();
     check_images();
     guards_free();
-    printf("diskettes: %u times the core did with a diskette what it should; no byte of one was written\n", checks);
+    printf("diskettes: %u times the core did with a diskette what it should; no call wrote a byte of one\n", checks);
     return 0;
 }

@@ -62,6 +62,8 @@ int main(void)
     try_buffer("paper", FIXLOMAND_PAPER_LEN);
     try_buffer("tape", FIXLOMAND_TAPE_LEN);
     try_buffer("images", FIXLOMAND_IMAGES_LEN);
+    try_buffer("image", FIXLOMAND_IMAGE_LEN);
+    try_buffer("list", FIXLOMAND_LIST_LEN);
     printf("guards: %u bytes touched, inside and outside of lent buffers; each outside one ended its program\n", tries);
     return 0;
 }

@@ -14,6 +14,8 @@
  *     D                    area, screen, paper, and the state but for the cassette and the diskettes' places, as the
  *                          header lays it out
  *     C                    tape, mark, record (2), place, and the pending characters with zeros behind them
+ *     R IMAGE              the doctor on one of the four images, 0 to 3, whatever is lent of them: the answer, the number
+ *                          of changes (2) and the changes; of another image answer 1 and 0 changes
  *
  * Each op is answered before the next is read. The buffers stand between guard pages. */
 #include "fixlomand.h"
@@ -30,7 +32,7 @@ static const size_t whole[BUFFERS] = {[AREA] = FIXLOMAND_AREA_LEN,   [SCREEN] = 
                                       [PAPER] = FIXLOMAND_PAPER_LEN, [STATE] = FIXLOMAND_STATE_LEN,
                                       [TAPE] = FIXLOMAND_TAPE_LEN,   [IMAGES] = FIXLOMAND_IMAGES_LEN};
 static size_t lent[BUFFERS];
-static uint8_t *state, *area, *screen, *paper, *tape, *images;
+static uint8_t *state, *area, *screen, *paper, *tape, *images, *list;
 
 #define LENT                                                                                                           \
     state, lent[STATE], area, lent[AREA], screen, lent[SCREEN], paper, lent[PAPER], tape, lent[TAPE], images,          \
@@ -144,11 +146,24 @@ static void ticks(uint8_t port, unsigned most)
     say_byte(answer);
 }
 
+static void doctor(unsigned image)
+{
+    uint32_t given = FIXLOMAND_DOCTOR_REFUSED;
+    if (image < FIXLOMAND_DRIVES)
+        given = fixlomand_doctor(images + FIXLOMAND_IMAGE(image + 1), FIXLOMAND_IMAGE_LEN, list, FIXLOMAND_LIST_LEN);
+    if (FIXLOMAND_CHANGES(given) > FIXLOMAND_CHANGES_MOST)
+        fail("doctor: %lu changes", (unsigned long)FIXLOMAND_CHANGES(given));
+    say_byte(FIXLOMAND_ANSWER(given));
+    say_byte((uint8_t)FIXLOMAND_CHANGES(given));
+    say_byte((uint8_t)(FIXLOMAND_CHANGES(given) >> 8));
+    say(list, FIXLOMAND_CHANGE_LEN * FIXLOMAND_CHANGES(given));
+}
+
 /* Plays an op; 0 if it is none, or is cut by the end of the script. */
 static int play(int op)
 {
-    static const char ops[] = "FTKGPXLWDC";
-    static const uint8_t operands[] = {0, 2, 1, 1, 1, 3, 4, 6, 0, 0};
+    static const char ops[] = "FTKGPXLWDCR";
+    static const uint8_t operands[] = {0, 2, 1, 1, 1, 3, 4, 6, 0, 0, 1};
     const char *found = op > 0 ? strchr(ops, op) : NULL;
     uint8_t a[6] = {0};
     uint16_t given;
@@ -193,8 +208,11 @@ static int play(int op)
     case 'D':
         dump();
         break;
-    default:
+    case 'C':
         dump_tape();
+        break;
+    default:
+        doctor(a[0]);
         break;
     }
     return 1;
@@ -209,6 +227,7 @@ int main(int words, char **word)
     paper = guarded("paper", FIXLOMAND_PAPER_LEN, side);
     tape = guarded("tape", FIXLOMAND_TAPE_LEN, side);
     images = guarded("images", FIXLOMAND_IMAGES_LEN, side);
+    list = guarded("list", FIXLOMAND_LIST_LEN, side);
     memcpy(lent, whole, sizeof lent);
     guard_doing = "play_c";
     guard_watch();

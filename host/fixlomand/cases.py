@@ -104,6 +104,10 @@ class Bench:
         """Writes bytes of the diskette in a drive, and leaves the others."""
         self._player.do(script.Write(script.Buffer.IMAGES, (drive - 1) * script.IMAGE + at, data))
 
+    def doctor(self, which: int = 0) -> bytes:
+        """The doctor on a diskette, 0 to 3; all that is written for it."""
+        return self._player.do(script.Doctor(which))[0]
+
     def begin(self, data: bytes, port: int = 0) -> int:
         """Sends a message and ticks once; the tick's answer."""
         *taken, ticked = self._player.do(*(script.Take(port, byte) for byte in data), script.Tick(port))
@@ -2486,3 +2490,127 @@ def _(bench: Bench) -> None:
     data = bytes(range(256))
     _file(bench, _sector(0, 5, data[:125]), _sector(0, 6, data[125:250]), _sector(0, 0, data[250:]))
     bench.get(256, data, LAST_CHARACTER, ticks=257)
+
+
+# 02-change-requests, Ask 13: diskette doctor
+
+DOCTOR = "02-change-requests, Ask 13"
+SOUND = "00 00 00"
+"""What the doctor answers of a sound diskette."""
+MAP_PLACE = 128 * 359
+"""Sector 360."""
+
+
+def _healed(bench: Bench, expected: str, which: int = 0) -> None:
+    """The doctor's answer and list; asked again it finds nothing."""
+    bench.same(bytes.fromhex(expected), bench.doctor(which))
+    bench.same(bytes.fromhex(SOUND), bench.doctor(which))
+
+
+@case(DOCTOR, "HELLO.TXT is sound; a link to 361 is cut and the count set right; first sector 2 makes the flag $80")
+def _(bench: Bench) -> None:
+    bench.lend_diskette(HELLO)
+    bench.same(bytes.fromhex(SOUND), bench.doctor())
+    bench.write_diskette(LINK_PLACE, bytes.fromhex("01 69"))
+    bench.write_diskette(ENTRY_PLACE + 1, b"\x02")
+    _healed(bench, "00 03 00 04 00 7D 01 00 04 00 7E 69 00 69 01 01 02 01")
+    bench.write_diskette(ENTRY_PLACE + 3, b"\x02")
+    _healed(bench, "00 03 00 69 01 00 42 80 68 01 03 C2 C3 68 01 0A 07 0F")
+
+
+@case(DOCTOR, "a second entry in use with first sector 4 is one change: sector 361 place 16, $42 to $80")
+def _(bench: Bench) -> None:
+    bench.lend_diskette(HELLO)
+    bench.write_diskette(ENTRY_PLACE + 16, _entry(b"OTHER      ", 4))
+    _healed(bench, "00 01 00 69 01 10 42 80")
+
+
+@case(DOCTOR, "first sector 0 is an empty file, which is kept: its count, 1, becomes 0; sector 4 is free")
+def _(bench: Bench) -> None:
+    bench.lend_diskette(HELLO)
+    bench.write_diskette(ENTRY_PLACE + 3, b"\x00")
+    _healed(bench, "00 03 00 69 01 01 01 00 68 01 03 C2 C3 68 01 0A 07 0F")
+
+
+@case(DOCTOR, "an image of zeros: 91 changes, the free count 707 and 89 bytes of the map; sector 0's bit stays")
+def _(bench: Bench) -> None:
+    bench.lend_diskette()
+    expected = bytes.fromhex("00 5B 00 68 01 03 00 C3 68 01 04 00 02")
+    for place, byte in enumerate(b"\x0f" + b"\xff" * 44 + b"\x00\x7f" + b"\xff" * 43, 10):
+        if byte:
+            expected += bytes([0x68, 0x01, place, 0x00, byte])
+    _healed(bench, expected.hex())
+    bench.lend_diskette()
+    bench.write_diskette(MAP_PLACE + 10, b"\x80")
+    bench.same(bytes.fromhex("68 01 0A 80 8F"), bench.doctor()[13:18])
+
+
+@case(DOCTOR, "what a file is cut before: 720, reserved, its own sector, an earlier file's, another number, count 126")
+def _(bench: Bench) -> None:
+    names = (NAME, b"OTHER      ")
+    for link, sectors in (
+        (720, {}),
+        (1_023, {}),
+        (1, {1: _sector(1, 0, b"B")}),
+        (360, {}),
+        (368, {}),
+        (5, {}),
+        (4, {}),
+        (6, {6: _sector(2, 0, b"B")}),
+        (6, {6: _sector(1, 0, b"B", 126)}),
+    ):
+        held = {4: _sector(0, 0, b"A"), 5: _sector(1, link, b"B"), **sectors}
+        lent = bytearray(_diskette([_entry(name, 4 + number) for number, name in enumerate(names)], held))
+        lent[MAP_PLACE + 3], lent[MAP_PLACE + 10] = 0xC1, 0x03
+        bench.lend_diskette(bytes(lent))
+        expected = bytes([5, 0, 125, 4 + link // 256, 4]) if link > 255 else b""
+        expected += bytes([5, 0, 126, link % 256, 0]) if link % 256 else b""
+        _healed(bench, (b"\0" + (len(expected) // 5).to_bytes(2, "little") + expected).hex())
+
+
+@case(DOCTOR, "348 changes: 64 files each cut by both bytes of its link and its count, and all of sector 360's")
+def _(bench: Bench) -> None:
+    """The files have sectors 4 to 67, each linked to 1,023; the map is what no byte of the right one is."""
+    entries = [_entry(b"FILE%-7d" % number, 4 + number, count=0xFFFF) for number in range(64)]
+    lent = bytearray(_diskette(entries, {4 + number: _sector(number, 1_023, b"A") for number in range(64)}))
+    right = bytearray(90)
+    for number in (*range(68, 360), *range(369, 720)):
+        right[number // 8] |= 0x80 >> number % 8
+    free = 719 - 12 - 64
+    lent[MAP_PLACE + 3 : MAP_PLACE + 5] = bytes([free % 256 ^ 0xFF, free // 256 ^ 0xFF])
+    lent[MAP_PLACE + 10 : MAP_PLACE + 100] = bytes(byte ^ 0x55 for byte in right)
+    bench.lend_diskette(bytes(lent))
+    expected = b"\0\x5c\x01"
+    for number in range(64):
+        sector = bytes([4 + number, 0])
+        expected += sector + bytes([125, 4 * number + 3, 4 * number]) + sector + bytes([126, 0xFF, 0])
+        entry, place = bytes([0x69 + number // 8, 0x01]), 16 * (number % 8)
+        expected += entry + bytes([place + 1, 0xFF, 1]) + entry + bytes([place + 2, 0xFF, 0])
+    for place, byte in ((3, free % 256), (4, free // 256)):
+        expected += bytes([0x68, 0x01, place, byte ^ 0xFF, byte])
+    for place, byte in enumerate(right, 10):
+        expected += bytes([0x68, 0x01, place, byte ^ 0x55, byte])
+    _healed(bench, expected.hex())
+
+
+@case(DOCTOR, "entries behind the end are not walked, deleted ones claim nothing, locked ones are walked")
+def _(bench: Bench) -> None:
+    flags = (0x80, 0x62, 0x00, 0x42)
+    entries = [_entry(b"FILE%d      " % number, 4, flag=flag) for number, flag in enumerate(flags)]
+    bench.lend_diskette(_diskette(entries, {4: _sector(1, 0, b"A")}))
+    bench.same(bytes.fromhex(SOUND), bench.doctor())
+    bench.write_diskette(ENTRY_PLACE + 16 + 3, b"\x05")
+    _healed(bench, "00 03 00 69 01 10 62 80 68 01 03 C2 C3 68 01 0A 07 0F")
+
+
+@case(DOCTOR, "each of the four diskettes is its own; from 4 on there is none: 01 00 00, and nothing is changed")
+def _(bench: Bench) -> None:
+    for drive in range(1, script.DRIVES + 1):
+        bench.lend_diskette(HELLO, drive)
+        bench.write_diskette(ENTRY_PLACE + 1, bytes([1 + drive]), drive)
+    for which in (4, 5, 255):
+        bench.same(bytes.fromhex("01 00 00"), bench.doctor(which))
+    for which in (2, 0, 3, 1):
+        _healed(bench, f"00 01 00 69 01 01 {2 + which:02X} 01", which)
+    for drive in range(2, script.DRIVES + 1):
+        bench.lend_diskette(drive=drive)

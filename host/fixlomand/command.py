@@ -8,7 +8,7 @@ import sys
 from collections.abc import Callable
 from pathlib import Path
 
-from . import __version__, cases, cassette, demo, diskette, files, picture, screen, script, tape, toolchain
+from . import __version__, cases, cassette, demo, diskette, doctor, files, picture, screen, script, tape, toolchain
 from .deck import Deck
 from .drives import Drives
 from .errors import StickError
@@ -36,13 +36,16 @@ stick: the I/O half of an Atari 400/800 between a laptop and a phone
                        (stick tape --help)
   stick disk ..        diskettes in files: import, export, list, read, make
                        (stick disk --help)
+  stick doctor IMAGE   what is wrong with a diskette, file by file; --write
+                       repairs it, --undo LIST takes that back
+                       (stick doctor --help)
   stick --unproved ..  the same words without the wait for a proof: the sources
                        are compiled without it, and every screen says so
   stick --help         this text; stick --version
 
 A call script has one op a line; # begins a comment (more: stick play --help):
   fresh | take PORT BYTES | tick PORT [x N] | give PORT [x N] | press CODE
-  lend BUFFER N | write BUFFER AT BYTES | dump [tape] | raw BYTES
+  lend BUFFER N | write BUFFER AT BYTES | dump [tape] | doctor N | raw BYTES
                                            (BYTES and CODE are hexadecimal)
 
 What is needed is proved and built first; {toolchain.OVERRIDE} names another
@@ -61,7 +64,7 @@ def main(words: list[str]) -> int:
         status = _run(words)
         sys.stdout.flush()
         return status
-    except (Usage, Missing, script.ScriptError) as error:
+    except (Usage, Missing, doctor.Trouble, script.ScriptError) as error:
         return _fail(str(error), 2)
     except BrokenPipeError:
         return _fail("standard output was closed before the end", 1)
@@ -120,6 +123,7 @@ def _run(words: list[str]) -> int:
         "cases": _cases,
         "tape": _tape,
         "disk": _disk,
+        "doctor": _doctor,
     }
     if word not in commands:
         raise Usage(f"unknown word '{word}' (try ./stick --help)")
@@ -200,7 +204,7 @@ def _play(words: list[str]) -> int:
     )
     for line in script.format_answers(ops, done.stdout, _shown):
         print(line)
-    if len(done.stdout) < sum(op.output for op in ops):
+    if any(len(piece) < script.written(op, piece) for op, piece in zip(ops, script.pieces(ops, done.stdout))):
         raise StickError("play ended before the script did")
     return 0
 
@@ -238,6 +242,10 @@ def _tape(words: list[str]) -> int:
 
 def _disk(words: list[str]) -> int:
     return diskette.run(words, say)
+
+
+def _doctor(words: list[str]) -> int:
+    return doctor.run(words, say)
 
 
 # files

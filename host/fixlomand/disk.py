@@ -88,6 +88,28 @@ def files_of(image: bytes) -> list[Entry]:
     return found
 
 
+def file_of(image: bytes, number: int) -> int:
+    """The file that a sector says it is of."""
+    return sector(image, number)[DATA] >> 2
+
+
+def link_of(image: bytes, number: int) -> int:
+    """The sector that a sector leads to; 0 is none."""
+    data = sector(image, number)
+    return (data[DATA] & 3) << 8 | data[DATA + 1]
+
+
+def chain_of(image: bytes, entry: Entry) -> tuple[int, ...]:
+    """The sectors of a file that hangs together; of another, those before the
+    first that is above the last one or comes again."""
+    chain: dict[int, None] = {}
+    number = entry.first
+    while 0 < number <= LAST_SECTOR and number not in chain:
+        chain[number] = None
+        number = link_of(image, number)
+    return tuple(chain)
+
+
 def free_of(image: bytes) -> int:
     """How many sectors the diskette says are free."""
     return int.from_bytes(sector(image, MAP_SECTOR)[3:5], "little")
@@ -117,14 +139,14 @@ def fault_of(image: bytes, entry: Entry) -> Fault | None:
             why = f"above {LAST_SECTOR}"
         elif begun > LAST_SECTOR:
             why = f"the {begun}th of the file, and there are {LAST_SECTOR}: a ring"
-        elif data[DATA] >> 2 != entry.number:
-            why = f"file number {data[DATA] >> 2}, not {entry.number}"
+        elif file_of(image, number) != entry.number:
+            why = f"file number {file_of(image, number)}, not {entry.number}"
         elif data[DATA + 2] > DATA:
             why = f"data count {data[DATA + 2]}, above {DATA}"
         if why:
             return Fault(number, why, before)
         before += data[DATA + 2]
-        number = (data[DATA] & 3) << 8 | data[DATA + 1]
+        number = link_of(image, number)
     return None
 
 

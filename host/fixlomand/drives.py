@@ -8,10 +8,38 @@ from __future__ import annotations
 
 import os
 from collections.abc import Mapping
+from dataclasses import dataclass
 
 from . import atr, disk, files, script
 from .errors import StickError
 from .play import Player
+
+
+@dataclass(frozen=True)
+class Filed:
+    """A file with a diskette: all its bytes, and the image among them."""
+
+    data: bytes
+
+    @property
+    def is_atr(self) -> bool:
+        """Whether there is a header before the image."""
+        return len(self.data) != script.IMAGE
+
+    @property
+    def begin(self) -> int:
+        """Where the image begins."""
+        return atr.HEADER if self.is_atr else 0
+
+    @property
+    def image(self) -> bytes:
+        """The diskette's bytes."""
+        return self.data[self.begin : self.begin + script.IMAGE]
+
+    def holding(self, image: bytes) -> bytes:
+        """The bytes of such a file with another image; what is around it
+        stays."""
+        return self.data[: self.begin] + image + self.data[self.begin + script.IMAGE :]
 
 
 def is_atr(file: str) -> bool:
@@ -21,11 +49,18 @@ def is_atr(file: str) -> bool:
 
 def read(file: str) -> bytes:
     """Reads an image from a file of either kind."""
+    return read_filed(file).image
+
+
+def read_filed(file: str) -> Filed:
+    """Reads a file of either kind, with all that is in it."""
     data = files.read(file)
+    check = atr.parse if is_atr(file) else atr.image_of
     try:
-        return atr.parse(data) if is_atr(file) else atr.image_of(data)
+        check(data)
     except atr.Refused as refused:
         raise StickError(f"{file}: {refused}") from None
+    return Filed(data)
 
 
 def write(file: str, image: bytes) -> None:

@@ -1,5 +1,5 @@
-"""What the words ``live``, ``play``, ``tape`` and ``disk`` of the command say
-of themselves."""
+"""What the words ``live``, ``play``, ``tape``, ``disk`` and ``doctor`` of the
+command say of themselves."""
 
 LIVE_HELP = """\
 stick live [--speed N] [--log FILE] [--tape FILE] [--disk N=FILE]..: the stick
@@ -52,12 +52,14 @@ SCRIPT is a file, or - for standard input: one op a line; # begins a comment.
                       writes bytes into a buffer from byte AT on: no call
   dump [tape]         shows all numbers, and screen and paper as text; with
                       tape, the tape's records and where its head stands
+  doctor N            repairs diskette N, and shows what was changed: no call
   raw BYTES           bytes of the script as they are: no op, or a part of one
 
 PORT is 0 or 1 (2 to 255 can be tried: the stick refuses them). BYTES and CODE
-are hexadecimal, 00 to FF. N is 0 to 65535, LENGTH and AT 0 to 16777215. BUFFER
-is 0 or area, 1 or screen, 2 or paper, 3 or state, 4 or tape, 6 or images (the
-four diskettes, D1 first, 92160 bytes each); state cannot be written.
+are hexadecimal, 00 to FF. N is 0 to 65535, of a diskette 0 to 3, D1 to D4 (up
+to 255 can be tried). LENGTH and AT are 0 to 16777215. BUFFER is 0 or area, 1 or
+screen, 2 or paper, 3 or state, 4 or tape, 6 or images (the four diskettes, D1
+first, 92160 bytes each); state cannot be written.
 
 To LOAD "E:" and an EOL at 0:
   take 0 11 05 00 00 00 45 3A 9B
@@ -166,7 +168,8 @@ An IMAGE is a file of 92160 bytes, 720 sectors of 128 as DOS 2.0S writes them
 be an .atr file. Diskettes of other sizes are refused, by their names. Files are
 written as new ones that are then renamed: an older one stays until then.
 Import, export and make look at the files alone; list and read are hosts at the
-stick, which is proved and built first.
+stick, which is proved and built first. What is wrong with a diskette, stick
+doctor tells and repairs.
 
 stick disk WORD --help tells more. stick live --disk N=FILE puts a diskette in.
 """
@@ -227,6 +230,40 @@ as an ATR file if its name ends in .atr.
   --text     newlines become EOLs
 """
 
+DOCTOR_HELP = """\
+stick doctor IMAGE [--write [--force]]: what is wrong with a diskette
+stick doctor [IMAGE] --undo LIST: takes a repair back
+
+Gives a diskette, an IMAGE of 92160 bytes or an .atr file, to the doctor of the
+stick, which is proved and built first, and tells what it would change: in
+words, file by file; byte by byte (sector, place, old, new); and as a map of the
+720 sectors. A file is cut before the first sector that is reserved, another
+file's or its own already, above 719, of another file by its number, or with a
+data count above 125; a file that begins with such a one is deleted. Then the
+sector counts, the free count and the map are set right. IMAGE may be -, for
+standard input. Nothing is written, unless you say so:
+
+  --write      makes the changes. The image as it was is kept as IMAGE.old and
+               the list as IMAGE.list (IMAGE.old.2 and IMAGE.list.2, and so on,
+               where there is one already), and only then IMAGE is replaced by
+               a new file, in one step. Of an .atr file the header stays.
+  --force      with --write, for a diskette that looks like another system's:
+               byte 0 of sector 360 is not 2, or more than half of the files
+               would be cut or deleted. Another system's diskette would be
+               mutilated.
+  --undo LIST  takes the changes of a LIST back, if every byte of them is still
+               the new one; else nothing is written. The image is the one that
+               the LIST names, beside the LIST, or the IMAGE that is given.
+
+In the map # is a reserved sector, . a free one, ! one that a file was cut
+before or that was cut off; a letter, digit, + or = is a file's. NO_COLOR in the
+environment turns its colours off.
+
+The end status is 0 if the diskette is sound, or the changes are made or taken
+back; 1 if there are changes and they are not made; 2 if something is wrong with
+the words or files, so that nothing is done.
+"""
+
 HELPS = {
     "live": LIVE_HELP,
     "play": PLAY_HELP,
@@ -243,4 +280,5 @@ HELPS = {
     "disk list": DISK_LIST_HELP,
     "disk read": DISK_READ_HELP,
     "disk make": DISK_MAKE_HELP,
+    "doctor": DOCTOR_HELP,
 }

@@ -45,12 +45,16 @@ class Player:
                 self._input.flush()
             except OSError as error:
                 raise StickError("play has ended") from error
-            outputs += [self._output.read(op.output) for op in piece]
-        if any(len(output) < op.output for op, output in zip(ops, outputs)):
+            outputs += [self._written(op) for op in piece]
+        if any(len(output) < script.written(op, output) for op, output in zip(ops, outputs)):
             raise StickError("play has ended")
         if self.listener is not None:
             self.listener(ops, outputs)
         return outputs
+
+    def _written(self, op: script.Op) -> bytes:
+        begin = self._output.read(op.output)
+        return begin + self._output.read(script.written(op, begin) - len(begin))
 
     def state(self) -> script.State:
         """What a dump tells."""
@@ -59,6 +63,14 @@ class Player:
     def tape(self) -> script.Tape:
         """What a dump of the tape tells."""
         return script.read_tape(self.do(script.DumpTape())[0])
+
+    def doctor(self, drive: int = 1) -> list[script.Change]:
+        """Repairs the diskette in a drive; what the doctor changed."""
+        output = self.do(script.Doctor(drive - 1))[0]
+        try:
+            return script.read_changes(output)
+        except ValueError as error:
+            raise StickError(f"play's doctor gave {error}") from None
 
     def close(self) -> None:
         """Ends the program."""

@@ -15,6 +15,7 @@ The readable form has one op a line; ``#`` begins a comment::
                              bytes hexadecimal)
     dump                     D
     dump tape                C: the tape, and where its head stands
+    doctor 0                 R: repairs a diskette, 0 to 3 (D1 to D4)
     raw 54 00                bytes as they are (no op, or one that is cut)
 """
 
@@ -26,6 +27,8 @@ from enum import IntEnum
 from itertools import groupby
 from typing import Union
 
+from .text import counted
+
 AREA = 16_384
 SCREEN = 61_440
 PAPER = 4_096
@@ -36,6 +39,8 @@ IMAGE = 92_160
 """The bytes of a diskette: 720 sectors of 128."""
 DRIVES = 4
 IMAGES = DRIVES * IMAGE
+CHANGE = 5
+"""The bytes of a change that the doctor lists: sector (2), place, old, new."""
 
 
 class Buffer(IntEnum):
@@ -65,6 +70,8 @@ ANSWERS = (
     "tick, nothing ready or running",
     "tick, ready, group held by the other port",
 )
+DOCTOR_ANSWERS = ("done", "no such diskette")
+"""The doctor's own answers: it is no call."""
 NUMBERS = (
     ("used", 2),
     ("mode", 1),
@@ -205,6 +212,18 @@ class DumpTape:
 
 
 @dataclass(frozen=True)
+class Doctor:
+    """Repair a diskette: no call. Written are the answer and how many changes
+    there are (2), and behind these the changes."""
+
+    image: int
+    output = 3
+
+    def encode(self) -> bytes:
+        return bytes([ord("R"), self.image])
+
+
+@dataclass(frozen=True)
 class Raw:
     """Bytes that are no op, or a cut one: the run ends here."""
 
@@ -215,7 +234,26 @@ class Raw:
         return self.data
 
 
-Op = Union[Fresh, Take, Tick, Give, Press, Ticks, Lend, Write, Dump, DumpTape, Raw]
+Op = Union[Fresh, Take, Tick, Give, Press, Ticks, Lend, Write, Dump, DumpTape, Doctor, Raw]
+
+
+def written(op: Op, output: bytes) -> int:
+    """How many bytes are written for an op, by those that it begins with."""
+    if isinstance(op, Doctor) and len(output) >= op.output:
+        return op.output + CHANGE * int.from_bytes(output[1:3], "little")
+    return op.output
+
+
+def pieces(ops: Sequence[Op], output: bytes) -> list[bytes]:
+    """What was written for each op, of what was written for all; where that
+    ends early, what there is."""
+    found = []
+    at = 0
+    for op in ops:
+        end = at + written(op, output[at : at + op.output])
+        found.append(output[at:end])
+        at = end
+    return found
 
 
 def to_bytes(ops: Sequence[Op]) -> bytes:
@@ -225,7 +263,7 @@ def to_bytes(ops: Sequence[Op]) -> bytes:
 
 def from_bytes(script: bytes) -> list[Op]:
     """The ops of a script; what ends its run is the last, as ``Raw``."""
-    lengths = {b"F": 1, b"T": 3, b"K": 2, b"G": 2, b"P": 2, b"X": 4, b"L": 5, b"W": 7, b"D": 1, b"C": 1}
+    lengths = {b"F": 1, b"T": 3, b"K": 2, b"G": 2, b"P": 2, b"X": 4, b"L": 5, b"W": 7, b"D": 1, b"C": 1, b"R": 2}
     ops: list[Op] = []
     at = 0
     while at < len(script):
@@ -261,6 +299,8 @@ def _op(letter: bytes, operands: bytes) -> Op:
         return Press(first)
     if letter == b"X":
         return Ticks(first, rest)
+    if letter == b"R":
+        return Doctor(first)
     return Lend(first, rest)
 
 
@@ -290,6 +330,7 @@ FORMS = {
     "lend": "lend BUFFER LENGTH",
     "write": "write BUFFER AT BYTES",
     "dump": "dump [tape]",
+    "doctor": "doctor N",
     "raw": "raw BYTES",
 }
 """The form of each op's line."""
@@ -351,6 +392,8 @@ def _line_ops(words: list[str]) -> list[Op]:
         if len(operands) - 2 > 0xFFFF:
             raise ScriptError(f"{len(operands) - 2} bytes: at most {0xFFFF}")
         return [Write(buffer, at, bytes(_byte("byte", word) for word in operands[2:]))]
+    if name == "doctor" and len(operands) == 1:
+        return [Doctor(_number("diskette", operands[0], 255))]
     if name == "raw" and operands:
         return [Raw(bytes(_byte("byte", word) for word in operands))]
     raise ScriptError(f"{' '.join(words)}: not of the form {FORMS[name]}")
@@ -407,6 +450,8 @@ def _line(op: Op) -> str:
         return "dump"
     if isinstance(op, DumpTape):
         return "dump tape"
+    if isinstance(op, Doctor):
+        return f"doctor {op.image}"
     return f"raw {_hexadecimal(op.encode())}"
 
 
@@ -464,6 +509,28 @@ class Tape:
     """The characters put that are not on the tape."""
 
 
+@dataclass(frozen=True)
+class Change:
+    """A byte of a diskette that the doctor has changed."""
+
+    sector: int
+    """From 1 on."""
+    place: int
+    """In the sector, from 0 on."""
+    old: int
+    new: int
+
+
+def read_changes(output: bytes) -> list[Change]:
+    """Reads what ``doctor`` wrote; ``ValueError`` if it did not repair."""
+    if len(output) < Doctor.output or len(output) != written(Doctor(0), output) or output[0] != 0:
+        raise ValueError(f"no list of changes: {_hexadecimal(output[:Doctor.output])}")
+    return [
+        Change(int.from_bytes(output[at : at + 2], "little"), *output[at + 2 : at + CHANGE])
+        for at in range(Doctor.output, len(output), CHANGE)
+    ]
+
+
 def read_tape(output: bytes) -> Tape:
     """Reads what ``dump tape`` wrote."""
     if len(output) != TAPE_DUMP:
@@ -517,7 +584,7 @@ def answer_text(answer: int) -> str:
 
 def describe(op: Op, output: bytes) -> str:
     """What was written for one op, in words. Cut output says so."""
-    if len(output) < op.output:
+    if len(output) < written(op, output):
         return f"the output ends after {_hexadecimal(output)}" if output else "the output ends"
     if isinstance(op, Give):
         return f"{answer_text(output[0])}, byte {output[1]:02X}"
@@ -529,6 +596,8 @@ def describe(op: Op, output: bytes) -> str:
         return _describe_dump(output)
     if isinstance(op, DumpTape):
         return _describe_tape(read_tape(output))
+    if isinstance(op, Doctor):
+        return _describe_doctor(output)
     return answer_text(output[0])
 
 
@@ -552,30 +621,45 @@ def _describe_tape(tape: Tape) -> str:
     return f"mark {tape.mark} {mark}, record {tape.record}, place {tape.place}"
 
 
+def _describe_doctor(output: bytes) -> str:
+    """The doctor's answer, and how many changes there are."""
+    answer, number = output[0], int.from_bytes(output[1:3], "little")
+    said = DOCTOR_ANSWERS[answer] if answer < len(DOCTOR_ANSWERS) else "no such answer"
+    return f"{answer} {said}, {counted(number, 'change')}"
+
+
+def _changes_shown(output: bytes) -> list[str]:
+    if output[:1] != b"\0":
+        return []
+    return [f"  sector {each.sector} place {each.place}: {each.old:02X} to {each.new:02X}" for each in read_changes(output)]
+
+
 def format_answers(
     ops: Sequence[Op], output: bytes, shown: Callable[[Union[State, Tape]], list[str]] = lambda dump: []
 ) -> list[str]:
     """The lines of a script, each with what was written for it; after a dump
-    the lines that show it."""
+    the lines that show it, and after a doctor its changes."""
     lines = []
-    at = 0
+    rest = iter(pieces(ops, output))
     for line, of_line in _lines(ops):
-        pieces = []
-        for op in of_line:
-            pieces.append((op, output[at : at + op.output]))
-            at += op.output
-        lines.append(f"{line}: {_together(pieces)}" if of_line[0].output else line)
-        if isinstance(of_line[0], Dump) and len(pieces[0][1]) == DUMP:
-            lines += shown(read_dump(pieces[0][1]))
-        if isinstance(of_line[0], DumpTape) and len(pieces[0][1]) == TAPE_DUMP:
-            lines += shown(read_tape(pieces[0][1]))
+        those = [(op, next(rest)) for op in of_line]
+        lines.append(f"{line}: {_together(those)}" if of_line[0].output else line)
+        op, piece = those[0]
+        if len(piece) < written(op, piece):
+            continue
+        if isinstance(op, Dump):
+            lines += shown(read_dump(piece))
+        if isinstance(op, DumpTape):
+            lines += shown(read_tape(piece))
+        if isinstance(op, Doctor):
+            lines += _changes_shown(piece)
     return lines
 
 
-def _together(pieces: list[tuple[Op, bytes]]) -> str:
+def _together(those: list[tuple[Op, bytes]]) -> str:
     """The answers of one line: bytes given in a row, equal answers once."""
-    if len(pieces) > 1 and all(isinstance(op, Give) and len(piece) == 2 and piece[0] == 0 for op, piece in pieces):
-        return f"{answer_text(0)}, bytes {_hexadecimal(bytes(piece[1] for _, piece in pieces))}"
-    answers = [describe(op, piece) for op, piece in pieces]
+    if len(those) > 1 and all(isinstance(op, Give) and len(piece) == 2 and piece[0] == 0 for op, piece in those):
+        return f"{answer_text(0)}, bytes {_hexadecimal(bytes(piece[1] for _, piece in those))}"
+    answers = [describe(op, piece) for op, piece in those]
     runs = [(words, len(list(equal))) for words, equal in groupby(answers)]
     return "; ".join(words if times == 1 else f"{words} (x {times})" for words, times in runs)

@@ -9,14 +9,21 @@ class Usage(StickError):
     """Words that make no sense."""
 
 
-def operands(word: str, words: list[str], count: int, what: str = "no more words", more: int | None = 0) -> None:
+def operands(
+    word: str,
+    words: list[str],
+    count: int,
+    what: str = "no more words",
+    more: int | None = 0,
+    help_word: str = "",
+) -> None:
     """Nothing but so many operands is left, or a few more; or any number."""
     wrong = [each for each in words if each.startswith("-") and each != "-"]
-    help_word = f"{word} --help" if " " in word else "--help"
+    help_word = help_word or (f"{word} --help" if " " in word else "--help")
     if wrong:
         raise Usage(f"{word} has no option '{wrong[0]}' (try ./stick {help_word})")
     if len(words) < count or more is not None and len(words) > count + more:
-        end = " and no more words" if count and more is not None else ""
+        end = " and no more words" if (count or more) and more is not None else ""
         raise Usage(f"{word} takes {what}{end} (try ./stick {help_word})")
 
 

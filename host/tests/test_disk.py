@@ -76,6 +76,23 @@ class Sectors(unittest.TestCase):
             found = disk.first_match(data, name)
             self.assertEqual((name, found and found.number), (name, number))
 
+    def test_chains(self) -> None:
+        """To the end; where a file does not hang together, to there."""
+        for first, sectors, chain in (
+            (0, {}, ()),
+            (4, {4: sector(0, 0, b"HI\x9b")}, (4,)),
+            (4, {4: sector(0, 700, b""), 700: sector(0, 300, b""), 300: sector(0, 0, b"")}, (4, 700, 300)),
+            (719, {719: sector(0, 720, b"")}, (719,)),
+            (4, {4: sector(0, 5, b""), 5: sector(0, 4, b"")}, (4, 5)),
+            (720, {}, ()),
+            (65_535, {}, ()),
+        ):
+            data = image([entry(NAME, first)], sectors)
+            self.assertEqual(disk.chain_of(data, disk.files_of(data)[0]), chain)
+        data = image([], {4: sector(63, 1_023, b""), 5: sector(0, 255, b""), 6: sector(1, 256, b"")})
+        self.assertEqual([disk.file_of(data, number) for number in (4, 5, 6)], [63, 0, 1])
+        self.assertEqual([disk.link_of(data, number) for number in (4, 5, 6)], [1_023, 255, 256])
+
     def test_faults(self) -> None:
         for first, sectors, fault in (
             (4, {4: sector(0, 0, b"HI\x9b")}, None),

@@ -288,7 +288,7 @@ class Functions(unittest.TestCase):
         neither = [f"{source} device_of: device-of-{word} is not gathered" for word in ENDINGS]
         too = [each.replace("device_of", "device_too") for each in no_law]
         judge = [f"judge/src/lib.rt undamaged: undamaged-{word} is not gathered" for word in ENDINGS]
-        calls = [(call, word) for call in ("translate", "fresh", "take", "tick", "give", "press") for word in ENDINGS]
+        calls = [(call, word) for call in ("translate", "doctor", "fresh", "take", "tick", "give", "press") for word in ENDINGS]
         firmware = [f"firmware/src/lib.rt fixlomand_{call}: {call}-{word} is not gathered" for call, word in calls]
         for file, old, new, told in (
             (decided, own, other, no_law[:1]),

@@ -4,7 +4,7 @@ import unittest
 from pathlib import Path
 
 from fixlomand import script
-from fixlomand.script import Dump, DumpTape, Fresh, Give, Lend, Press, Raw, Take, Tape, Tick, Ticks, Write
+from fixlomand.script import Change, Doctor, Dump, DumpTape, Fresh, Give, Lend, Press, Raw, Take, Tape, Tick, Ticks, Write
 
 # The same bytes are tested in the model.
 TEXT = """\
@@ -27,13 +27,14 @@ write images 45952 02
 raw 57 09 FF FF FF 00 00
 dump
 dump tape
+doctor 3
 raw 54 00
 """
 BYTES = bytes.fromhex(
     "46 540011 540005 540000 540000 540000 540045 54003A 54009B 4B00 4700 4700 4700 4700 4700"
     "540110 54FFFF 58012C01 503F 4C00640000 4C035A0200 4C07701101 4C04E88000 4C0600A005"
     "57048400000300 5555FA 570680B300010002 5709FFFFFF0000"
-    "44 43 5400"
+    "44 43 5203 5400"
 )
 
 
@@ -57,7 +58,8 @@ class Forms(unittest.TestCase):
         self.assertEqual(script.parse(script.to_text(ops)), ops)
 
     def test_ops(self) -> None:
-        ops = [Fresh(), Take(1, 2), Tick(3), Give(4), Press(5), Ticks(6, 7), Lend(2, 9), Dump(), DumpTape(), Raw(b"T\0")]
+        ops = [Fresh(), Take(1, 2), Tick(3), Give(4), Press(5), Ticks(6, 7), Lend(2, 9), Dump(), DumpTape(), Doctor(3)]
+        ops.append(Raw(b"T\0"))
         self.assertEqual(script.from_bytes(script.to_bytes(ops)), ops)
 
     def test_writes(self) -> None:
@@ -104,6 +106,10 @@ class Forms(unittest.TestCase):
             "write tape 0 100": "byte 100: at most FF",
             "write tape 0 " + "00 " * 65_536: "65536 bytes: at most 65535",
             "dump disk": "dump disk: not of the form dump [tape]",
+            "doctor": "doctor: not of the form doctor N",
+            "doctor 0 1": "doctor 0 1: not of the form doctor N",
+            "doctor 256": "diskette 256: at most 255",
+            "doctor D1": "diskette D1: not a number",
             "raw": "raw: not of the form raw BYTES",
         }.items():
             with self.assertRaises(script.ScriptError) as caught:
@@ -111,8 +117,9 @@ class Forms(unittest.TestCase):
             self.assertEqual(str(caught.exception), f"line 2: {fault}")
 
     def test_the_limits_are_reached(self) -> None:
-        text = "take 255 FF\ntick 255 x 65535\npress FF\nlend 3 16777215\n"
-        self.assertEqual(script.parse(text), [Take(255, 255), Ticks(255, 65_535), Press(255), Lend(3, 16_777_215)])
+        text = "take 255 FF\ntick 255 x 65535\npress FF\nlend 3 16777215\ndoctor 255\n"
+        ops = [Take(255, 255), Ticks(255, 65_535), Press(255), Lend(3, 16_777_215), Doctor(255)]
+        self.assertEqual(script.parse(text), ops)
 
     def test_a_buffer_that_is_not_there(self) -> None:
         """It can be had as bytes alone, as in a script that is no text."""
@@ -178,6 +185,40 @@ class Answers(unittest.TestCase):
         lines = script.format_answers([DumpTape()], output, lambda tape: [f"mark {tape.mark}"])
         self.assertEqual(lines, ["dump tape: mark 0 closed, record 0, place 0", "mark 0"])
 
+    def test_the_doctor(self) -> None:
+        """Its output is as long as it says; the changes are under its line."""
+        sound, none = bytes(3), bytes.fromhex("01 00 00")
+        listed = bytes.fromhex("00 02 00 04 00 7D 01 00 69 01 01 02 01")
+        for output, words, changes in (
+            (sound, "0 done, 0 changes", []),
+            (listed[:8].replace(b"\x02", b"\x01"), "0 done, 1 change", [Change(4, 125, 1, 0)]),
+            (listed, "0 done, 2 changes", [Change(4, 125, 1, 0), Change(361, 1, 2, 1)]),
+        ):
+            self.assertEqual((script.describe(Doctor(0), output), script.read_changes(output)), (words, changes))
+            self.assertEqual(script.written(Doctor(0), output[:3]), len(output))
+        self.assertEqual(script.describe(Doctor(4), none), "1 no such diskette, 0 changes")
+        self.assertEqual(script.describe(Doctor(4), b"\x02\0\0"), "2 no such answer, 0 changes")
+        for wrong in (none, b"", listed[:2], listed[:-1], listed + b"\0"):
+            self.assertRaises(ValueError, script.read_changes, wrong)
+        for cut in (0, 2, 3, 7, 12):
+            ends = f"the output ends after {listed[:cut].hex(' ').upper()}" if cut else "the output ends"
+            self.assertEqual(script.format_answers([Doctor(0)], listed[:cut]), [f"doctor 0: {ends}"])
+        ops = [Doctor(1), Doctor(0), Fresh(), Doctor(4), Tick(0)]
+        output = sound + listed + b"\0" + none + b"\7"
+        self.assertEqual(script.pieces(ops, output), [sound, listed, b"\0", none, b"\7"])
+        self.assertEqual(
+            script.format_answers(ops, output),
+            [
+                "doctor 1: 0 done, 0 changes",
+                "doctor 0: 0 done, 2 changes",
+                "  sector 4 place 125: 01 to 00",
+                "  sector 361 place 1: 02 to 01",
+                "fresh: 0 done",
+                "doctor 4: 1 no such diskette, 0 changes",
+                "tick 0: 7 tick, nothing ready or running",
+            ],
+        )
+
     def test_a_dump_is_shown_under_its_line(self) -> None:
         lines = script.format_answers([Dump(), Fresh()], dump(p0=7) + b"\0", lambda state: [f"paper {state.used}"])
         self.assertEqual((lines[0][:12], lines[1:]), ("dump: used 7", ["paper 7", "fresh: 0 done"]))
@@ -201,14 +242,16 @@ class Gate(unittest.TestCase):
         for line in self.text.splitlines():
             words, _, note = line.partition("#")
             for op in (ops := script.parse(words)):
-                written = self.output[at : at + op.output]
-                at += op.output
+                written = self.output[at : at + script.written(op, self.output[at : at + op.output])]
+                at += len(written)
                 if isinstance(op, Dump):
                     dumps.append(script.read_dump(written))
                 if isinstance(op, DumpTape):
                     tapes.append(script.read_tape(written))
                 if isinstance(op, Ticks) and note:
                     self.assertEqual(written, int(note).to_bytes(2, "little") + b"\0", line)
+            if ops and isinstance(ops[0], Doctor) and note:
+                self.assertEqual(written.hex(" "), bytes.fromhex(note).hex(" "), line)
             if ops and isinstance(ops[0], Give) and note:
                 given = b"".join(bytes([0, byte]) for byte in bytes.fromhex(note))
                 self.assertEqual(self.output[at - len(given) : at], given, line)

@@ -1,7 +1,8 @@
 //! Plays a script on the model and on the real thing, finds the first op
 //! whose output differs, and shortens a script that differs.
 
-use crate::script::{bytes_of, describe, dump_place, tape_place, Figures, Op, Player};
+use crate::doctor::CHANGE;
+use crate::script::{bytes_of, describe, describe_doctor, dump_place, tape_place, Figures, Op, Player};
 use crate::stick::Phase;
 use std::io::{Read, Write};
 use std::process::{Command, Stdio};
@@ -106,7 +107,8 @@ pub fn compare(ops: &[Op], real: &mut dyn Real) -> Result<(Option<Difference>, F
     for (place, op) in ops.iter().enumerate() {
         expected.clear();
         let more = player.play(op, &mut expected);
-        let written = &got[at.min(got.len())..got.len().min(at + op.output())];
+        let rest = &got[at.min(got.len())..];
+        let written = &rest[..rest.len().min(op.output(rest))];
         if written != expected {
             let (model, real) = in_words(op, &expected, written);
             let ends = expected.starts_with(written);
@@ -126,11 +128,17 @@ pub fn compare(ops: &[Op], real: &mut dyn Real) -> Result<(Option<Difference>, F
     Ok((difference, player.figures))
 }
 
-/// Two outputs of one op in words; of two dumps, the places that differ.
+/// Two outputs of one op in words; of two dumps, the places that differ, and of
+/// two lists of changes what comes behind those that are the same.
 fn in_words(op: &Op, expected: &[u8], written: &[u8]) -> (String, String) {
     let name = match op {
         Op::Dump => dump_place,
         Op::DumpTape => tape_place,
+        Op::Doctor { .. } if written.len() >= op.output(written) => {
+            let changes = expected[3..].chunks(CHANGE).zip(written[3..].chunks(CHANGE));
+            let same = changes.take_while(|(one, other)| one == other).count();
+            return (describe_doctor(expected, same), describe_doctor(written, same));
+        }
         _ => return (describe(op, expected), describe(op, written)),
     };
     if written.len() != expected.len() {
@@ -262,6 +270,7 @@ fn by_values(best: &mut Vec<Op>, real: &mut dyn Real, budget: &mut Budget) {
         let smaller = match best[place] {
             Op::Take { port, byte: 1.. } => vec![Op::Take { port, byte: 0 }],
             Op::Ticks { port, count: 2.. } => vec![Op::Tick { port }],
+            Op::Doctor { image: 1.. } => vec![Op::Doctor { image: 0 }],
             Op::Write { buffer, at, ref bytes } if bytes.len() > 1 => {
                 let (first, second) = bytes.split_at(bytes.len() / 2);
                 let behind = at.saturating_add(first.len() as u32).min(0xFF_FFFF);

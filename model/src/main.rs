@@ -1,7 +1,8 @@
-//! `compare`: random conversations, played by `play` and by the model, must
-//! give the same bytes.
+//! `compare`: random conversations, and damaged diskettes for the doctor,
+//! played by `play` and by the model, must give the same bytes.
 
 use model::compare::{compare, shorten, Budget, Difference, Itself, Program, Real};
+use model::images::{self, CONVERSATIONS, KINDS};
 use model::random::conversation;
 use model::script::{bytes_of, from_text, ops_of, to_text, Figures, Op, Player, DISK_STATUSES, TAPE_STATUSES};
 use std::io::{IsTerminal, Read, Write};
@@ -17,12 +18,15 @@ compare: random conversations on the stick, played by `play` and by the model
                                      (a program and its words, for the shell)
   compare --self [options]           the model against itself, to try the harness
   compare --show [--seed S] [--long] write the script of a seed, compare nothing
+                                     (with --doctor one of the doctor's)
   compare --serve                    be `play`, over the model: script in, output out
 
 options
-  --scripts N      how many scripts (2,000; with --long 20,000)
+  --scripts N      how many scripts (2,000; with --long 20,000; with --doctor 40)
   --seed S         the first script's seed (1); the next has S + 1, and so on
   --long           longer scripts, and more of them
+  --doctor         only the doctor's scripts, of 100 damaged diskettes each;
+                   without it one for each 50 scripts comes behind them
   --script FILE    compare on this script in readable form instead (- is the input)
   --batch N        scripts played by one process (1)
   --jobs N         processes at once (as many as the machine has processors)
@@ -31,8 +35,12 @@ options
 
 A script has one op a line: fresh, take PORT BYTES, tick PORT, tick PORT x N,
 give PORT, give PORT x N, press CODE, lend BUFFER N, write BUFFER AT BYTES,
-dump, dump tape, raw BYTES.
-The end status is 0 for no difference, 1 for a difference, 2 for trouble.";
+dump, dump tape, doctor IMAGE, raw BYTES.
+The end status is 0 for no difference, 1 for a difference, or if of 20 doctor's
+scripts or more some kind of image was not seen, 2 for trouble.";
+
+/// So many of the doctor's scripts must see every kind of image.
+const SEE_ALL: u64 = 20;
 
 struct Options {
     play: Option<String>,
@@ -42,6 +50,7 @@ struct Options {
     scripts: Option<u64>,
     seed: u64,
     long: bool,
+    doctor: bool,
     script: Option<String>,
     batch: u64,
     jobs: usize,
@@ -57,6 +66,7 @@ fn options() -> Result<Option<Options>, String> {
         scripts: None,
         seed: 1,
         long: false,
+        doctor: false,
         script: None,
         batch: 1,
         jobs: std::thread::available_parallelism().map_or(1, usize::from),
@@ -76,6 +86,7 @@ fn options() -> Result<Option<Options>, String> {
             "--scripts" => options.scripts = Some(number(operand()?)?),
             "--seed" => options.seed = number(operand()?)?,
             "--long" => options.long = true,
+            "--doctor" => options.doctor = true,
             "--script" => options.script = Some(operand()?),
             "--batch" => options.batch = number(operand()?)?.max(1),
             "--jobs" => options.jobs = number(operand()?)?.max(1) as usize,
@@ -104,7 +115,8 @@ fn main() -> ExitCode {
         return serve();
     }
     if options.show {
-        print(&to_text(&conversation(options.seed, options.long)));
+        let script = Script { doctor: options.doctor, seed: options.seed };
+        print(&to_text(&script.ops(options.long)));
         return ExitCode::SUCCESS;
     }
     let outcome = match &options.script {
@@ -164,7 +176,7 @@ fn serve() -> ExitCode {
 
 /// Whether the bytes begin an op.
 fn is_cut(bytes: &[u8]) -> bool {
-    matches!(bytes[0], b'T' | b'K' | b'G' | b'P' | b'X' | b'L' | b'W')
+    matches!(bytes[0], b'T' | b'K' | b'G' | b'P' | b'X' | b'L' | b'W' | b'R')
 }
 
 // ---- comparing ----
@@ -192,19 +204,63 @@ fn compare_file(options: &Options, file: &str) -> Result<bool, String> {
     }
 }
 
+/// One of the scripts: a conversation, or one of the doctor's, and its seed.
+#[derive(Clone, Copy, PartialEq, Eq, PartialOrd, Ord)]
+struct Script {
+    doctor: bool,
+    seed: u64,
+}
+
+impl Script {
+    fn ops(self, long: bool) -> Vec<Op> {
+        match self.doctor {
+            true => images::script(self.seed),
+            false => conversation(self.seed, long),
+        }
+    }
+}
+
+/// How many scripts there are: the conversations come first.
+struct Scripts {
+    conversations: u64,
+    doctors: u64,
+}
+
+impl Scripts {
+    fn of(options: &Options) -> Scripts {
+        if options.doctor {
+            return Scripts { conversations: 0, doctors: options.scripts.unwrap_or(40) };
+        }
+        let conversations = options.scripts.unwrap_or(if options.long { 20_000 } else { 2_000 });
+        Scripts { conversations, doctors: conversations / CONVERSATIONS }
+    }
+
+    fn count(&self) -> u64 {
+        self.conversations + self.doctors
+    }
+
+    /// The script at a place; each sort counts its seeds from the first on.
+    fn at(&self, place: u64, first: u64) -> Script {
+        let doctor = place >= self.conversations;
+        let number = if doctor { place - self.conversations } else { place };
+        Script { doctor, seed: first.wrapping_add(number) }
+    }
+}
+
 /// What the workers share.
 struct Work {
     next: AtomicU64,
     stop: AtomicBool,
     figures: Mutex<Figures>,
-    /// The ops that differ and the seed of their script.
-    found: Mutex<Option<(u64, Vec<Op>)>>,
+    /// The ops that differ, and their script.
+    found: Mutex<Option<(Script, Vec<Op>)>>,
     trouble: Mutex<Option<String>>,
 }
 
-/// Compares on the scripts of all seeds; true if none differs.
+/// Compares on the scripts of all seeds; true if none differs, and of enough
+/// of the doctor's scripts each kind of image was seen.
 fn compare_all(options: &Options) -> Result<bool, String> {
-    let scripts = options.scripts.unwrap_or(if options.long { 20_000 } else { 2_000 });
+    let scripts = Scripts::of(options);
     let work = Work {
         next: AtomicU64::new(0),
         stop: AtomicBool::new(false),
@@ -214,8 +270,8 @@ fn compare_all(options: &Options) -> Result<bool, String> {
     };
     let begin = Instant::now();
     std::thread::scope(|scope| {
-        let workers: Vec<_> = (0..options.jobs).map(|_| scope.spawn(|| worker(options, scripts, &work))).collect();
-        show_progress(scripts, &work, || workers.iter().all(|worker| worker.is_finished()));
+        let workers: Vec<_> = (0..options.jobs).map(|_| scope.spawn(|| worker(options, &scripts, &work))).collect();
+        show_progress(scripts.count(), &work, || workers.iter().all(|worker| worker.is_finished()));
     });
     if let Some(trouble) = work.trouble.into_inner().expect("no worker panics") {
         return Err(trouble);
@@ -224,17 +280,27 @@ fn compare_all(options: &Options) -> Result<bool, String> {
     print(&in_figures(&figures));
     let seconds = begin.elapsed().as_secs_f64();
     print(&format!("{seconds:.1} s, {:.0} scripts a second\n", figures.scripts as f64 / seconds.max(0.001)));
-    let Some((seed, ops)) = work.found.into_inner().expect("no worker panics") else {
-        print(&format!(
-            "no difference (seeds {} to {})\n",
-            options.seed,
-            options.seed.wrapping_add(scripts.max(1) - 1)
-        ));
+    let Some((script, ops)) = work.found.into_inner().expect("no worker panics") else {
+        print(&format!("no difference (seeds {} to", options.seed));
+        let last = |count: u64| options.seed.wrapping_add(count.max(1) - 1);
+        match (scripts.conversations, scripts.doctors) {
+            (0, doctors) => print(&format!(" {} of the doctor's)\n", last(doctors))),
+            (conversations, 0) => print(&format!(" {})\n", last(conversations))),
+            (conversations, doctors) => {
+                print(&format!(" {}, and to {} of the doctor's)\n", last(conversations), last(doctors)));
+            }
+        }
+        let unseen: Vec<&str> = KINDS.into_iter().filter(|kind| !figures.kinds.contains_key(kind)).collect();
+        if scripts.doctors >= SEE_ALL && !unseen.is_empty() {
+            print(&format!("NOT SEEN by the doctor: {}\n", unseen.join(", ")));
+            return Ok(false);
+        }
         return Ok(true);
     };
     let mut real = real(options);
-    print(&format!("\nDIFFERENCE at seed {seed}"));
-    print(&format!(" (again: --seed {seed} --scripts 1{})\n", if options.long { " --long" } else { "" }));
+    let (seed, doctor) = (script.seed, if script.doctor { " --doctor" } else { "" });
+    let long = if options.long && !script.doctor { " --long" } else { "" };
+    print(&format!("\nDIFFERENCE at seed {seed} (again: --seed {seed} --scripts 1{doctor}{long})\n"));
     match compare(&ops, real.as_mut())? {
         (Some(difference), _) => print(&report(&ops, &difference, real.as_mut())),
         (None, _) => print("it did not come again when the same script was played once more\n"),
@@ -242,15 +308,15 @@ fn compare_all(options: &Options) -> Result<bool, String> {
     Ok(false)
 }
 
-fn worker(options: &Options, scripts: u64, work: &Work) {
+fn worker(options: &Options, scripts: &Scripts, work: &Work) {
     let mut real = real(options);
     while !work.stop.load(Ordering::Relaxed) {
         let from = work.next.fetch_add(options.batch, Ordering::Relaxed);
-        if from >= scripts {
+        if from >= scripts.count() {
             return;
         }
-        let seeds = (from..scripts.min(from + options.batch)).map(|place| options.seed.wrapping_add(place));
-        for (seed, ops) in batches(seeds, options.long) {
+        let places = from..scripts.count().min(from + options.batch);
+        for (numbers, ops) in batches(places.map(|place| scripts.at(place, options.seed)), options.long) {
             let mut figures = Figures { scripts: ops.len() as u64, ..Figures::default() };
             let whole = joined(&ops);
             match compare(&whole, real.as_mut()) {
@@ -260,11 +326,11 @@ fn worker(options: &Options, scripts: u64, work: &Work) {
                     if difference.is_some() {
                         let mut found = work.found.lock().expect("no worker panics");
                         // The script alone, if it differs alone.
-                        let alone = ops.iter().zip(seed..).find_map(|(script, seed)| {
+                        let alone = numbers.iter().zip(&ops).find_map(|(number, script)| {
                             let differs = matches!(compare(script, real.as_mut()), Ok((Some(_), _)));
-                            differs.then(|| (seed, script.clone()))
+                            differs.then(|| (*number, script.clone()))
                         });
-                        let this = alone.unwrap_or((seed, whole));
+                        let this = alone.unwrap_or((numbers[0], whole));
                         if found.as_ref().is_none_or(|(earlier, _)| this.0 < *earlier) {
                             *found = Some(this);
                         }
@@ -280,17 +346,20 @@ fn worker(options: &Options, scripts: u64, work: &Work) {
     }
 }
 
-/// The scripts of some seeds, with the first seed of each batch. A script
-/// that ends its run is the last of its batch.
-fn batches(seeds: impl Iterator<Item = u64>, long: bool) -> Vec<(u64, Vec<Vec<Op>>)> {
-    let mut batches: Vec<(u64, Vec<Vec<Op>>)> = Vec::new();
+/// Scripts by batches. One that ends its run is the last of its batch, and each
+/// of the doctor's is a batch of its own.
+fn batches(scripts: impl Iterator<Item = Script>, long: bool) -> Vec<(Vec<Script>, Vec<Vec<Op>>)> {
+    let mut batches: Vec<(Vec<Script>, Vec<Vec<Op>>)> = Vec::new();
     let mut open = false;
-    for seed in seeds {
-        let ops = conversation(seed, long);
-        let ends = matches!(ops.last(), Some(Op::Raw(_)));
+    for script in scripts {
+        let ops = script.ops(long);
+        let ends = script.doctor || matches!(ops.last(), Some(Op::Raw(_)));
         match batches.last_mut() {
-            Some((_, scripts)) if open => scripts.push(ops),
-            _ => batches.push((seed, vec![ops])),
+            Some((numbers, batch)) if open && !script.doctor => {
+                numbers.push(script);
+                batch.push(ops);
+            }
+            _ => batches.push((vec![script], vec![ops])),
         }
         open = !ends;
     }
@@ -369,6 +438,12 @@ fn in_figures(figures: &Figures) -> String {
         }
         text.push_str(&format!(" answered 8: {}", commas(waits)));
     }
+    text.push_str(&format!("\nof the doctor, {} images:", commas(figures.doctors)));
+    for kind in KINDS {
+        let count = figures.kinds.get(kind).copied().unwrap_or(0);
+        text.push_str(&format!(" {kind}: {},", commas(count)));
+    }
+    text.pop();
     text.push('\n');
     text
 }

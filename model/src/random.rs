@@ -9,6 +9,8 @@
 //! Tapes are laid by `W`, record by record with right checksums, and then a
 //! few bytes of them are damaged: bytes at random would be no records at all.
 //! So are diskettes, file by file; of an image only the sectors that files have.
+//! The doctor is asked now and then, before, between and during reads; scripts
+//! that are about it alone are those of `images`.
 
 use crate::diskette::{chain_of_all, entry_at, link, sector_at, Diskette};
 use crate::script::{Op, Player, BUFFERS};
@@ -98,7 +100,7 @@ const NAMES: [&[u8]; 12] =
     [b"A", b"B", b"AB", b"ABC", b"HELLO", b"HELP", b"GAME", b"DOS", b"ABCDEFG", b"ABCDEFGH", b"ABCDEFGI", b"12345678"];
 const EXTENSIONS: [&[u8]; 8] = [b"", b"", b"T", b"TX", b"TXT", b"TXU", b"BAS", b"SYS"];
 /// Flags of entries: in use, locked, open for output; deleted, whatever else; neither.
-const FLAGS: [u8; 20] = [
+pub const FLAGS: [u8; 20] = [
     0x42, 0x42, 0x42, 0x42, 0x42, 0x42, 0x42, 0x40, 0x62, 0x62, 0x60, 0x43, 0x7F, 0x80, 0x80, 0x82, 0xC2, 0xE2, 0x22,
     0x01,
 ];
@@ -198,6 +200,10 @@ impl Maker {
             let end = self.player.stick.next_on_disk(drive, place) == Err(END_OF_FILE);
             if self.random.chance(if end { 500 } else { 150 }) {
                 self.meddle_at(drive, place);
+                // What was damaged is cut, or read as it lies.
+                if self.random.chance(150) {
+                    self.play(Op::Doctor { image: drive as u8 });
+                }
             } else if !end && self.random.chance(200) {
                 // Up to the last character.
                 let count = self.left(drive, place, 300) as u16;
@@ -278,7 +284,7 @@ impl Maker {
     /// Something beside the conversations.
     fn noise(&mut self) {
         let port = self.random.below(2) as u8;
-        match self.random.weigh(&[30, 8, 8, 8, 8, 10, 2, 8, 8]) {
+        match self.random.weigh(&[30, 8, 8, 8, 8, 10, 2, 8, 8, 6]) {
             0 => self.press(),
             1 => {
                 let port = self.random.pick(&[2, 3, 127, 128, 255]);
@@ -305,8 +311,20 @@ impl Maker {
             5 => self.cut(),
             6 => self.fresh(),
             7 => self.dump(),
-            _ => self.meddle(),
+            8 => self.meddle(),
+            _ => self.doctor(),
         }
+    }
+
+    /// The doctor, mostly on an image that a block has open; at times on none.
+    fn doctor(&mut self) {
+        let places = self.open_places();
+        let image = match self.random.weigh(&[60, 30, 10]) {
+            0 if !places.is_empty() => self.random.pick(&places).0,
+            0 | 1 => self.random.below(DRIVES),
+            _ => self.random.pick(&[DRIVES, DRIVES, DRIVES + 1, 127, 255]),
+        };
+        self.play(Op::Doctor { image: image as u8 });
     }
 
     fn press(&mut self) {
@@ -330,6 +348,9 @@ impl Maker {
         }
         if self.random.chance(100) {
             self.meddle();
+        }
+        if self.random.chance(100) {
+            self.doctor();
         }
         for _ in 0..=self.random.below(5) {
             let port = self.random.pick(&[0, 1, 0, 1, 0, 1, 2, 255]);
@@ -420,10 +441,11 @@ impl Maker {
         self.play(Op::DumpTape);
         // Another op, or one that is cut, ends the run.
         if self.random.chance(30) {
-            let tails: [&[u8]; 11] = [
+            let tails: [&[u8]; 12] = [
                 b"T",
                 b"T\0",
                 b"K",
+                b"R",
                 b"X\0\0",
                 b"L\0\0\0",
                 b"W\x04\0\0\0\0",
@@ -1329,6 +1351,9 @@ impl Maker {
                 if self.random.chance(350) {
                     self.meddle_at(file.drive(), place);
                 }
+                if self.random.chance(80) {
+                    self.play(Op::Doctor { image: file.drive() as u8 });
+                }
                 match place {
                     Place::File { .. } => self.read_disk(iocb, file.drive(), Some(place)),
                     Place::Directory { .. } => self.read_listing(iocb, file.drive()),
@@ -1378,6 +1403,9 @@ impl Maker {
             for _ in 0..1 + self.random.below(3) {
                 self.spoil_diskette(drive);
             }
+        }
+        if self.random.chance(200) {
+            self.play(Op::Doctor { image: drive as u8 });
         }
     }
 

@@ -15,9 +15,12 @@
 //! write tape 132 55 55     W: these bytes into the buffer from there on
 //! dump                     D
 //! dump tape                C
+//! doctor 0                 R: the doctor on that image, 0 that of D1
 //! raw 54 00                bytes as they are (no op, or one that is cut)
 //! ```
 
+use crate::doctor::{doctor, Change, CHANGE, LIST, REFUSED};
+use crate::images::kinds;
 use crate::stick::*;
 use std::collections::BTreeMap;
 
@@ -55,6 +58,10 @@ pub enum Op {
     },
     Dump,
     DumpTape,
+    /// The doctor on an image of the lent ones, 0 the first.
+    Doctor {
+        image: u8,
+    },
     /// Bytes that are no op, or a cut one: the run ends here.
     Raw(Vec<u8>),
 }
@@ -118,12 +125,14 @@ impl Op {
             }
             Op::Dump => vec![b'D'],
             Op::DumpTape => vec![b'C'],
+            Op::Doctor { image } => vec![b'R', *image],
             Op::Raw(bytes) => bytes.clone(),
         }
     }
 
-    /// How many bytes `play` writes for the op.
-    pub fn output(&self) -> usize {
+    /// How many bytes `play` writes for the op; of the doctor, what it has
+    /// written tells: "answer, number (2), five bytes a change".
+    pub fn output(&self, written: &[u8]) -> usize {
         match self {
             Op::Fresh | Op::Take { .. } | Op::Tick { .. } | Op::Press { .. } => 1,
             Op::Give { .. } => 2,
@@ -131,6 +140,10 @@ impl Op {
             Op::Lend { .. } | Op::Write { .. } | Op::Raw(_) => 0,
             Op::Dump => DUMP,
             Op::DumpTape => TAPE_DUMP,
+            Op::Doctor { .. } => match *written {
+                [_, low, high, ..] => 3 + CHANGE * usize::from(u16::from_le_bytes([low, high])),
+                _ => 3,
+            },
         }
     }
 
@@ -170,6 +183,7 @@ pub fn ops_of(script: &[u8]) -> Vec<Op> {
             }
             [b'D', ..] => (Op::Dump, 1),
             [b'C', ..] => (Op::DumpTape, 1),
+            [b'R', image, ..] => (Op::Doctor { image }, 2),
             _ => (Op::Raw(rest.to_vec()), rest.len()),
         };
         ops.push(op);
@@ -195,6 +209,9 @@ pub struct Figures {
     /// The same of CALLs about D, by their specification's letter where it is not good.
     pub disk: BTreeMap<u8, u64>,
     pub disk_waits: u64,
+    /// How often the doctor was asked, and what the images had for it.
+    pub doctors: u64,
+    pub kinds: BTreeMap<&'static str, u64>,
 }
 
 /// The statuses that a CALL about C can have.
@@ -249,6 +266,10 @@ impl Figures {
             *self.disk.entry(*status).or_default() += count;
         }
         self.disk_waits += other.disk_waits;
+        self.doctors += other.doctors;
+        for (kind, count) in &other.kinds {
+            *self.kinds.entry(kind).or_default() += count;
+        }
     }
 }
 
@@ -307,6 +328,7 @@ impl Player {
             Op::Write { buffer, at, ref bytes } => self.write(buffer, at as usize, bytes),
             Op::Dump => dump(&self.stick, output),
             Op::DumpTape => dump_tape(&self.stick, output),
+            Op::Doctor { image } => self.doctor(usize::from(image), output),
             Op::Raw(_) => return false,
         }
         true
@@ -326,6 +348,25 @@ impl Player {
         for (cell, byte) in buffer.iter_mut().skip(at).zip(bytes) {
             *cell = *byte;
         }
+    }
+
+    /// "The doctor on image n (0 to 3) of buffer 6: answer, number (2), five
+    /// bytes a change; n above 3: `01 00 00`. No call": how much of the buffer
+    /// is lent does not matter.
+    fn doctor(&mut self, image: usize, output: &mut Vec<u8>) {
+        self.figures.doctors += 1;
+        let Some(image) = self.stick.images.chunks_mut(IMAGE).nth(image) else {
+            *self.figures.kinds.entry("no such image").or_default() += 1;
+            return output.extend([REFUSED, 0, 0]);
+        };
+        for kind in kinds(image) {
+            *self.figures.kinds.entry(kind).or_default() += 1;
+        }
+        let mut list = [0; LIST];
+        let (answer, changes) = doctor(image, &mut list);
+        output.push(answer);
+        output.extend((changes as u16).to_le_bytes());
+        output.extend(&list[..CHANGE * changes]);
     }
 
     fn runs(&self, port: u8) -> bool {
@@ -497,6 +538,7 @@ pub fn to_text(ops: &[Op]) -> String {
             Op::Write { buffer, at, bytes } => format!("write {} {at}{}", buffer_name(*buffer), hexadecimal(bytes)),
             Op::Dump => "dump".to_string(),
             Op::DumpTape => "dump tape".to_string(),
+            Op::Doctor { image } => format!("doctor {image}"),
             Op::Raw(bytes) => format!("raw{}", hexadecimal(bytes)),
         };
         text.push_str(&line);
@@ -550,6 +592,7 @@ fn line_bytes(words: &[&str]) -> Option<Vec<u8>> {
         }
         ["dump"] => vec![Op::Dump],
         ["dump", "tape"] => vec![Op::DumpTape],
+        ["doctor", image] => vec![Op::Doctor { image: image.parse().ok()? }],
         ["raw", ref bytes @ ..] if !bytes.is_empty() => {
             vec![Op::Raw(bytes.iter().map(|word| byte(word)).collect::<Option<Vec<u8>>>()?)]
         }
@@ -565,11 +608,12 @@ fn answer_text(answer: u8) -> String {
 
 /// What was written for one op, in words. Output that is cut short says so.
 pub fn describe(op: &Op, output: &[u8]) -> String {
-    if output.len() < op.output() {
-        return format!(
-            "the output ends{}",
-            if output.is_empty() { String::new() } else { " after".to_string() + &hexadecimal(output) }
-        );
+    if output.len() < op.output(output) {
+        // Of a long output its beginning.
+        let (shown, more) = output.split_at(output.len().min(32));
+        let more = if more.is_empty() { String::new() } else { format!(" and {} bytes more", more.len()) };
+        let after = if output.is_empty() { String::new() } else { " after".to_string() + &hexadecimal(shown) };
+        return format!("the output ends{after}{more}");
     }
     match op {
         Op::Fresh | Op::Take { .. } | Op::Tick { .. } | Op::Press { .. } => answer_text(output[0]),
@@ -580,7 +624,27 @@ pub fn describe(op: &Op, output: &[u8]) -> String {
         Op::Lend { .. } | Op::Write { .. } | Op::Raw(_) => "nothing".to_string(),
         Op::Dump => describe_dump(output),
         Op::DumpTape => describe_tape(output),
+        Op::Doctor { .. } => describe_doctor(output, 0),
     }
+}
+
+/// The doctor's answer and its changes, the first few from one of them on.
+pub fn describe_doctor(output: &[u8], from: usize) -> String {
+    const SHOWN: usize = 8;
+    let number = usize::from(u16::from_le_bytes([output[1], output[2]]));
+    let changes = output[3..].chunks(CHANGE).skip(from).map(Change::of);
+    let in_words = |change: Change| {
+        format!("sector {} place {}: {:02X} to {:02X}", change.sector, change.place, change.old, change.new)
+    };
+    let mut words = vec![format!("answer {}, {number} changes", output[0])];
+    if from > 0 {
+        words.push(format!("behind {from} of them"));
+    }
+    words.extend(changes.take(SHOWN).map(in_words));
+    if number > from + SHOWN {
+        words.push(format!("and {} more", number - from - SHOWN));
+    }
+    words.join("; ")
 }
 
 /// The numbers of a dump of the tape; its bytes and what is pending are left out.

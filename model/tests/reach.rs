@@ -5,7 +5,7 @@ use model::diskette::{is_reserved, link, sector_at, Diskette};
 use model::random::{call, conversation, fetch, field, load};
 use model::script::{Figures, Op, Player, DISK_STATUSES, TAPE_STATUSES};
 use model::stick::*;
-use std::collections::BTreeMap;
+use std::collections::{BTreeMap, BTreeSet};
 
 /// The scripts of `./test`: so many, from the seed on that `compare` has where none is said.
 const SCRIPTS: u64 = 2_000;
@@ -130,6 +130,7 @@ fn boundaries() -> Vec<String> {
     all.extend(warning_boundaries());
     all.extend(disk_boundaries());
     all.extend(file_boundaries());
+    all.extend(doctor_boundaries());
     all
 }
 
@@ -460,6 +461,28 @@ fn file_boundaries() -> Vec<String> {
     all
 }
 
+/// The names of the boundaries of the doctor in a conversation: what it is asked beside, and who sees it. What the images have for
+/// it, `tests/doctor.rs` counts.
+fn doctor_boundaries() -> Vec<String> {
+    let mut all: Vec<String> = (0..DRIVES).map(|image| format!("R on image {image}")).collect();
+    for what in [
+        "on image 4",
+        "on image 255",
+        "while a buffer is lent cut",
+        "while the images are lent cut",
+        "while a read of the image runs",
+        "while a read of another image runs",
+        "cuts the chain behind a sector that is read",
+        "deletes a file that is open",
+        "changes a directory that is listed",
+        "leaves what is open on the image",
+        "has cut where a read ends",
+    ] {
+        all.push(format!("R {what}"));
+    }
+    all
+}
+
 /// What a record of the tape is, in the words of the boundaries.
 fn what_is(tape: &[u8], record: usize) -> &'static str {
     let Some(bytes) = tape.chunks(RECORD).nth(record) else { return "nothing" };
@@ -491,6 +514,8 @@ struct Watch<'a> {
     /// By port and block of D, since its last read: the status that refused it, and its place; or the last character.
     refused: BTreeMap<(usize, u8), (u8, Place)>,
     last_read: BTreeMap<(usize, u8), (Place, bool)>,
+    /// By drive: the sectors whose link the doctor was the last to change.
+    cut: BTreeSet<(usize, usize)>,
 }
 
 /// The name of a command that opens a closed block.
@@ -524,6 +549,10 @@ impl Watch<'_> {
             }
             Op::Write { buffer: 6, .. } => {
                 self.written_to_images(op);
+                true
+            }
+            Op::Doctor { image } => {
+                self.asked_doctor(usize::from(image));
                 true
             }
             Op::Dump | Op::DumpTape => true,
@@ -991,7 +1020,52 @@ impl Watch<'_> {
         for (_, what) in names.into_iter().filter(|(met, _)| *met) {
             self.note(format!("D, {what}"));
         }
+        self.cut.retain(|(drive, sector)| !within(sector_at(*drive, *sector) + LINK_AT, 2));
         self.player.play(op, &mut Vec::new());
+    }
+
+    /// The doctor: what it is asked beside, and what of the open blocks' files it changes.
+    fn asked_doctor(&mut self, drive: usize) {
+        let before = self.player.stick.clone();
+        self.player.play(&Op::Doctor { image: drive as u8 }, &mut Vec::new());
+        self.note(format!("R on image {drive}"));
+        let mut names = vec![
+            (before.lent != WHOLE, "while a buffer is lent cut"),
+            (before.lent[5] != WHOLE[5], "while the images are lent cut"),
+        ];
+        let changed: BTreeSet<usize> =
+            (0..IMAGES).filter(|&at| before.images[at] != self.player.stick.images[at]).collect();
+        let within = |start: usize, length: usize| changed.range(start..start + length).next().is_some();
+        for port in &before.ports {
+            if let Phase::Running(run) = &port.phase {
+                let disk = run.file.device == Device::D;
+                names.push((disk && run.file.drive() == drive, "while a read of the image runs"));
+                names.push((disk && run.file.drive() != drive, "while a read of another image runs"));
+            }
+            for (file, place) in port.blocks.iter().zip(&port.places) {
+                let Some(place) = place.filter(|_| file.is_some_and(|file| file.drive() == drive)) else { continue };
+                names.push((changed.is_empty(), "leaves what is open on the image"));
+                match place {
+                    Place::File { entry, sector, place, .. } => names.extend([
+                        (
+                            (1..=719).contains(&sector) && place > 0 && within(sector_at(drive, sector) + LINK_AT, 2),
+                            "cuts the chain behind a sector that is read",
+                        ),
+                        (within(sector_at(drive, 361) + ENTRY * entry, 1), "deletes a file that is open"),
+                    ]),
+                    Place::Directory { .. } => {
+                        names.push((within(sector_at(drive, 360), 9 * SECTOR), "changes a directory that is listed"));
+                    }
+                }
+            }
+        }
+        if drive < DRIVES {
+            let cut = (1..=719).filter(|&sector| within(sector_at(drive, sector) + LINK_AT, 2));
+            self.cut.extend(cut.map(|sector| (drive, sector)));
+        }
+        for (_, what) in names.into_iter().filter(|(met, _)| *met) {
+            self.note(format!("R {what}"));
+        }
     }
 
     /// A read of a file; its place as it was before. The chain is walked anew, sector by sector.
@@ -1028,6 +1102,11 @@ impl Watch<'_> {
             steps += 1;
         };
         assert_eq!(refused, !why.is_empty());
+        if let ("88", [.., last, 0]) = (why, &walked[..]) {
+            if self.cut.contains(&(drive, *last)) {
+                self.note("R has cut where a read ends".to_string());
+            }
+        }
         for (_, next) in walked.windows(2).map(|pair| (pair[0], pair[1])) {
             self.note_sector("link", next);
         }
@@ -1533,6 +1612,7 @@ fn watch(script: &[Op], reached: &mut BTreeMap<String, u64>) -> Figures {
         specified: BTreeMap::new(),
         refused: BTreeMap::new(),
         last_read: BTreeMap::new(),
+        cut: BTreeSet::new(),
     };
     for op in script {
         if !watch.play(op) {
@@ -1670,6 +1750,39 @@ fn what_is_reached() {
             assert_eq!(reached.contains(&format!("mode 3, {name}")), last, "{length}: {name}");
         }
         assert_eq!(reached.contains(&"mode 3, EOL in the last row".to_string()), !last, "{length}");
+    }
+}
+
+/// The same of the doctor: a chain that goes round, read, cut and read to its end; and one that is cut nowhere.
+#[test]
+fn what_is_reached_by_the_doctor() {
+    let mut diskette = Diskette::new();
+    diskette.add(IN_USE, b"A          ", &[(4, b"AB".to_vec())]);
+    let write = |(at, bytes): (usize, Vec<u8>)| Op::Write { buffer: 6, at: at as u32, bytes };
+    let ask = |message: Vec<u8>| {
+        let mut ops: Vec<Op> = message.iter().map(|&byte| Op::Take { port: 0, byte }).collect();
+        ops.extend([vec![Op::Ticks { port: 0, count: 65_535 }], vec![Op::Give { port: 0 }; 7]].concat());
+        ops
+    };
+    for (next, cut) in [(4, true), (0, false)] {
+        let mut ops: Vec<Op> = diskette.parts(0).into_iter().map(write).collect();
+        ops.push(write((sector_at(0, 4) + LINK_AT, link(0, next).to_vec())));
+        ops.extend(ask(load(0, b"D:A\x9B")));
+        ops.extend(ask(call(0, OPEN, 0, 0, [R, 0, 0])));
+        ops.extend(ask(call(0, GET_CHARACTERS, 100, 1, [0; 3])));
+        ops.push(Op::Doctor { image: 0 });
+        ops.extend(ask(call(0, GET_CHARACTERS, 100, 2, [0; 3])));
+        let mut reached = BTreeMap::new();
+        watch(&ops, &mut reached);
+        let of_doctor: Vec<String> =
+            doctor_boundaries().into_iter().filter(|name| reached.contains_key(name)).collect();
+        let expected = match cut {
+            true => {
+                vec!["R on image 0", "R cuts the chain behind a sector that is read", "R has cut where a read ends"]
+            }
+            false => vec!["R on image 0", "R leaves what is open on the image"],
+        };
+        assert_eq!(of_doctor, expected);
     }
 }
 

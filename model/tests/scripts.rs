@@ -1,6 +1,7 @@
 //! The call script: its two forms, what it writes, and the harness.
 
 use model::compare::{compare, shorten, Budget, Itself, Real};
+use model::images;
 use model::random::conversation;
 use model::script::*;
 use model::stick::{Stick, AREA, PAPER, SCREEN};
@@ -27,11 +28,12 @@ write images 45952 02
 write 9 16777215
 dump
 dump tape
+doctor 3
 raw 54 00
 ";
 const BYTES: &str = "46 540011 540005 540000 540000 540000 540045 54003A 54009B 4B00 4700 4700 4700 4700 4700 \
     540110 54FFFF 58012C01 503F 4C00640000 4C035A0200 4C07701101 4C04E88000 4C0600A005 57048400000300 5555FA \
-    570680B300010002 5709FFFFFF0000 44 43 5400";
+    570680B300010002 5709FFFFFF0000 44 43 5203 5400";
 
 fn bytes(text: &str) -> Vec<u8> {
     let digits: String = text.split_whitespace().collect();
@@ -67,6 +69,9 @@ fn comments_and_faults() {
         "write tape 16777216",
         "write tape 0 100",
         "dump paper",
+        "doctor",
+        "doctor 256",
+        "doctor 0 x 2",
         "raw",
     ] {
         assert_eq!(from_text(&format!("fresh\n{line}")), Err(format!("line 2: not an op: {line}")));
@@ -89,6 +94,10 @@ fn what_is_written() {
     assert_eq!(written("fresh\nraw 00\nfresh"), [0]);
     assert_eq!(play(b"FT\0"), [0]);
     assert_eq!(play(b"FW\x04\0\0\0\x02\0F"), [0]);
+    assert_eq!(play(b"FR"), [0]);
+    // The doctor: as many bytes as it has changes.
+    assert_eq!(written("doctor 4\ndoctor 255\nfresh"), [1, 0, 0, 1, 0, 0, 0]);
+    assert_eq!(written("doctor 3\ndoctor 3\nfresh").len(), 3 + 5 * 91 + 3 + 1);
     assert_eq!(play(b""), []);
 }
 
@@ -133,6 +142,22 @@ fn the_gates_script() {
 fn conversations_are_the_seeds() {
     assert_eq!(conversation(5, false), conversation(5, false));
     assert_ne!(conversation(5, false), conversation(6, false));
+    assert_eq!(images::script(5), images::script(5));
+    assert_ne!(images::script(5), images::script(6));
+}
+
+/// The doctor's changes in words, of two lists those that differ.
+#[test]
+fn the_doctor_in_words() {
+    let op = Op::Doctor { image: 0 };
+    assert_eq!(describe(&op, &[1, 0, 0]), "answer 1, 0 changes");
+    assert_eq!(
+        describe(&op, &[0, 2, 0, 4, 0, 125, 1, 0, 0x69, 1, 16, 0x42, 0x80]),
+        "answer 0, 2 changes; sector 4 place 125: 01 to 00; sector 361 place 16: 42 to 80"
+    );
+    assert_eq!(describe(&op, &[0, 2, 0, 4, 0]), "the output ends after 00 02 00 04 00");
+    assert_eq!(describe(&op, &[0, 2]), "the output ends after 00 02");
+    assert!(describe(&op, &play(b"R\0")).ends_with("; and 83 more"));
 }
 
 #[test]

@@ -21,6 +21,8 @@ use Rattle.names.proofs.matches.Reads as names-matches-reads
 use Rattle.names.proofs.Decided as names
 use Rattle.image.proofs.sector_byte.Kinds as image-sector-byte-kinds
 use Rattle.image.proofs.sector_byte.Reads as image-sector-byte-reads
+use Rattle.image.proofs.set_sector_byte.Kinds as image-set-sector-byte-kinds
+use Rattle.image.proofs.set_sector_byte.Reads as image-set-sector-byte-reads
 use Rattle.image.proofs.entry_byte.Kinds as image-entry-byte-kinds
 use Rattle.image.proofs.entry_byte.Reads as image-entry-byte-reads
 use Rattle.image.proofs.flag.Kinds as image-flag-kinds
@@ -35,6 +37,8 @@ use Rattle.image.proofs.count.Kinds as image-count-kinds
 use Rattle.image.proofs.count.Reads as image-count-reads
 use Rattle.image.proofs.find.Kinds as image-find-kinds
 use Rattle.image.proofs.find.Reads as image-find-reads
+use Rattle.image.proofs.sector_of.Kinds as image-sector-of-kinds
+use Rattle.image.proofs.sector_of.Reads as image-sector-of-reads
 use Rattle.image.proofs.stand_of.Kinds as image-stand-of-kinds
 use Rattle.image.proofs.stand_of.Reads as image-stand-of-reads
 use Rattle.image.proofs.Decided as image
@@ -150,6 +154,26 @@ use Rattle.disk.proofs.open.Reads as disk-open-reads
 use Rattle.disk.proofs.read.Kinds as disk-read-kinds
 use Rattle.disk.proofs.read.Reads as disk-read-reads
 use Rattle.disk.proofs.Decided as disk
+use Rattle.chains.proofs.keep.Kinds as chains-keep-kinds
+use Rattle.chains.proofs.keep.Reads as chains-keep-reads
+use Rattle.chains.proofs.free.Kinds as chains-free-kinds
+use Rattle.chains.proofs.free.Reads as chains-free-reads
+use Rattle.chains.proofs.count_free.Kinds as chains-count-free-kinds
+use Rattle.chains.proofs.count_free.Reads as chains-count-free-reads
+use Rattle.chains.proofs.Decided as chains
+use Rattle.changes.proofs.note.Kinds as changes-note-kinds
+use Rattle.changes.proofs.note.Reads as changes-note-reads
+use Rattle.changes.proofs.replay.Kinds as changes-replay-kinds
+use Rattle.changes.proofs.replay.Reads as changes-replay-reads
+use Rattle.changes.proofs.Decided as changes
+use Rattle.repairs.proofs.note_file.Kinds as repairs-note-file-kinds
+use Rattle.repairs.proofs.note_file.Reads as repairs-note-file-reads
+use Rattle.repairs.proofs.note_sectors.Kinds as repairs-note-sectors-kinds
+use Rattle.repairs.proofs.note_sectors.Reads as repairs-note-sectors-reads
+use Rattle.repairs.proofs.Decided as repairs
+use Rattle.doctor.proofs.repair.Kinds as doctor-repair-kinds
+use Rattle.doctor.proofs.repair.Reads as doctor-repair-reads
+use Rattle.doctor.proofs.Decided as doctor
 use Rattle.console.proofs.state.Console.fresh.Kinds as console-state-fresh-kinds
 use Rattle.console.proofs.state.Console.fresh.Reads as console-state-fresh-reads
 use Rattle.console.proofs.state.Console.editor.Kinds as console-editor-kinds
@@ -407,6 +431,8 @@ use Rattle.stick.proofs.started.fresh_all.Reads as stick-fresh-all-reads
 use Rattle.stick.proofs.Decided as stick
 use Rattle.firmware.proofs.fixlomand_translate.Kinds as firmware-translate-kinds
 use Rattle.firmware.proofs.fixlomand_translate.Reads as firmware-translate-reads
+use Rattle.firmware.proofs.fixlomand_doctor.Kinds as firmware-doctor-kinds
+use Rattle.firmware.proofs.fixlomand_doctor.Reads as firmware-doctor-reads
 use Rattle.firmware.proofs.fixlomand_fresh.Kinds as firmware-fresh-kinds
 use Rattle.firmware.proofs.fixlomand_fresh.Reads as firmware-fresh-reads
 use Rattle.firmware.proofs.fixlomand_take.Kinds as firmware-take-kinds
@@ -437,6 +463,7 @@ names-decided =
 pub image-decided : Promises
 image-decided =
     promise image-sector-byte-kinds.ps image-sector-byte-kinds.r image-sector-byte-reads.Pre image-sector-byte-reads.Learnt image.sector-byte-decides image.sector-byte-allows (
+    promise image-set-sector-byte-kinds.ps image-set-sector-byte-kinds.r image-set-sector-byte-reads.Pre image-set-sector-byte-reads.Learnt image.set-sector-byte-decides image.set-sector-byte-allows (
     promise image-entry-byte-kinds.ps image-entry-byte-kinds.r image-entry-byte-reads.Pre image-entry-byte-reads.Learnt image.entry-byte-decides image.entry-byte-allows (
     promise image-flag-kinds.ps image-flag-kinds.r image-flag-reads.Pre image-flag-reads.Learnt image.flag-decides image.flag-allows (
     promise image-in-use-kinds.ps image-in-use-kinds.r image-in-use-reads.Pre image-in-use-reads.Learnt image.in-use-decides image.in-use-allows (
@@ -444,7 +471,8 @@ image-decided =
     promise image-first-kinds.ps image-first-kinds.r image-first-reads.Pre image-first-reads.Learnt image.first-decides image.first-allows (
     promise image-count-kinds.ps image-count-kinds.r image-count-reads.Pre image-count-reads.Learnt image.count-decides image.count-allows (
     promise image-find-kinds.ps image-find-kinds.r image-find-reads.Pre image-find-reads.Learnt image.find-decides image.find-allows (
-    promise image-stand-of-kinds.ps image-stand-of-kinds.r image-stand-of-reads.Pre image-stand-of-reads.Learnt image.stand-of-decides image.stand-of-allows names-decided))))))))
+    promise image-sector-of-kinds.ps image-sector-of-kinds.r image-sector-of-reads.Pre image-sector-of-reads.Learnt image.sector-of-decides image.sector-of-allows (
+    promise image-stand-of-kinds.ps image-stand-of-kinds.r image-stand-of-reads.Pre image-stand-of-reads.Learnt image.stand-of-decides image.stand-of-allows names-decided))))))))))
 
 pub handler-decided : Promises
 handler-decided =
@@ -532,6 +560,26 @@ disk-decided =
     promise disk-open-kinds.ps disk-open-kinds.r disk-open-reads.Pre disk-open-reads.Learnt disk.open-decides disk.open-allows (
     promise disk-read-kinds.ps disk-read-kinds.r disk-read-reads.Pre disk-read-reads.Learnt disk.read-decides disk.read-allows files-decided)))
 
+pub chains-decided : Promises
+chains-decided =
+    promise chains-keep-kinds.ps chains-keep-kinds.r chains-keep-reads.Pre chains-keep-reads.Learnt chains.keep-decides chains.keep-allows (
+    promise chains-free-kinds.ps chains-free-kinds.r chains-free-reads.Pre chains-free-reads.Learnt chains.free-decides chains.free-allows (
+    promise chains-count-free-kinds.ps chains-count-free-kinds.r chains-count-free-reads.Pre chains-count-free-reads.Learnt chains.count-free-decides chains.count-free-allows disk-decided))
+
+pub changes-decided : Promises
+changes-decided =
+    promise changes-note-kinds.ps changes-note-kinds.r changes-note-reads.Pre changes-note-reads.Learnt changes.note-decides changes.note-allows (
+    promise changes-replay-kinds.ps changes-replay-kinds.r changes-replay-reads.Pre changes-replay-reads.Learnt changes.replay-decides changes.replay-allows chains-decided)
+
+pub repairs-decided : Promises
+repairs-decided =
+    promise repairs-note-file-kinds.ps repairs-note-file-kinds.r repairs-note-file-reads.Pre repairs-note-file-reads.Learnt repairs.note-file-decides repairs.note-file-allows (
+    promise repairs-note-sectors-kinds.ps repairs-note-sectors-kinds.r repairs-note-sectors-reads.Pre repairs-note-sectors-reads.Learnt repairs.note-sectors-decides repairs.note-sectors-allows changes-decided)
+
+pub doctor-decided : Promises
+doctor-decided =
+    promise doctor-repair-kinds.ps doctor-repair-kinds.r doctor-repair-reads.Pre doctor-repair-reads.Learnt doctor.repair-decides doctor.repair-allows repairs-decided
+
 pub console-decided : Promises
 console-decided =
     promise console-state-fresh-kinds.ps console-state-fresh-kinds.r console-state-fresh-reads.Pre console-state-fresh-reads.Learnt console.state-fresh-decides console.state-fresh-allows (
@@ -546,7 +594,7 @@ console-decided =
     promise console-read-screen-kinds.ps console-read-screen-kinds.r console-read-screen-reads.Pre console-read-screen-reads.Learnt console.read-screen-decides console.read-screen-allows (
     promise console-read-keyboard-kinds.ps console-read-keyboard-kinds.r console-read-keyboard-reads.Pre console-read-keyboard-reads.Learnt console.read-keyboard-decides console.read-keyboard-allows (
     promise console-write-editor-kinds.ps console-write-editor-kinds.r console-write-editor-reads.Pre console-write-editor-reads.Learnt console.write-editor-decides console.write-editor-allows (
-    promise console-write-screen-kinds.ps console-write-screen-kinds.r console-write-screen-reads.Pre console-write-screen-reads.Learnt console.write-screen-decides console.write-screen-allows disk-decided))))))))))))
+    promise console-write-screen-kinds.ps console-write-screen-kinds.r console-write-screen-reads.Pre console-write-screen-reads.Learnt console.write-screen-decides console.write-screen-allows doctor-decided))))))))))))
 
 pub acts-decided : Promises
 acts-decided =
@@ -715,11 +763,12 @@ stick-decided =
 pub firmware-decided : Promises
 firmware-decided =
     promise firmware-translate-kinds.ps firmware-translate-kinds.r firmware-translate-reads.Pre firmware-translate-reads.Learnt firmware.translate-decides firmware.translate-allows (
+    promise firmware-doctor-kinds.ps firmware-doctor-kinds.r firmware-doctor-reads.Pre firmware-doctor-reads.Learnt firmware.doctor-decides firmware.doctor-allows (
     promise firmware-fresh-kinds.ps firmware-fresh-kinds.r firmware-fresh-reads.Pre firmware-fresh-reads.Learnt firmware.fresh-decides firmware.fresh-allows (
     promise firmware-take-kinds.ps firmware-take-kinds.r firmware-take-reads.Pre firmware-take-reads.Learnt firmware.take-decides firmware.take-allows (
     promise firmware-tick-kinds.ps firmware-tick-kinds.r firmware-tick-reads.Pre firmware-tick-reads.Learnt firmware.tick-decides firmware.tick-allows (
     promise firmware-give-kinds.ps firmware-give-kinds.r firmware-give-reads.Pre firmware-give-reads.Learnt firmware.give-decides firmware.give-allows (
-    promise firmware-press-kinds.ps firmware-press-kinds.r firmware-press-reads.Pre firmware-press-reads.Learnt firmware.press-decides firmware.press-allows stick-decided)))))
+    promise firmware-press-kinds.ps firmware-press-kinds.r firmware-press-reads.Pre firmware-press-reads.Learnt firmware.press-decides firmware.press-allows stick-decided))))))
 
 -- all of them
 pub all-decided : Promises

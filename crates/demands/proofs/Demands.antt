@@ -11,6 +11,9 @@ use Rattle.disk.proofs.Opens.{open-rule}
 use Rattle.disk.proofs.Reading.{read-warns}
 use Rattle.disk.proofs.Chains.{file-gives}
 use Rattle.disk.proofs.Listings.{directory-gives}
+use Rattle.chains.proofs.Kept.{kept-rule}
+use Rattle.chains.proofs.Walking.{walk-rule}
+use Rattle.sound.proofs.Treated.{treats}
 use Rattle.layout.specs.Places.{roomsPlace, stateLength}
 use Rattle.layout.specs.Layout.{headOf, stickIn}
 use Rattle.layout.specs.Stands.{stands}
@@ -29,13 +32,13 @@ use Rattle.machine.proofs.Demanded.{one-reading}
 use Rattle.machine.proofs.Course.{course}
 use Rattle.machine.proofs.Statuses.{statuses, tapes, fields, needs}
 use Rattle.demands.specs.Bytes.{bytes}
-use Rattle.demands.specs.Told.{lends}
+use Rattle.demands.specs.Told.{lends, imageLent, listLent, imageLeft, listLeft, givenBy}
 use Rattle.demands.specs.Demands.{Demands}
 use Rattle.demands.proofs.Bytes.{bytes-follow, always-undamaged, always-numbers}
 use Rattle.demands.proofs.Translated.{translated}
 use Rattle.demands.proofs.Over.{fresh-all, paper-stays, tape-stays}
 use Rattle.demands.proofs.Told.{exact, any-still, kept, images-kept, give-says, never-3, call-is}
-use Rattle.demands.proofs.Made.{fresh-open, take-open, tick-open, give-open, press-open, translate-open, can-call}
+use Rattle.demands.proofs.Made.{fresh-open, take-open, tick-open, give-open, press-open, translate-open, doctor-open, can-call}
 use Rattle.demands.proofs.Run.{linked}
 
 one-head : (x y : List ℕ) → Bytes x → Bytes y → length x ≡ stateLength → length y ≡ stateLength
@@ -79,6 +82,10 @@ demands = record {
   file-gets = λ c l s unit file first bytes fit few o chain. file-gets c l s unit file first bytes fit few o chain;
   directories = λ images unit name good. directory-gives images unit name good;
   images-kept = images-kept;
+  doctor-open = doctor-open;
+  doctor-treats = λ o bytes. treats (imageLent o) (listLent o) (imageLeft o) (listLeft o) (givenBy o) (o .told) bytes;
+  doctor-keeps = λ image claimed file. kept-rule image claimed file;
+  doctor-walks = λ image. walk-rule image;
   decodes = λ s w rooms. (read-write s rooms w, (head-stands s rooms, head-length s));
   fits-in = in-bytes;
   one-head = one-head;

@@ -24,6 +24,8 @@ use Rattle.firmware.proofs.fixlomand_press.Kinds as press-kinds
 use Rattle.firmware.proofs.fixlomand_press.Reads as press-reads
 use Rattle.firmware.proofs.fixlomand_translate.Kinds as translate-kinds
 use Rattle.firmware.proofs.fixlomand_translate.Reads as translate-reads
+use Rattle.firmware.proofs.fixlomand_doctor.Kinds as doctor-kinds
+use Rattle.firmware.proofs.fixlomand_doctor.Reads as doctor-reads
 use Rattle.serial.specs.Core.{CoreCall, take, tick, give, press}
 use Rattle.machine.specs.Real.{real}
 use Rattle.machine.specs.Sticks.{portNumber}
@@ -48,6 +50,9 @@ press-open = record { asks-nothing = λ κs a. tt; answers = firmware.press-allo
 
 pub translate-open : Open translate-kinds.ps translate-kinds.r translate-reads.Pre translate-reads.Learnt
 translate-open = record { asks-nothing = λ κs a. tt; answers = firmware.translate-allows }
+
+pub doctor-open : Open doctor-kinds.ps doctor-kinds.r doctor-reads.Pre doctor-reads.Learnt
+doctor-open = record { asks-nothing = λ κs a. tt; answers = firmware.doctor-allows }
 
 -- a buffer, lent from anywhere
 abbrev lentAs : List ℕ → RefT (List ℕ)

@@ -18,6 +18,9 @@ use Rattle.firmware.proofs.fixlomand_press.Met as press-met
 use Rattle.firmware.proofs.fixlomand_translate.Reads as translate-reads
 use Rattle.firmware.proofs.fixlomand_translate.Symbol as translate-symbol
 use Rattle.firmware.proofs.fixlomand_translate.Met as translate-met
+use Rattle.firmware.proofs.fixlomand_doctor.Reads as doctor-reads
+use Rattle.firmware.proofs.fixlomand_doctor.Symbol as doctor-symbol
+use Rattle.firmware.proofs.fixlomand_doctor.Met as doctor-met
 use Rattle.demands.specs.Routines.{Routines}
 
 pub routines : Routines
@@ -45,5 +48,9 @@ routines = record {
   translate = record {
     asks-nothing = λ κs a. tt;
     told = λ w γ k same. translate-reads.known w γ k translate-symbol.routine same (translate-met.met (w .𝓤) (w .H) (w .𝓜) (w .𝓖) (w .𝓡));
+  };
+  doctor = record {
+    asks-nothing = λ κs a. tt;
+    told = λ w γ k same. doctor-reads.known w γ k doctor-symbol.routine same (doctor-met.met (w .𝓤) (w .H) (w .𝓜) (w .𝓖) (w .𝓡));
   };
 }

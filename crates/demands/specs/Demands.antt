@@ -1,11 +1,11 @@
--- The three demands, of the five functions and key translation that the port firmware calls: what the stick is bought for, on one
+-- The three demands, of the five functions and key translation that the port firmware calls, and what the diskette doctor does: what the stick is bought for, on one
 -- page. Each line is one statement, a type whose words are in the file that it is used from: `serial/specs` for any machine of
 -- two ports, `machine/specs` for document 01's, `rules/specs` for its requests alone, here for the functions. (The other files of
 -- `serial/specs`, `Laws` and `Follows`, and what else `rules` says are the way to them.) That C's pointer and length are the slice is the toolchain's. That each promise decides is in
 -- `firmware/proofs/Decided.antt`.
 -- Assumes nothing.
 use mathlib.Core.Path.{_≡_}
-use mathlib.Core.Bool.{true}
+use mathlib.Core.Bool.{Bool, true}
 use mathlib.Core.List.{List, _++_}
 use Prim.Native.Nat.{ℕ, _*_, _<_}
 use lib.ListN.{length, take, replicate}
@@ -16,6 +16,8 @@ use Rattle.image.specs.Chain.{ChainRule, FileBytes}
 use Rattle.disk.specs.Disk.{placeLength}
 use Rattle.disk.specs.Reads.{ReadWarns, FileGives, DirectoryGives}
 use Rattle.disk.specs.Opens.{OpenRule}
+use Rattle.chains.specs.Kept.{KeptRule, WalkRule}
+use Rattle.sound.specs.Treated.{Treats}
 use Rattle.wire.specs.declared.Call.{Call}
 use Rattle.wire.specs.Messages.{roomLength}
 use Rattle.layout.specs.Places.{roomsPlace, stateLength}
@@ -41,6 +43,8 @@ use Rattle.firmware.proofs.fixlomand_press.Kinds as press-kinds
 use Rattle.firmware.proofs.fixlomand_press.Reads as press-reads
 use Rattle.firmware.proofs.fixlomand_translate.Kinds as translate-kinds
 use Rattle.firmware.proofs.fixlomand_translate.Reads as translate-reads
+use Rattle.firmware.proofs.fixlomand_doctor.Kinds as doctor-kinds
+use Rattle.firmware.proofs.fixlomand_doctor.Reads as doctor-reads
 use Rattle.serial.specs.Core.{CoreCall, number}
 use Rattle.serial.specs.Run.{OkCalls, Begun, Reached, after, begin}
 use Rattle.serial.specs.Reading.{OneReading}
@@ -54,7 +58,7 @@ use Rattle.machine.specs.Real.{real}
 use Rattle.machine.specs.Statuses.{MarkRule, StatusRule, FieldsRule, NeedsRule}
 use Rattle.machine.specs.Course.{CourseRule}
 use Rattle.demands.specs.Bytes.{leftBy, bytes, SoundBuffers, UndamagedState}
-use Rattle.demands.specs.Told.{lends, leaves, answerIn, replyByteIn, FreshCall, GiveCall, portNamed, TranslateCall, codeAsked, lockAsked, inverseAsked, translation, AnyCall, CallByC, returnedBy, RunByC}
+use Rattle.demands.specs.Told.{lends, leaves, answerIn, replyByteIn, FreshCall, GiveCall, portNamed, TranslateCall, codeAsked, lockAsked, inverseAsked, translation, DoctorCall, imageLent, listLent, imageLeft, listLeft, givenBy, AnyCall, CallByC, returnedBy, RunByC}
 use Rattle.demands.specs.Demand1.{Open, Exactly, OffersByte, TranslateAnswers}
 
 -- a run of the functions is the run that the demands speak of: it begins as they ask, and comes where they say
@@ -133,6 +137,12 @@ pub record Demands : Type 0 where
   pub directories : (images : List ℕ) (unit : ℕ) (name : Name) → name .good ≡ true → DirectoryGives images unit name
   -- diskettes are read: no call changes an image
   pub images-kept : {b : Buffers} {r : Returned} → AnyCall b r → r .buffers .images ≡ b .images
+  -- Document 02, Ask 13: the diskette doctor, of every image and list that it is lent: what it answers, lists and leaves; and the sectors
+  -- that a file keeps: "cuts one before the first sector that is reserved .., already claimed or bad by Ask 12"
+  pub doctor-open : Open doctor-kinds.ps doctor-kinds.r doctor-reads.Pre doctor-reads.Learnt
+  pub doctor-treats : (o : DoctorCall) → Bytes (imageLent o) → Treats (imageLent o) (listLent o) (imageLeft o) (listLeft o) (givenBy o)
+  pub doctor-keeps : (image : List ℕ) (claimed : ℕ → Bool) (file : ℕ) → KeptRule image claimed file
+  pub doctor-walks : (image : List ℕ) → WalkRule image
   -- a fresh start writes every byte of the state, whatever it held, and leaves the paper's and the tape's bytes
   pub fresh-is : (o : FreshCall) → leaves o ≡ answerOf (freshBytes (lends o))
   pub fresh-writes : (o : FreshCall) → leaves o .number ≡ 0

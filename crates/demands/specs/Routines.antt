@@ -31,6 +31,9 @@ use Rattle.firmware.proofs.fixlomand_press.Symbol as press-symbol
 use Rattle.firmware.proofs.fixlomand_translate.Kinds as translate-kinds
 use Rattle.firmware.proofs.fixlomand_translate.Reads as translate-reads
 use Rattle.firmware.proofs.fixlomand_translate.Symbol as translate-symbol
+use Rattle.firmware.proofs.fixlomand_doctor.Kinds as doctor-kinds
+use Rattle.firmware.proofs.fixlomand_doctor.Reads as doctor-reads
+use Rattle.firmware.proofs.fixlomand_doctor.Symbol as doctor-symbol
 
 pub record Tells {n : ℕ} (ps : List (PK n)) (r : RK n) (Asked : In n ps) (Learnt : Out n ps r) (routine : Routine) : Type 2 where
   pub asks-nothing : (κs : Lfts n) (a : Dens κs ps) → Asked κs a
@@ -45,3 +48,4 @@ pub record Routines : Type 2 where
   pub give : Tells give-kinds.ps give-kinds.r give-reads.Asked give-reads.Learnt give-symbol.routine
   pub press : Tells press-kinds.ps press-kinds.r press-reads.Asked press-reads.Learnt press-symbol.routine
   pub translate : Tells translate-kinds.ps translate-kinds.r translate-reads.Asked translate-reads.Learnt translate-symbol.routine
+  pub doctor : Tells doctor-kinds.ps doctor-kinds.r doctor-reads.Asked doctor-reads.Learnt doctor-symbol.routine

@@ -24,6 +24,8 @@ use Rattle.firmware.proofs.fixlomand_press.Kinds as press-kinds
 use Rattle.firmware.proofs.fixlomand_press.Reads as press-reads
 use Rattle.firmware.proofs.fixlomand_translate.Kinds as translate-kinds
 use Rattle.firmware.proofs.fixlomand_translate.Reads as translate-reads
+use Rattle.firmware.proofs.fixlomand_doctor.Kinds as doctor-kinds
+use Rattle.firmware.proofs.fixlomand_doctor.Reads as doctor-reads
 use Rattle.serial.specs.Machine.{PortName}
 use Rattle.serial.specs.Core.{CoreCall, take, tick, give, press}
 use Rattle.machine.specs.Real.{real}
@@ -91,6 +93,25 @@ inverseAsked o = o .args .1 .1 .0
 
 abbrev pub translation : TranslateCall → ℕ
 translation o = o .result
+
+-- the diskette doctor: the image and the list that it is lent and leaves, and the number that it gives
+abbrev pub DoctorCall : Type 0
+DoctorCall = Told doctor-kinds.ps doctor-kinds.r doctor-reads.Learnt
+
+abbrev pub imageLent : DoctorCall → List ℕ
+imageLent o = now (o .args .0)
+
+abbrev pub listLent : DoctorCall → List ℕ
+listLent o = now (o .args .1 .0)
+
+abbrev pub imageLeft : DoctorCall → List ℕ
+imageLeft o = o .lasts .0
+
+abbrev pub listLeft : DoctorCall → List ℕ
+listLeft o = o .lasts .1 .0
+
+abbrev pub givenBy : DoctorCall → ℕ
+givenBy o = o .result
 
 -- any call of the five functions, whatever port it names and whatever it is lent
 pub data AnyCall : Buffers → Returned → Type 0 where

@@ -3,8 +3,11 @@
 use mathlib.Core.Path.{refl, sym, _∙_, ap}
 use Rattle.base.specs.Decides.{Decides, Allows}
 use Rattle.calls.specs.Returned.{Returned}
+use Rattle.doctor.specs.Doctor.{Doctored}
 use Rattle.firmware.proofs.fixlomand_translate.Kinds as translate-kinds
 use Rattle.firmware.proofs.fixlomand_translate.Reads as translate-reads
+use Rattle.firmware.proofs.fixlomand_doctor.Kinds as doctor-kinds
+use Rattle.firmware.proofs.fixlomand_doctor.Reads as doctor-reads
 use Rattle.firmware.proofs.fixlomand_fresh.Kinds as fresh-kinds
 use Rattle.firmware.proofs.fixlomand_fresh.Reads as fresh-reads
 use Rattle.firmware.proofs.fixlomand_take.Kinds as take-kinds
@@ -21,6 +24,14 @@ translate-decides κs a z z′ ws ws′ p e e′ = (e ∙ sym e′, refl)
 
 pub translate-allows : Allows translate-kinds.ps translate-kinds.r translate-reads.Pre translate-reads.Learnt
 translate-allows κs a p = (_, (_, refl))
+
+pub doctor-decides : Decides doctor-kinds.ps doctor-kinds.r doctor-reads.Pre doctor-reads.Learnt
+doctor-decides κs a z z′ ws ws′ p e e′ =
+    let q = e ∙ sym e′ in
+    (ap (λ (d : Doctored). d .given) q, ap (λ (d : Doctored). (d .image, (d .list, tt))) q)
+
+pub doctor-allows : Allows doctor-kinds.ps doctor-kinds.r doctor-reads.Pre doctor-reads.Learnt
+doctor-allows κs a p = (_, (_, refl))
 
 pub fresh-decides : Decides fresh-kinds.ps fresh-kinds.r fresh-reads.Pre fresh-reads.Learnt
 fresh-decides κs a z z′ ws ws′ p e e′ = let q = e ∙ sym e′ in (ap (λ (w : Returned). w .number) q, ap (λ (w : Returned). (w .buffers .state, (w .buffers .area, (w .buffers .screen, (w .buffers .paper, (w .buffers .tape, (w .buffers .images, tt))))))) q)

@@ -1,5 +1,5 @@
-// What the port firmware, written in C, calls: key translation, and the five calls over a state that is lent as bytes. For C a
-// `&mut [u8]` is a pointer and a length. No call trusts its caller to have checked anything: a buffer of another length is answered 2,
+// What the port firmware, written in C, calls: key translation, the five calls over a state that is lent as bytes, and the diskette doctor.
+// For C a `&mut [u8]` is a pointer and a length. No call trusts its caller to have checked anything: a buffer of another length is answered 2,
 // bytes that stand for no undamaged stick 3, a port above 1 with 1, and none of them changes a byte.
 use layout::places::AREA;
 use layout::places::STATE;
@@ -7,6 +7,7 @@ ghost use mathlib.Core.Path.{_≡_};
 ghost use Rattle.keys.specs.Translation.{translateOf};
 ghost use Rattle.calls.specs.Bytes.{buffers, sixFit, bytesRefusal, freshBytes, takeBytes, tickBytes, giveBytes, pressBytes};
 ghost use Rattle.calls.specs.Returned.{returned, answerOf, bothOf};
+ghost use Rattle.doctor.specs.Doctor.{leaving, doctorOf};
 
 // The cells of the lent screen, and the bytes of the lent paper, of the lent tape and of the lent images.
 pub const SCREEN: usize = 61440;
@@ -17,12 +18,26 @@ pub const TAPE: usize = cassette::TAPE;
 
 pub const IMAGES: usize = image::IMAGES;
 
+// The bytes of one image, and of the doctor's list of changes.
+pub const IMAGE: usize = doctor::IMAGE;
+
+pub const LIST: usize = doctor::LIST;
+
 // uint16_t fixlomand_translate(uint8_t code, uint8_t lock, uint8_t inverse)
 #[no_mangle]
 pub extern "C" fn fixlomand_translate(code: u8, lock: u8, inverse: u8) -> u16
     ensures { λ r. ⌜ r ≡ translateOf code lock inverse ⌝ }
 {
     keys::translate(code, lock, inverse)
+}
+
+// uint32_t fixlomand_doctor(image, list), each a pointer and a length
+// The diskette doctor on one image: the answer in the low byte, the number of changes above it.
+#[no_mangle]
+pub extern "C" fn fixlomand_doctor(image: &mut [u8], list: &mut [u8]) -> u32
+    ensures { λ r. ⌜ leaving r (now (image .exit)) (now (list .exit)) ≡ doctorOf (now (image .entry)) (now (list .entry)) ⌝ }
+{
+    doctor::repair(image, list)
 }
 
 fn lengths_fit(

@@ -1,9 +1,13 @@
 -- Each promise of this crate decides, and allows an outcome.
 -- Assumes nothing.
-use mathlib.Core.Path.{refl, sym, _∙_}
+use mathlib.Core.Path.{refl, sym, ap, _∙_}
+use mathlib.Core.List.{List}
+use Prim.Native.Nat.{ℕ}
 use Rattle.base.specs.Decides.{Decides, Allows}
 use Rattle.image.proofs.sector_byte.Kinds as sector-byte-kinds
 use Rattle.image.proofs.sector_byte.Reads as sector-byte-reads
+use Rattle.image.proofs.set_sector_byte.Kinds as set-sector-byte-kinds
+use Rattle.image.proofs.set_sector_byte.Reads as set-sector-byte-reads
 use Rattle.image.proofs.entry_byte.Kinds as entry-byte-kinds
 use Rattle.image.proofs.entry_byte.Reads as entry-byte-reads
 use Rattle.image.proofs.flag.Kinds as flag-kinds
@@ -18,6 +22,8 @@ use Rattle.image.proofs.count.Kinds as count-kinds
 use Rattle.image.proofs.count.Reads as count-reads
 use Rattle.image.proofs.find.Kinds as find-kinds
 use Rattle.image.proofs.find.Reads as find-reads
+use Rattle.image.proofs.sector_of.Kinds as sector-of-kinds
+use Rattle.image.proofs.sector_of.Reads as sector-of-reads
 use Rattle.image.proofs.stand_of.Kinds as stand-of-kinds
 use Rattle.image.proofs.stand_of.Reads as stand-of-reads
 
@@ -26,6 +32,12 @@ sector-byte-decides κs a z z′ ws ws′ p e e′ = (e ∙ sym e′, refl)
 
 pub sector-byte-allows : Allows sector-byte-kinds.ps sector-byte-kinds.r sector-byte-reads.Pre sector-byte-reads.Learnt
 sector-byte-allows κs a p = (_, (_, refl))
+
+pub set-sector-byte-decides : Decides set-sector-byte-kinds.ps set-sector-byte-kinds.r set-sector-byte-reads.Pre set-sector-byte-reads.Learnt
+set-sector-byte-decides κs a z z′ ws ws′ p e e′ = (refl, ap (λ (l : List ℕ). (l, (tt, (tt, (tt, (tt, tt)))))) (e ∙ sym e′))
+
+pub set-sector-byte-allows : Allows set-sector-byte-kinds.ps set-sector-byte-kinds.r set-sector-byte-reads.Pre set-sector-byte-reads.Learnt
+set-sector-byte-allows κs a p = (_, (_, refl))
 
 pub entry-byte-decides : Decides entry-byte-kinds.ps entry-byte-kinds.r entry-byte-reads.Pre entry-byte-reads.Learnt
 entry-byte-decides κs a z z′ ws ws′ p e e′ = (e ∙ sym e′, refl)
@@ -68,6 +80,12 @@ find-decides κs a z z′ ws ws′ p e e′ = (e ∙ sym e′, refl)
 
 pub find-allows : Allows find-kinds.ps find-kinds.r find-reads.Pre find-reads.Learnt
 find-allows κs a p = (_, (_, refl))
+
+pub sector-of-decides : Decides sector-of-kinds.ps sector-of-kinds.r sector-of-reads.Pre sector-of-reads.Learnt
+sector-of-decides κs a z z′ ws ws′ p e e′ = (e ∙ sym e′, refl)
+
+pub sector-of-allows : Allows sector-of-kinds.ps sector-of-kinds.r sector-of-reads.Pre sector-of-reads.Learnt
+sector-of-allows κs a p = (_, (_, refl))
 
 pub stand-of-decides : Decides stand-of-kinds.ps stand-of-kinds.r stand-of-reads.Pre stand-of-reads.Learnt
 stand-of-decides κs a z z′ ws ws′ p e e′ = (e ∙ sym e′, refl)

@@ -8,7 +8,7 @@ use native.Mathlib.Omega.{arith}
 use native.Mathlib.Numerals.{add-one}
 use borrow.Author.Tests.{lt-ltb, le-ltb, eq-eqb, ne-eqb}
 use lib.Dec.{eqb, ltb}
-use lib.ListN.{getD}
+use lib.ListN.{getD, set}
 use Rattle.base.specs.Choice.{pick, choose, and}
 use Rattle.base.proofs.Choices.{by-test}
 use Rattle.names.specs.declared.Name.{Name}
@@ -16,12 +16,16 @@ use Rattle.names.specs.Names.{patternOf, placesMatch}
 use Rattle.image.specs.declared.Sector.{Sector}
 use Rattle.image.specs.declared.Sector.the-variants.{Wrong, Holds}
 use Rattle.image.specs.declared.Stand.the-variants.{End, Bad, At}
-use Rattle.image.specs.Image.{sectorByte, entryPlace, flagOf, inUse, matchesEntry, matchIn, matchFrom, fileOf, nextOf, dataCount, badSector, sectorOf, standIn, standOf}
+use Rattle.image.specs.Image.{sectorPlace, sectorByte, entryPlace, flagOf, inUse, matchesEntry, matchIn, matchFrom, fileOf, nextOf, dataCount, badSector, sectorOf, standIn, standOf}
 
 -- a byte of a sector, by the sectors before it
 pub sector-there : (images : List ℕ) (unit sector place before byte : ℕ) → before ≡ sector - 1 → byte ≡ getD images (92160 * unit + 128 * before + place) 0
     → byte ≡ sectorByte images unit sector place
 sector-there images unit sector place before byte e q = rw e at q
+
+pub sector-set : (images out : List ℕ) (unit sector place before byte : ℕ) → before ≡ sector - 1 → out ≡ set images (92160 * unit + 128 * before + place) byte
+    → out ≡ set images (sectorPlace unit sector + place) byte
+sector-set images out unit sector place before byte e q = rw e at q
 
 -- a flag
 module _ (flag : ℕ) where
@@ -89,11 +93,11 @@ module _ (images : List ℕ) (unit file sector : ℕ) where
           rw (le-ltb 719 sector h, eq-eqb (fileOf images unit sector) file own, le-ltb 125 (dataCount images unit sector) x, c, n, w, l)
 
 -- and what is known of one by what it holds
-wrong-bad : (b : Bool) (n m : ℕ) → Wrong ≡ pick b Wrong (Holds n m) → b ≡ true
+pub wrong-bad : (b : Bool) (n m : ℕ) → Wrong ≡ pick b Wrong (Holds n m) → b ≡ true
 wrong-bad true n m e = refl
 wrong-bad false n m e = let z : _≡_ {A = ℕ} 0 1 = cc in absurd (omega arith)
 
-holds-good : (b : Bool) (n m count next : ℕ) → Holds count next ≡ pick b Wrong (Holds n m) → b ≡ false
+pub holds-good : (b : Bool) (n m count next : ℕ) → Holds count next ≡ pick b Wrong (Holds n m) → b ≡ false
 holds-good true n m count next e = let z : _≡_ {A = ℕ} 0 1 = cc in absurd (omega arith)
 holds-good false n m count next e = refl
 
@@ -101,7 +105,7 @@ holds-count : (b : Bool) (n m count next : ℕ) → Holds count next ≡ pick b 
 holds-count true n m count next e = let z : _≡_ {A = ℕ} 0 1 = cc in absurd (omega arith)
 holds-count false n m count next e = cc
 
-holds-next : (b : Bool) (n m count next : ℕ) → Holds count next ≡ pick b Wrong (Holds n m) → next ≡ m
+pub holds-next : (b : Bool) (n m count next : ℕ) → Holds count next ≡ pick b Wrong (Holds n m) → next ≡ m
 holds-next true n m count next e = let z : _≡_ {A = ℕ} 0 1 = cc in absurd (omega arith)
 holds-next false n m count next e = cc
 

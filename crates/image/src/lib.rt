@@ -3,7 +3,8 @@
 use names::Name;
 ghost use mathlib.Core.Path.{_≡_};
 ghost use Prim.Native.Nat.{_*_, _+_, _-_};
-ghost use Rattle.image.specs.Image.{sectorByte, entryByte, flagOf, inUse, locked, countOf, firstOf, matchesEntry, matchFrom, sectorOf, standOf};
+ghost use lib.ListN.{set};
+ghost use Rattle.image.specs.Image.{sectorPlace, sectorByte, entryByte, flagOf, inUse, locked, countOf, firstOf, matchesEntry, matchFrom, sectorOf, standOf};
 
 // The bytes of an image, and of the four.
 pub const IMAGE: usize = 92160;
@@ -45,6 +46,18 @@ pub fn sector_byte(images: &[u8], unit: u8, sector: u16, place: u8) -> u8
         images,
         IMAGE * unit as usize + 128 * before as usize + place as usize,
     )
+}
+
+// A byte of a sector is another then.
+pub fn set_sector_byte(images: &mut [u8], unit: u8, sector: u16, place: u8, byte: u8)
+    ensures { λ _. ⌜ now (images .exit) ≡ set (now (images .entry)) (sectorPlace unit sector + place) byte ⌝ }
+{
+    let before = before(sector);
+    base::set_byte(
+        images,
+        IMAGE * unit as usize + 128 * before as usize + place as usize,
+        byte,
+    );
 }
 
 // A byte of an entry.
@@ -137,7 +150,7 @@ pub fn find(images: &[u8], unit: u8, name: Name, from: u8) -> u8
 }
 
 // What a sector holds for a file of this number.
-fn sector_of(images: &[u8], unit: u8, file: u8, sector: u16) -> Sector
+pub fn sector_of(images: &[u8], unit: u8, file: u8, sector: u16) -> Sector
     ensures { λ r. ⌜ r ≡ sectorOf (now (images .entry)) unit file sector ⌝ }
 {
     if 719 < sector {

@@ -6,6 +6,7 @@ use script::lengths::LentLengths;
 use script::ops::Op;
 
 mod calls;
+mod repairs;
 
 // A proved loop has to end, and nothing says that an input does: so its turns are counted, up to a number that no run reaches.
 fn main() {
@@ -39,6 +40,7 @@ fn main() {
             images,
         );
         lengths = lengths.after(op);
+        repairs::done(op, images);
         op = answers::next(op, number, state, area, screen, paper, tape, images);
         i += 1;
     }

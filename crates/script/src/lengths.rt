@@ -52,15 +52,9 @@ impl LentLengths {
 
     // How much is lent after an op.
     pub fn after(self, op: Op) -> LentLengths {
-        match op {
-            Op::Start => self,
-            Op::End => self,
-            Op::Lend(which, length) => self.lend(which, length),
-            Op::Write(which, at, count) => self,
-            Op::Dump => self,
-            Op::DumpTape => self,
-            Op::Ticks(port, most, made) => self,
-            Op::Call(call) => self,
-        }
+        let Op::Lend(which, length) = op else {
+            return self;
+        };
+        self.lend(which, length)
     }
 }

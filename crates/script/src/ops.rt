@@ -12,7 +12,8 @@ pub enum CallOp {
 }
 
 // `Start` stands before a script: a fresh start for which nothing is written. `Ticks` has a port, how many ticks there are at most,
-// while the port runs on, and how many there were. `Write` has a buffer, a place in it, and how many bytes follow.
+// while the port runs on, and how many there were. `Write` has a buffer, a place in it, and how many bytes follow. `Doctor` has the
+// image that the doctor is to treat.
 pub enum Op {
     Start,
     End,
@@ -20,6 +21,7 @@ pub enum Op {
     Write(u8, u32, u16),
     Dump,
     DumpTape,
+    Doctor(u8),
     Ticks(u8, u16, u16),
     Call(CallOp),
 }
@@ -34,6 +36,7 @@ impl Op {
             Op::Write(which, at, count) => false,
             Op::Dump => false,
             Op::DumpTape => false,
+            Op::Doctor(n) => false,
             Op::Ticks(port, most, made) => false,
             Op::Call(call) => false,
         }
@@ -48,6 +51,7 @@ impl Op {
             Op::Write(which, at, count) => CallOp::Nothing,
             Op::Dump => CallOp::Nothing,
             Op::DumpTape => CallOp::Nothing,
+            Op::Doctor(n) => CallOp::Nothing,
             Op::Ticks(port, most, made) => {
                 if made < most {
                     return CallOp::Tick(port);
@@ -69,6 +73,7 @@ fn operands(op: u8) -> u8 {
         b'X' => 3,
         b'L' => 4,
         b'W' => 6,
+        b'R' => 1,
         _ => 0,
     }
 }
@@ -94,6 +99,7 @@ fn op_of(op: u8, first: u8, second: u8, third: u8, fourth: u8, fifth: u8, sixth:
         b'W' => Op::Write(first, long(second, third, fourth), word(fifth, sixth)),
         b'D' => Op::Dump,
         b'C' => Op::DumpTape,
+        b'R' => Op::Doctor(first),
         _ => Op::End,
     }
 }

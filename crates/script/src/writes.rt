@@ -106,19 +106,11 @@ pub fn done(
     tape: &mut [u8],
     images: &mut [u8],
 ) -> Op {
-    match op {
-        Op::Start => op,
-        Op::End => op,
-        Op::Lend(which, length) => op,
-        Op::Write(which, at, count) => {
-            if write_all(which, at, count, area, screen, paper, tape, images) {
-                return op;
-            }
-            Op::End
-        }
-        Op::Dump => op,
-        Op::DumpTape => op,
-        Op::Ticks(port, most, made) => op,
-        Op::Call(call) => op,
+    let Op::Write(which, at, count) = op else {
+        return op;
+    };
+    if write_all(which, at, count, area, screen, paper, tape, images) {
+        return op;
     }
+    Op::End
 }

@@ -1,0 +1,2 @@
+pub mod Doctor
+pub mod Visits

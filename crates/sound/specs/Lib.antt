@@ -1,0 +1,4 @@
+pub mod Sound
+pub mod Order
+pub mod Repair
+pub mod Treated
