@@ -17,8 +17,8 @@ use Rattle.image.specs.declared.Sector.the-variants.{Wrong, Holds}
 use Rattle.image.specs.Image.{nextOf, dataCount, badSector, sectorOf}
 use Rattle.image.proofs.Laws.{wrong-bad, holds-good, holds-next}
 use Rattle.image.proofs.Standing.{good-there}
-use Rattle.chains.specs.Chains.{isReserved, among, claims, stopsAt, keptIn, isFree, freeIn}
-use Rattle.chains.specs.Marks.{marked, markAll, stepOf, lastOr, walkedOver, walkOf}
+use Rattle.chains.specs.Chains.{isReserved, among, claims, stopsAt, keptIn, isFree, freeIn, lastOr}
+use Rattle.chains.specs.Marks.{marked, markAll, stepOf, walkedOver, walkOf}
 use Rattle.chains.proofs.Truths.{or-right-false, at-most-one}
 use Rattle.chains.proofs.Claims.{claims-none, claims-both}
 

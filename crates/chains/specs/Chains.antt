@@ -39,6 +39,11 @@ module _ (image : List ℕ) where
   abbrev pub keptBy : (claimed : ℕ → Bool) → (file : ℕ) → List ℕ
   keptBy claimed file = keptIn file claimed 719 (firstOf image 0 file)
 
+-- the last of these sectors, "the last kept sector"; where there is none, the one before them
+unfoldable pub lastOr : (last : ℕ) → (sectors : List ℕ) → ℕ
+lastOr last [] = last
+lastOr last (sector ∷ sectors) = lastOr sector sectors
+
 -- a file by its number, which is its entry's, and its sectors in order
 pub record File : Type 0 where
   pub number : ℕ

@@ -10,7 +10,7 @@ use Rattle.image.specs.declared.Sector.{Sector}
 use Rattle.image.specs.declared.Sector.the-variants.{Wrong, Holds}
 use Rattle.image.specs.Image.{nextOf, dataCount}
 use Rattle.chains.specs.declared.Walk.{Walk}
-use Rattle.chains.specs.Chains.{stopsAt, keptIn}
+use Rattle.chains.specs.Chains.{stopsAt, keptIn, lastOr}
 
 abbrev pub marked : (marks : List ℕ) → (sector : ℕ) → Bool
 marked marks sector = eqb (getD marks sector 0) 1
@@ -22,11 +22,6 @@ markAll (sector ∷ sectors) marks = markAll sectors (set marks sector 1)
 -- what a sector holds for a file that may keep it
 unfoldable pub stepOf : (image : List ℕ) → (marks : List ℕ) → (file sector : ℕ) → Sector
 stepOf image marks file sector = pick (stopsAt image (marked marks) file sector) Wrong (Holds (dataCount image 0 sector) (nextOf image 0 sector))
-
--- the last of these sectors, or the one before them
-unfoldable pub lastOr : (last : ℕ) → (sectors : List ℕ) → ℕ
-lastOr last [] = last
-lastOr last (sector ∷ sectors) = lastOr sector sectors
 
 -- a walk: the last sector that is kept, 0 where none is, how many are, and the marks then
 pub record Walked : Type 0 where

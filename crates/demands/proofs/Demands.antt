@@ -32,7 +32,7 @@ use Rattle.machine.proofs.Demanded.{one-reading}
 use Rattle.machine.proofs.Course.{course}
 use Rattle.machine.proofs.Statuses.{statuses, tapes, fields, needs}
 use Rattle.demands.specs.Bytes.{bytes}
-use Rattle.demands.specs.Told.{lends, imageLent, listLent, imageLeft, listLeft, givenBy}
+use Rattle.demands.specs.Told.{lends, imageLent, listLent, imageLeft, listLeft, numberGiven}
 use Rattle.demands.specs.Demands.{Demands}
 use Rattle.demands.proofs.Bytes.{bytes-follow, always-undamaged, always-numbers}
 use Rattle.demands.proofs.Translated.{translated}
@@ -83,7 +83,7 @@ demands = record {
   directories = λ images unit name good. directory-gives images unit name good;
   images-kept = images-kept;
   doctor-open = doctor-open;
-  doctor-treats = λ o bytes. treats (imageLent o) (listLent o) (imageLeft o) (listLeft o) (givenBy o) (o .told) bytes;
+  doctor-treats = λ o bytes. treats (imageLent o) (listLent o) (imageLeft o) (listLeft o) (numberGiven o) (o .told) bytes;
   doctor-keeps = λ image claimed file. kept-rule image claimed file;
   doctor-walks = λ image. walk-rule image;
   decodes = λ s w rooms. (read-write s rooms w, (head-stands s rooms, head-length s));

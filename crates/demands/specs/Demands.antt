@@ -58,7 +58,7 @@ use Rattle.machine.specs.Real.{real}
 use Rattle.machine.specs.Statuses.{MarkRule, StatusRule, FieldsRule, NeedsRule}
 use Rattle.machine.specs.Course.{CourseRule}
 use Rattle.demands.specs.Bytes.{leftBy, bytes, SoundBuffers, UndamagedState}
-use Rattle.demands.specs.Told.{lends, leaves, answerIn, replyByteIn, FreshCall, GiveCall, portNamed, TranslateCall, codeAsked, lockAsked, inverseAsked, translation, DoctorCall, imageLent, listLent, imageLeft, listLeft, givenBy, AnyCall, CallByC, returnedBy, RunByC}
+use Rattle.demands.specs.Told.{lends, leaves, answerIn, replyByteIn, FreshCall, GiveCall, portNamed, TranslateCall, codeAsked, lockAsked, inverseAsked, translation, DoctorCall, imageLent, listLent, imageLeft, listLeft, numberGiven, AnyCall, CallByC, returnedBy, RunByC}
 use Rattle.demands.specs.Demand1.{Open, Exactly, OffersByte, TranslateAnswers}
 
 -- a run of the functions is the run that the demands speak of: it begins as they ask, and comes where they say
@@ -140,7 +140,7 @@ pub record Demands : Type 0 where
   -- Document 02, Ask 13: the diskette doctor, of every image and list that it is lent: what it answers, lists and leaves; and the sectors
   -- that a file keeps: "cuts one before the first sector that is reserved .., already claimed or bad by Ask 12"
   pub doctor-open : Open doctor-kinds.ps doctor-kinds.r doctor-reads.Pre doctor-reads.Learnt
-  pub doctor-treats : (o : DoctorCall) → Bytes (imageLent o) → Treats (imageLent o) (listLent o) (imageLeft o) (listLeft o) (givenBy o)
+  pub doctor-treats : (o : DoctorCall) → Bytes (imageLent o) → Treats (imageLent o) (listLent o) (imageLeft o) (listLeft o) (numberGiven o)
   pub doctor-keeps : (image : List ℕ) (claimed : ℕ → Bool) (file : ℕ) → KeptRule image claimed file
   pub doctor-walks : (image : List ℕ) → WalkRule image
   -- a fresh start writes every byte of the state, whatever it held, and leaves the paper's and the tape's bytes

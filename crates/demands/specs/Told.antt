@@ -110,8 +110,8 @@ imageLeft o = o .lasts .0
 abbrev pub listLeft : DoctorCall → List ℕ
 listLeft o = o .lasts .1 .0
 
-abbrev pub givenBy : DoctorCall → ℕ
-givenBy o = o .result
+abbrev pub numberGiven : DoctorCall → ℕ
+numberGiven o = o .result
 
 -- any call of the five functions, whatever port it names and whatever it is lent
 pub data AnyCall : Buffers → Returned → Type 0 where

@@ -13,8 +13,8 @@ use lib.Seq.{sets}
 use Rattle.base.proofs.Choices.{by-test, by-lt, choose-go}
 use Rattle.image.specs.Image.{flagOf, inUse, firstOf}
 use Rattle.chains.specs.declared.Walk.{Walk}
-use Rattle.chains.specs.Chains.{claims, keptBy, File, filesIn, filesOf, sectorsOf, inFiles, among}
-use Rattle.chains.specs.Marks.{marked, markAll, lastOr, Walked, asWalked, walkOf}
+use Rattle.chains.specs.Chains.{claims, keptBy, File, filesIn, filesOf, sectorsOf, inFiles, among, lastOr}
+use Rattle.chains.specs.Marks.{marked, markAll, Walked, asWalked, walkOf}
 use Rattle.chains.proofs.Truths.{or-none}
 use Rattle.chains.proofs.Claims.{claims-none, claims-both}
 use Rattle.chains.proofs.Laws.{marks-all}

@@ -8,8 +8,7 @@ use lib.Dec.{eqb}
 use lib.ListN.{length}
 use Rattle.base.specs.Choice.{pick, choose, bit}
 use Rattle.image.specs.Image.{sectorByte, firstOf, fileOf}
-use Rattle.chains.specs.Chains.{File, inFiles, isFree, allFree}
-use Rattle.chains.specs.Marks.{lastOr}
+use Rattle.chains.specs.Chains.{File, inFiles, isFree, allFree, lastOr}
 use Rattle.changes.specs.Changes.{Change, changeTo}
 
 module _ (image : List ℕ) where

@@ -10,8 +10,7 @@ use lib.ListN.{length, getD, set, length-set, List·getD-eq-default}
 use lib.Seq.{getD-set-same, getD-set-other}
 use Rattle.base.proofs.Choices.{by-eq, by-lt, choose-go}
 use Rattle.image.specs.Image.{sectorPlace, flagOf, inUse, firstOf, nextOf}
-use Rattle.chains.specs.Chains.{claims, stopsAt, keptIn, keptBy, File, filesIn, filesOf, inFiles, isFree, freeIn}
-use Rattle.chains.specs.Marks.{lastOr}
+use Rattle.chains.specs.Chains.{claims, stopsAt, keptIn, keptBy, File, filesIn, filesOf, inFiles, isFree, freeIn, lastOr}
 use Rattle.changes.specs.Changes.{Change, replay}
 use Rattle.doctor.specs.Doctor.{changesOf}
 use Rattle.sound.specs.Repair.{Image, repaired, AllOf, no-change, and-so}

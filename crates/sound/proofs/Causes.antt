@@ -9,8 +9,7 @@ use lib.Dec.{eqb·suc-zero}
 use lib.ListN.{length}
 use Rattle.base.proofs.Choices.{choose-eq}
 use Rattle.image.specs.Image.{firstOf, fileOf}
-use Rattle.chains.specs.Chains.{File, filesOf, inFiles, allFree}
-use Rattle.chains.specs.Marks.{lastOr}
+use Rattle.chains.specs.Chains.{File, filesOf, inFiles, allFree, lastOr}
 use Rattle.changes.specs.Changes.{Change, changeTo}
 use Rattle.repairs.specs.Repairs.{entryChange, fileChanges, filesChanges, freeChanges, mapByte, mapIn, rightBytes}
 use Rattle.sound.specs.Repair.{AllOf, no-change, and-so}

@@ -4,8 +4,7 @@ use mathlib.Core.Path.{_≡_, refl}
 use mathlib.Core.List.{List, [], _∷_, _++_}
 use Prim.Native.Nat.{ℕ, _-_}
 use lib.ListN.{length, replicate}
-use Rattle.chains.specs.Chains.{among, keptIn, File, filesIn, filesOf, sectorsOf, inFiles, freeIn, allFree}
-use Rattle.chains.specs.Marks.{lastOr}
+use Rattle.chains.specs.Chains.{among, keptIn, File, filesIn, filesOf, sectorsOf, inFiles, freeIn, allFree, lastOr}
 use Rattle.changes.specs.Changes.{Change, differing}
 use Rattle.repairs.specs.Repairs.{fileChanges, filesChanges, mapByte}
 

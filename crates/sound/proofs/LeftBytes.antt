@@ -8,8 +8,7 @@ use native.Mathlib.Omega.{arith}
 use borrow.Author.Tests.{eq-eqb, ne-eqb}
 use lib.ListN.{length}
 use Rattle.image.specs.Image.{sectorByte, entryByte, flagOf, firstOf, countOf, fileOf}
-use Rattle.chains.specs.Chains.{isReserved, File, sectorsOf, inFiles, allFree}
-use Rattle.chains.specs.Marks.{lastOr}
+use Rattle.chains.specs.Chains.{isReserved, File, sectorsOf, inFiles, allFree, lastOr}
 use Rattle.changes.specs.Changes.{Change, changeTo}
 use Rattle.changes.proofs.Replaying.{low-high}
 use Rattle.repairs.specs.Repairs.{entryChange, cutChanges, countChanges, fileChanges, mapByte}

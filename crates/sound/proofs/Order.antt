@@ -13,8 +13,7 @@ use lib.ListN.{length}
 use Rattle.base.proofs.Choices.{choose-go, and-false}
 use Rattle.image.specs.Image.{fileOf, firstOf}
 use Rattle.image.specs.Chain.{GoodSector}
-use Rattle.chains.specs.Chains.{File, filesOf, inFiles}
-use Rattle.chains.specs.Marks.{lastOr}
+use Rattle.chains.specs.Chains.{File, filesOf, inFiles, lastOr}
 use Rattle.changes.specs.Changes.{Change, differing}
 use Rattle.repairs.specs.Repairs.{countChanges, fileChanges, filesChanges, mapIn, sectorsChanges, rightBytes}
 use Rattle.doctor.specs.Doctor.{changesOf}

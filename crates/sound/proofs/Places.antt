@@ -12,8 +12,7 @@ use lib.ListN.{length}
 use Rattle.base.specs.Choice.{pick, and}
 use Rattle.base.proofs.Choices.{by-test, by-eq, by-lt, choose-go, and-false}
 use Rattle.image.specs.Image.{imageLength, sectorPlace, sectorByte, firstOf}
-use Rattle.chains.specs.Chains.{isReserved, File, filesOf, sectorsOf, inFiles}
-use Rattle.chains.specs.Marks.{lastOr}
+use Rattle.chains.specs.Chains.{isReserved, File, filesOf, sectorsOf, inFiles, lastOr}
 use Rattle.chains.proofs.Truths.{never}
 use Rattle.changes.specs.Changes.{Change}
 use Rattle.repairs.specs.Repairs.{fileChanges, filesChanges, mapIn, sectorsChanges, rightBytes}

@@ -11,8 +11,7 @@ use lib.ListN.{length}
 use Rattle.base.specs.Choice.{pick}
 use Rattle.image.specs.Image.{sectorByte, fileOf, nextOf}
 use Rattle.image.specs.Chain.{GoodSector}
-use Rattle.chains.specs.Chains.{isReserved}
-use Rattle.chains.specs.Marks.{lastOr}
+use Rattle.chains.specs.Chains.{isReserved, lastOr}
 use Rattle.sound.specs.Sound.{times, Chained, over, link}
 use Rattle.sound.specs.Repair.{Begins, nothing, next}
 use Rattle.sound.proofs.Member.{In, here, later}

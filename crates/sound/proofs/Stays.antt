@@ -7,8 +7,7 @@ use mathlib.Core.List.{List, [], _∷_}
 use Prim.Native.Nat.{ℕ, _+_, _*_, _/_, _%_, _<_, _≤_}
 use native.Mathlib.Omega.{arith}
 use Rattle.image.specs.Image.{firstOf}
-use Rattle.chains.specs.Chains.{isReserved, File, filesOf, sectorsOf}
-use Rattle.chains.specs.Marks.{lastOr}
+use Rattle.chains.specs.Chains.{isReserved, File, filesOf, sectorsOf, lastOr}
 use Rattle.chains.proofs.Truths.{never}
 use Rattle.changes.specs.Changes.{Change}
 use Rattle.sound.specs.Sound.{times}

@@ -12,8 +12,7 @@ use lib.ListN.{length, getD}
 use Rattle.base.proofs.Choices.{by-eq}
 use Rattle.base.proofs.Table.{upto, on}
 use Rattle.image.specs.Image.{sectorByte, entryByte, countOf, firstOf, nextOf}
-use Rattle.chains.specs.Chains.{File, inFiles, isFree, allFree}
-use Rattle.chains.specs.Marks.{lastOr}
+use Rattle.chains.specs.Chains.{File, inFiles, isFree, allFree, lastOr}
 use Rattle.changes.specs.Changes.{Change, differing}
 use Rattle.repairs.specs.Repairs.{cutChanges, countChanges, fileChanges, filesChanges, freeChanges, mapBit, mapByte, mapIn, rightBytes}
 use Rattle.repairs.proofs.Laws.{bit-one}

@@ -7,8 +7,7 @@ use Prim.Native.Nat.{ℕ, _<_, _≤_}
 use native.Mathlib.Omega.{arith}
 use Rattle.base.proofs.Choices.{by-eq}
 use Rattle.image.specs.Image.{firstOf}
-use Rattle.chains.specs.Chains.{isReserved, File, sectorsOf}
-use Rattle.chains.specs.Marks.{lastOr}
+use Rattle.chains.specs.Chains.{isReserved, File, sectorsOf, lastOr}
 use Rattle.sound.specs.Sound.{times}
 use Rattle.sound.proofs.Member.{In, here, later}
 use Rattle.sound.proofs.Facts.{Stretch, nothing, further, FoundFrom, no-more, ended, passed, used}
