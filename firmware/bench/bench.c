@@ -1,7 +1,8 @@
 /* bench: how fast the library is, and how deep its stack gets. It tests nothing but that each request ends as it should;
  * what it prints depends on the machine, and under an emulator only the proportions say something.
  *
- *   bench          calls a second, kind by kind; whole requests; ticks of short and of long requests; the doctor
+ *   bench          calls a second, kind by kind; whole requests; ticks of short and of long requests; ticks of E that
+ *                  scroll, and that do not; the doctor
  *   bench stack    the bytes of stack of the deepest call, kind by kind, and of the doctor */
 #define _XOPEN_SOURCE 700 /* clock_gettime, ucontext */
 #include "fixlomand.h"
@@ -21,6 +22,8 @@ enum {
 };
 enum { R = FIXLOMAND_AUX1_READ, W = FIXLOMAND_AUX1_WRITE, FORCED = FIXLOMAND_AUX1_FORCED };
 enum { SUCCESS = FIXLOMAND_STATUS_SUCCESS, REPLY_LEN = FIXLOMAND_ROOM_LEN };
+/* E's codes: a new row, and the row above */
+enum { EOL = FIXLOMAND_EOL, UP = 0x1C };
 /* where the specifications are in each port's area; buffers may lie over them once the blocks are open */
 enum { AT_E = 0, AT_S = 2, AT_K = 4, AT_P = 6, AT_C = 8, AT_D = 10 };
 /* the blocks: port 0 has E, S and K open, port 1 P, C and D */
@@ -466,6 +469,14 @@ static void say(const char *what, unsigned long (*work)(void))
     fflush(stdout);
 }
 
+/* The same for a tick of some requests. */
+static void say_tick(const char *what, unsigned long (*work)(void))
+{
+    double seconds = measure(work, TICK);
+    printf("%-48s%12.1f%16.0f\n", what, seconds * 1e9, 1 / seconds);
+    fflush(stdout);
+}
+
 /* The same for a whole request, with its calls and how often it can be made. */
 static void say_request(const char *what, unsigned long (*work)(void))
 {
@@ -589,6 +600,20 @@ static void say_lengths(void)
     say_growth("GET CHARACTERS from D", prepare_diskette, SECTOR_CHARACTERS, 16384, get_diskette);
 }
 
+/* Rows of 40 cells that move up cost what moving 920 bytes costs, and no more. */
+static void say_scrolling(void)
+{
+    printf("\n%-48s%12s%16s\n", "kind of tick", "ns a tick", "ticks a second");
+    prepare(0, FIXLOMAND_PORT_AREA_LEN);
+    for (unsigned i = 0; i < FIXLOMAND_PORT_AREA_LEN; i++)
+        area[i] = i % 2 == 0 ? EOL : UP;
+    say_tick("a tick of E that does not scroll (EOL, up)", put_editor);
+    memset(area, EOL, FIXLOMAND_PORT_AREA_LEN);
+    put_editor(); /* to the last row */
+    say_tick("a tick of E that scrolls (PUT of EOL)", put_editor);
+    say_tick("a tick of E that scrolls (GET of a blank row)", get_editor);
+}
+
 /* ---- stack ---- */
 
 enum { STACK_LEN = 1 << 18, PAINT = 0xC5 };
@@ -707,7 +732,7 @@ static void say_stack(void)
     send(0, fetch, sizeof fetch);
     say_depth("tick, FETCH of 256", work_tick0);
     receive(0);
-    area[0] = FIXLOMAND_EOL; /* from the last row: scrolls */
+    area[0] = EOL; /* from the last row: scrolls */
     state[FIXLOMAND_ROW] = 23;
     say_call("PUT to E, a new row", 0, BLOCK_E, PUT_CHARACTERS, 2, 0, 0);
     say_call("GET from E", 0, BLOCK_E, GET_CHARACTERS, 2, 0, 0);
@@ -751,6 +776,7 @@ int main(int words, char **word)
     say_kinds();
     say_requests();
     say_lengths();
+    say_scrolling();
     say_doctor();
     return 0;
 }

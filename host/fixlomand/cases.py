@@ -93,6 +93,10 @@ class Bench:
         its bytes as they are."""
         self._player.do(script.Write(script.Buffer.TAPE, 0, data.ljust(script.TAPE, b"\0")))
 
+    def write_screen(self, cells: bytes) -> None:
+        """From now on the screen shows these cells."""
+        self._player.do(script.Write(script.Buffer.SCREEN, 0, cells))
+
     def lend_diskette(self, data: bytes = b"", drive: int = 1) -> None:
         """From now on the diskette in a drive is these bytes, and zeros: a
         fresh start leaves its bytes as they are."""
@@ -1682,6 +1686,47 @@ def _(bench: Bench) -> None:
         bench.same(CallReply(OK, 0, 0), bench.call(Command.GET_STATUS, aux1=WRITE))
         bench.same(CallReply(0x84, 0, 0), bench.call(0x0E, aux1=WRITE))
         bench.same(before, bench.tape)
+
+
+# 02-change-requests, Ask 3: the screen ends as before
+
+SCROLLING = "02-change-requests, Ask 3"
+LETTERS = bytes(range(ord("A"), ord("Y")))
+"""A letter for each row: A to X."""
+
+
+@case(SCROLLING, "A to X, an EOL behind each: 49 ticks, B to X in rows 0 to 22, row 23 blank, cursor (23, 2)")
+def _(bench: Bench) -> None:
+    bench.editor()
+    bench.put(b"".join(bytes([letter]) + b"\x9b" for letter in LETTERS))
+    bench.same(49, 1 + bench.ticks)
+    for row, letter in enumerate(LETTERS[1:]):
+        bench.row(row, bytes([letter]))
+    bench.row(23, b"")
+    bench.same((23, 2), bench.cursor)
+
+
+@case(SCROLLING, "whole rows of any bytes move, by an EOL, by column 39 and by a read; cells past mode 0 stay")
+def _(bench: Bench) -> None:
+    old = bytes((7 * cell + cell // 40) % 251 for cell in range(script.SCREEN))
+    text = 24 * 40
+    blank = bytes([BLANK])
+    for row, data in ((23, b"\x9b"), (23, b"A" * 38), (23, None), (22, b"\x9b")):
+        bench.fresh()
+        bench.editor()
+        bench.put(b"\x9b" * row)
+        screen = bytearray(old)
+        if data is None:  # all that a read of the last line can give is the EOL
+            screen[text - 38 : text] = 38 * blank
+        bench.write_screen(bytes(screen))
+        if data is None:
+            bench.get(1, b"\x9b")
+        else:
+            bench.put(data)
+            screen[40 * row + 2 : 40 * row + 2 + len(data.rstrip(b"\x9b"))] = data.rstrip(b"\x9b")
+        if row == 23:
+            screen[:text] = screen[40:text] + 40 * blank
+        bench.same(bytes(screen), bench.state.screen)
 
 
 # 02-change-requests, Ask 7: the last character before the end

@@ -18,7 +18,7 @@ PROMISES = REPOSITORY / "docs" / "PROMISES.md"
 DECISIONS = REPOSITORY / "docs" / "DECISIONS.md"
 
 FILE = re.compile(r"[\w.-]+(/[\w.-]+)*/[\w.-]+\.(antt|rt|rs|py|md|c|h)|play/(script\.txt|stdout)")
-BESIDE = ("host/", "model/", "docs/", "firmware/include/", "firmware/tests/", "firmware/example/")
+BESIDE = ("host/", "model/", "docs/", "firmware/include/", "firmware/tests/", "firmware/example/", "firmware/bench/")
 """Where a path is below the repository and not below crates/."""
 EDIT = re.compile(r"[a-z]+/\w+")
 WORDS = {"play", "rt ci", "./test", "crate/name", "crates/", "host/", "model/", "docs/"}

@@ -256,9 +256,18 @@ class Gate(unittest.TestCase):
                 given = b"".join(bytes([0, byte]) for byte in bytes.fromhex(note))
                 self.assertEqual(self.output[at - len(given) : at], given, line)
         self.assertEqual(at, len(self.output))
-        record, cell, ends, disks = dumps
+        record, cell, letters, rows, ends, disks = dumps
         self.assertEqual((record.screen[2:4], record.row, record.column), (b"\x41\x42", 1, 2))
         self.assertEqual(cell.screen[0], 1)
+        blank = b"\x20"
+        self.assertEqual(letters.screen[:43], 2 * blank + b"B" + 39 * blank + b"C")
+        self.assertEqual(letters.screen[880:960], 2 * blank + b"X" + 77 * blank)
+        self.assertEqual((letters.row, letters.column), (23, 2))
+        self.assertEqual(rows.screen[:3], b"\x06\x07\x08")
+        self.assertEqual(rows.screen[877:884], blank + b"\x09\x0a\x0b\x0c\x0d" + blank)
+        self.assertEqual(rows.screen[917:963], blank + b"\x0e\x0f" + 40 * blank + b"\x10\x11\0")
+        self.assertEqual(rows.screen[997:1003], b"\0\x12\x13\x14\x15\0")
+        self.assertEqual(rows.screen[-3:], b"\0\x16\x17")
         self.assertEqual((ends.areas[1][-1], ends.screen[-1], ends.paper[-1]), (0x7A, 0x7B, 0x7C))
         self.assertEqual(ends.blocks[1][2], script.Block(True, "C", 1, 0x04))
         first = (script.Block(True, "D", 1, 0x04), script.Block(True, "D", 1, 0x06), script.Block(False, "", 0, 0))

@@ -22,12 +22,14 @@ use Rattle.cells.proofs.reduce.Kinds as reduce-kinds
 use Rattle.cells.proofs.reduce.Reads as reduce-reads
 use Rattle.cells.proofs.scroll.Kinds as scroll-kinds
 use Rattle.cells.proofs.scroll.Reads as scroll-reads
+use Rattle.cells.proofs.scroll_by.Kinds as scroll-by-kinds
+use Rattle.cells.proofs.scroll_by.Reads as scroll-by-reads
 use Rattle.cells.proofs.part.paint.Kinds as paint-kinds
 use Rattle.cells.proofs.part.paint.Reads as paint-reads
 use Rattle.cells.proofs.part.reduce_all.Kinds as reduce-all-kinds
 use Rattle.cells.proofs.part.reduce_all.Reads as reduce-all-reads
-use Rattle.cells.proofs.part.raise.Kinds as raise-kinds
-use Rattle.cells.proofs.part.raise.Reads as raise-reads
+use Rattle.cells.proofs.part.shift.Kinds as shift-kinds
+use Rattle.cells.proofs.part.shift.Reads as shift-reads
 
 pub is-mode-decides : Decides is-mode-kinds.ps is-mode-kinds.r is-mode-reads.Pre is-mode-reads.Learnt
 is-mode-decides κs a z z′ ws ws′ p e e′ = (e ∙ sym e′, refl)
@@ -83,6 +85,12 @@ scroll-decides κs a z z′ ws ws′ p e e′ = (refl, ap (λ (l : List ℕ). (l
 pub scroll-allows : Allows scroll-kinds.ps scroll-kinds.r scroll-reads.Pre scroll-reads.Learnt
 scroll-allows κs a p = (_, (_, refl))
 
+pub scroll-by-decides : Decides scroll-by-kinds.ps scroll-by-kinds.r scroll-by-reads.Pre scroll-by-reads.Learnt
+scroll-by-decides κs a z z′ ws ws′ p e e′ = (refl, ap (λ (l : List ℕ). (l, (tt, tt))) (e ∙ sym e′))
+
+pub scroll-by-allows : Allows scroll-by-kinds.ps scroll-by-kinds.r scroll-by-reads.Pre scroll-by-reads.Learnt
+scroll-by-allows κs a p = (_, (_, refl))
+
 pub paint-decides : Decides paint-kinds.ps paint-kinds.r paint-reads.Pre paint-reads.Learnt
 paint-decides κs a z z′ ws ws′ p e e′ = (refl, ap (λ (l : List ℕ). (l, (tt, tt))) (e ∙ sym e′))
 
@@ -95,8 +103,8 @@ reduce-all-decides κs a z z′ ws ws′ p e e′ = (refl, ap (λ (l : List ℕ)
 pub reduce-all-allows : Allows reduce-all-kinds.ps reduce-all-kinds.r reduce-all-reads.Pre reduce-all-reads.Learnt
 reduce-all-allows κs a p = (_, (_, refl))
 
-pub raise-decides : Decides raise-kinds.ps raise-kinds.r raise-reads.Pre raise-reads.Learnt
-raise-decides κs a z z′ ws ws′ p e e′ = (refl, ap (λ (l : List ℕ). (l, tt)) (e ∙ sym e′))
+pub shift-decides : Decides shift-kinds.ps shift-kinds.r shift-reads.Pre shift-reads.Learnt
+shift-decides κs a z z′ ws ws′ p e e′ = (refl, ap (λ (l : List ℕ). (l, (tt, (tt, tt)))) (e ∙ sym e′))
 
-pub raise-allows : Allows raise-kinds.ps raise-kinds.r raise-reads.Pre raise-reads.Learnt
-raise-allows κs a p = (_, (_, refl))
+pub shift-allows : Allows shift-kinds.ps shift-kinds.r shift-reads.Pre shift-reads.Learnt
+shift-allows κs a p = (_, (_, refl))

@@ -1,16 +1,16 @@
 -- The cells after each act on a part of the screen.
 -- Assumes nothing.
 use mathlib.Core.Path.{_≡_, _∙_, refl, sym, ap}
-use mathlib.Core.List.{List, [], _∷_, _++_, map, append-assoc, append-nil}
-use native.Mathlib.Nat.{zero-add, suc-add}
+use mathlib.Core.List.{List, _∷_, _++_, append-nil}
+use native.Mathlib.Nat.{not-suc-le-zero, le-of-suc-le-suc}
 use Prim.Native.Nat.{ℕ, zero, suc, _+_, _-_, _*_, _%_, _<_, _≤_}
 use native.Mathlib.Omega.{arith}
 use borrow.Author.Fill.{fill-more}
-use Rattle.base.proofs.Lists.{move-step, map-step}
-use lib.ListN.{length, getD, set, length-set, take, drop, replicate, length-take, length-drop, length-append, length-replicate, length-map, drop-of-length-le}
-use lib.Seq.{length-take-le, take-all, take-length, drop-length, take-append-le, take-at, drop-at, drop-drop, take-nil, drop-nil}
+use Rattle.base.proofs.Lists.{move-step, map-step, part-tail, back-tail}
+use lib.ListN.{length, getD, set, length-set, take, drop, replicate, length-take, length-drop, length-append, length-replicate, length-map}
+use lib.Seq.{length-take-le, take-all, take-length, drop-length, take-append-add, take-at}
 use Rattle.cells.specs.Modes.{shapeOf, countOf}
-use Rattle.cells.specs.Cells.{Whole, reducedAll, filled, reduced, raised, scrolled}
+use Rattle.cells.specs.Cells.{Whole, reducedAll, filled, reduced, raised, shifted, scrolled, scrolledBy}
 use borrow.Rule.Slice.PartMut.{putMid}
 use Rattle.cells.specs.declared.Shape.{Shape}
 use Rattle.cells.proofs.Shapes.{shape-good}
@@ -57,15 +57,18 @@ module _ (d s : List ℕ) (i : ℕ) (l : length s ≡ length d) where
       let q : i ≡ length d = omega arith in
       e ∙ simp (q, drop-length, take-length, append-nil)
 
-  pub raise-step : i + 40 < length s → s ≡ take i (drop 40 d) ++ drop i d
-      → (i + 1 ≤ length d - 40) × ((set s i (getD s (i + 40) 0) ≡ take (i + 1) (drop 40 d) ++ drop (i + 1) d) × (length (set s i (getD s (i + 40) 0)) ≡ length d))
-  raise-step h e = (omega arith, (move-step d s 40 i (omega arith) e, simp length-set l))
+  pub raise-step : (by : ℕ) → i + by < length s → s ≡ take i (drop by d) ++ drop i d
+      → (i + 1 ≤ length d - by) × ((set s i (getD s (i + by) 0) ≡ take (i + 1) (drop by d) ++ drop (i + 1) d) × (length (set s i (getD s (i + by) 0)) ≡ length d))
+  raise-step by h e = (omega arith, (move-step d s by i (omega arith) e, simp length-set l))
 
-  pub raised-all : i ≤ length d - 40 → length s ≤ i + 40 → s ≡ take i (drop 40 d) ++ drop i d → s ≡ raised d
+  pub raised-all : (by : ℕ) → i ≤ length d - by → length s ≤ i + by → s ≡ take i (drop by d) ++ drop i d → s ≡ raised by d
   unfolding raised
-  raised-all h k e =
-      let q : i ≡ length d - 40 = omega arith in
-      e ∙ simp (q, take-all (length d - 40) (drop 40 d) (simp length-drop (omega arith)))
+  raised-all by h k e =
+      let q : i ≡ length d - by = omega arith in
+      e ∙ simp (q, take-all (length d - by) (drop by d) (simp length-drop (omega arith)))
+
+  pub raised-end : (by : ℕ) → i ≤ length d - by → length s ≤ i + by → i ≡ length d - by
+  raised-end by h k = omega arith
 
 -- a number of cells that `count` gave
 module _ (mode n : ℕ) (cells : List ℕ) (w : Whole cells) (e : n ≡ countOf mode) where
@@ -83,50 +86,48 @@ module _ (mode n : ℕ) (cells : List ℕ) (w : Whole cells) (e : n ≡ countOf 
   unfolding reduced
   reduce-law shape part s q = rw (q, s, e)
 
--- the cells after a row of r: those that the first m of the others are taken to
-after-row : (r m : ℕ) (l : List ℕ) → drop r (take (r + m) l) ≡ take m (drop r l)
-after-row zero m l = rw (zero-add m)
-after-row (suc r) m [] = simp (take-nil, drop-nil)
-after-row (suc r) m (x ∷ l) = rw (suc-add r m) (after-row r m l)
+-- the first cells of a run of one byte
+fewer : (n m v : ℕ) → n ≤ m → take n (replicate m v) ≡ replicate n v
+fewer zero m v h = refl
+fewer (suc n) zero v h = absurd (not-suc-le-zero h)
+fewer (suc n) (suc m) v h = ap (λ (l : List ℕ). v ∷ l) (fewer n m v (le-of-suc-le-suc h))
 
--- m cells after a row of r move up by that row, and the last row becomes v
-module _ (r m v : ℕ) (cells part row : List ℕ) (h : r + m ≤ length cells)
-    (p : part ≡ drop r (take (r + m) cells) ++ drop (length (take (r + m) cells) - r) (take (r + m) cells))
-    (q : row ≡ replicate (length (take r (drop m (part ++ drop (r + m) cells)))) v) where
-  whole : length (take (r + m) cells) ≡ r + m
-  whole = length-take-le (r + m) cells h
+-- cells that were moved up, and those behind the rest painted
+module _ (by byte rest : ℕ) (cells moved blank : List ℕ) (m : moved ≡ raised by cells) (r : rest ≡ length cells - by)
+    (b : blank ≡ replicate (length (take (length moved - rest) (drop rest moved))) byte) where
+  behind : length (drop by cells) ≡ rest
+  behind = length-drop by cells ∙ sym r
 
-  front : length (drop r (take (r + m) cells)) ≡ m
-  front = length-drop r (take (r + m) cells) ∙ omega (arith, whole)
+  moved-length : length moved ≡ length cells
+  unfolding raised
+  moved-length = ap length m ∙ simp (length-append, length-drop) (omega arith)
 
-  part-length : length part ≡ r + m
-  part-length = rw (p, length-append, length-drop, length-drop, whole) (omega arith)
+  front : take rest moved ≡ drop by cells
+  unfolding raised
+  front = ap (λ (l : List ℕ). take rest l) m ∙ take-at (drop by cells) _ rest behind
 
-  kept : drop r (drop m (part ++ drop (r + m) cells)) ≡ drop (r + m) cells
-  kept = drop-drop r m (part ++ drop (r + m) cells) ∙ drop-at part (drop (r + m) cells) (m + r) (omega (arith, part-length))
+  blanks : blank ≡ replicate (length cells - rest) byte
+  blanks =
+      let e : length (take (length moved - rest) (drop rest moved)) ≡ length cells - rest =
+      ap length (part-tail rest moved) ∙ length-drop rest moved ∙ ap (λ (n : ℕ). n - rest) moved-length in
+      b ∙ ap (λ (n : ℕ). replicate n byte) e
 
-  moved : take m (part ++ drop (r + m) cells) ≡ take m (drop r cells)
-  moved =
-      take-append-le m part (drop (r + m) cells) (omega (arith, part-length))
-      ∙ ap (λ (x : List ℕ). take m x) p
-      ∙ take-at (drop r (take (r + m) cells)) _ m front
-      ∙ after-row r m cells
+  shift-is : drop by cells ++ replicate (length cells - rest) byte ≡ shifted by byte cells
+  unfolding shifted
+  shift-is =
+      let k : length cells ≡ length (drop by cells) + (length cells - rest) = omega (arith, behind) in
+      sym (ap (λ (n : ℕ). take n (drop by cells ++ replicate by byte)) k
+      ∙ take-append-add (drop by cells) (replicate by byte) (length cells - rest)
+      ∙ ap (λ (l : List ℕ). drop by cells ++ l) (fewer (length cells - rest) by byte (omega arith)))
 
-  last : row ≡ replicate r v
-  last =
-      let e : length (take r (drop m (part ++ drop (r + m) cells))) ≡ r =
-      length-take-le r (drop m (part ++ drop (r + m) cells)) (simp (length-drop, length-append) (omega (arith, part-length))) in
-      q ∙ ap (λ (n : ℕ). replicate n v) e
+  pub shift-law : putMid rest (length moved - rest) moved blank ≡ shifted by byte cells
+  shift-law = back-tail rest moved blank ∙ rw (front, blanks) shift-is
 
-  pub row-up : take m (part ++ drop (r + m) cells) ++ (row ++ drop r (drop m (part ++ drop (r + m) cells))) ≡ take m (drop r cells) ++ (replicate r v ++ drop (r + m) cells)
-  row-up = rw (moved, last, kept)
+module _ (n : ℕ) (cells : List ℕ) (w : Whole cells) where
+  pub rows-part : n ≤ 61440 → n ≡ length (take n cells)
+  rows-part h = sym (length-take-le n cells (omega (arith, w .all)))
 
-module _ (cells : List ℕ) (w : Whole cells) where
-  pub rows-part : 960 ≡ length (take 960 cells)
-  rows-part = sym (length-take-le 960 cells (omega (arith, w .all)))
-
-  pub scroll-law : (part row : List ℕ) → part ≡ raised (take 960 cells)
-      → row ≡ replicate (length (take 40 (drop 920 (part ++ drop 960 cells)))) 0x20
-      → putMid 920 40 (part ++ drop 960 cells) row ≡ scrolled cells
-  unfolding scrolled raised
-  scroll-law part row p q = row-up 40 920 0x20 cells part row (omega (arith, w .all)) p q
+module _ (rows : ℕ) (cells : List ℕ) where
+  pub scroll-by-law : (part : List ℕ) → part ≡ shifted (rows * 40) 0x20 (take 960 cells) → part ++ drop 960 cells ≡ scrolledBy rows cells
+  unfolding scrolledBy
+  scroll-by-law part e = rw e refl

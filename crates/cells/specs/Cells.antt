@@ -40,10 +40,19 @@ reducedAll colours cells = map (λ (cell : ℕ). cell % colours) cells
 unfoldable pub reduced : (mode : ℕ) → List ℕ → List ℕ
 reduced mode cells = reducedAll (shapeOf mode .colours) (take (countOf mode) cells) ++ drop (countOf mode) cells
 
--- a part of the screen moved up: each row of 40 cells but the last becomes the next, and the last stays as it is
-unfoldable pub raised : List ℕ → List ℕ
-raised cells = drop 40 cells ++ drop (length cells - 40) cells
+-- what the loop of a scroll leaves: each cell that has one so many places behind it is that one, and the others stay
+unfoldable pub raised : (by : ℕ) → List ℕ → List ℕ
+raised by cells = drop by cells ++ drop (length cells - by) cells
+
+-- the first cells go, the rest moves up, and as many cells of one byte come in behind it
+unfoldable pub shifted : (by byte : ℕ) → List ℕ → List ℕ
+shifted by byte cells = take (length cells) (drop by cells ++ replicate by byte)
 
 -- "rows move up and row 23 becomes $20": of mode 0's 960 cells
 unfoldable pub scrolled : List ℕ → List ℕ
 scrolled cells = take 920 (drop 40 cells) ++ (replicate 40 0x20 ++ drop 960 cells)
+
+-- the same over the number of rows, for "Scrolling removes the whole top line" (02) is of one to three: the top rows of 40 cells
+-- go, the rest moves up, and as many rows of $20 come in at the bottom; from 24 on all is blank
+unfoldable pub scrolledBy : (rows : ℕ) → List ℕ → List ℕ
+scrolledBy rows cells = shifted (rows * 40) 0x20 (take 960 cells) ++ drop 960 cells

@@ -1,12 +1,12 @@
-// The screen's cells, a byte each: what each mode has, and the cells of a mode read, written, filled and reduced. Cells past
-// the mode stay.
+// The screen's cells, a byte each: what each mode has, and the cells of a mode read, written, filled, reduced and scrolled. Cells
+// past the mode stay.
 pub mod part;
 
 ghost use mathlib.Core.Path.{_≡_};
 ghost use Prim.Native.Nat.{_%_};
 ghost use Prim.Native.Nat.{_<_, _≤_};
 ghost use Rattle.cells.specs.Modes.{isMode, shapeOf, countOf};
-ghost use Rattle.cells.specs.Cells.{Colours, Whole, placeOf, cellOf, withCell, filled, reduced, scrolled};
+ghost use Rattle.cells.specs.Cells.{Colours, Whole, placeOf, cellOf, withCell, filled, reduced, scrolled, scrolledBy};
 
 pub struct Shape {
     pub columns: u16,
@@ -175,6 +175,13 @@ pub fn scroll(screen: &mut [u8])
     requires { ⌜ Whole (now screen) ⌝ }
     ensures { λ _. ⌜ now (screen .exit) ≡ scrolled (now (screen .entry)) ⌝ }
 {
-    part::raise(&mut screen[..960]);
-    part::paint(&mut screen[920..960], 0x20);
+    scroll_by(screen, 1);
+}
+
+// The top rows go, the rest moves up, and as many rows of $20 come in at the bottom.
+pub fn scroll_by(screen: &mut [u8], rows: u16)
+    requires { ⌜ Whole (now screen) ⌝ }
+    ensures { λ _. ⌜ now (screen .exit) ≡ scrolledBy rows (now (screen .entry)) ⌝ }
+{
+    part::shift(&mut screen[..960], rows as usize * 40, 0x20);
 }

@@ -8,8 +8,8 @@ use native.Mathlib.Nat.{add-zero, add-suc, suc-mul}
 use native.Mathlib.Omega.{arith}
 use borrow.Author.Tests.{le-leb, lt-leb, eq-eqb, ne-eqb}
 use lib.Dec.{T, eqb}
-use lib.ListN.{length, getD, set, take, drop, replicate, length-set, length-append, length-drop, List·getD-append, List·getD-eq-default}
-use lib.Seq.{getD-set-same, getD-set-other, getD-at, getD-take, getD-drop, length-take-le}
+use lib.ListN.{length, getD, set, replicate, length-set, length-append, List·getD-append, List·getD-eq-default}
+use lib.Seq.{getD-set-same, getD-set-other, getD-at}
 use Rattle.base.specs.Choice.{or}
 use Rattle.base.proofs.Choices.{by-lt, by-eq}
 use Rattle.base.proofs.Table.{on}
@@ -22,6 +22,7 @@ use Rattle.handler.specs.Answer.{Answer}
 use Rattle.handler.specs.InOrder.{andThen, putsOf, getsOf, Each}
 use Rattle.handler.proofs.InOrder.{puts-more, gets-none, gets-one}
 use Rattle.cells.specs.Cells.{Whole, scrolled}
+use Rattle.cells.proofs.Scrolls.{scrolled-at}
 use Rattle.editor.specs.declared.ReadColumn.the-variants.{Dropped}
 use Rattle.editor.specs.Text.{Text, text, cellAt, placed, withEscape, moveTo, newRow, unread}
 use Rattle.editor.specs.Get.{columnOf, cellsHeld, endOf, readOn, getOf}
@@ -81,16 +82,10 @@ module _ (line : List ℕ) (byte : ℕ) where
       (λ e. getD-set-other cells (cellAt row (2 + length line)) (cellAt row 2 + c) byte 0 (λ q. e (omega arith)) ∙ s c h ∙ sym (others-are c e))
 
 -- rows move up
-scrolled-at : (cells : List ℕ) (i : ℕ) → Whole cells → i < 920 → getD (scrolled cells) i 0 ≡ getD cells (40 + i) 0
-unfolding scrolled
-scrolled-at cells i w h =
-    let l : length (take 920 (drop 40 cells)) ≡ 920 = length-take-le 920 (drop 40 cells) (simp length-drop (omega (arith, w .all))) in
-    List·getD-append (take 920 (drop 40 cells)) _ 0 i (omega arith) ∙ getD-take 920 (drop 40 cells) i 0 h ∙ getD-drop 40 cells i 0
-
 shows-up : (line : List ℕ) (row : ℕ) (cells : List ℕ) → Whole cells → suc row < 24 → Shows line (suc row) cells → Shows line row (scrolled cells)
 shows-up line row cells w r s c h =
     let p : 40 + (cellAt row 2 + c) ≡ cellAt (suc row) 2 + c = rw suc-mul (omega arith) in
-    scrolled-at cells (cellAt row 2 + c) w (omega arith) ∙ ap (λ (i : ℕ). getD cells i 0) p ∙ s c h
+    scrolled-at cells w (cellAt row 2 + c) (omega arith) ∙ ap (λ (i : ℕ). getD cells i 0) p ∙ s c h
 
 -- the line stands so many rows above the cursor, in an undamaged text with escape off
 record Stands (line : List ℕ) (above : ℕ) (t : Text) : Type 0 where

@@ -74,12 +74,14 @@ use Rattle.cells.proofs.reduce.Kinds as cells-reduce-kinds
 use Rattle.cells.proofs.reduce.Reads as cells-reduce-reads
 use Rattle.cells.proofs.scroll.Kinds as cells-scroll-kinds
 use Rattle.cells.proofs.scroll.Reads as cells-scroll-reads
+use Rattle.cells.proofs.scroll_by.Kinds as cells-scroll-by-kinds
+use Rattle.cells.proofs.scroll_by.Reads as cells-scroll-by-reads
 use Rattle.cells.proofs.part.paint.Kinds as cells-paint-kinds
 use Rattle.cells.proofs.part.paint.Reads as cells-paint-reads
 use Rattle.cells.proofs.part.reduce_all.Kinds as cells-reduce-all-kinds
 use Rattle.cells.proofs.part.reduce_all.Reads as cells-reduce-all-reads
-use Rattle.cells.proofs.part.raise.Kinds as cells-raise-kinds
-use Rattle.cells.proofs.part.raise.Reads as cells-raise-reads
+use Rattle.cells.proofs.part.shift.Kinds as cells-shift-kinds
+use Rattle.cells.proofs.part.shift.Reads as cells-shift-reads
 use Rattle.cells.proofs.Decided as cells
 use Rattle.editor.proofs.Editor.place.Kinds as editor-place-kinds
 use Rattle.editor.proofs.Editor.place.Reads as editor-place-reads
@@ -497,9 +499,10 @@ cells-decided =
     promise cells-fill-kinds.ps cells-fill-kinds.r cells-fill-reads.Pre cells-fill-reads.Learnt cells.fill-decides cells.fill-allows (
     promise cells-reduce-kinds.ps cells-reduce-kinds.r cells-reduce-reads.Pre cells-reduce-reads.Learnt cells.reduce-decides cells.reduce-allows (
     promise cells-scroll-kinds.ps cells-scroll-kinds.r cells-scroll-reads.Pre cells-scroll-reads.Learnt cells.scroll-decides cells.scroll-allows (
+    promise cells-scroll-by-kinds.ps cells-scroll-by-kinds.r cells-scroll-by-reads.Pre cells-scroll-by-reads.Learnt cells.scroll-by-decides cells.scroll-by-allows (
     promise cells-paint-kinds.ps cells-paint-kinds.r cells-paint-reads.Pre cells-paint-reads.Learnt cells.paint-decides cells.paint-allows (
     promise cells-reduce-all-kinds.ps cells-reduce-all-kinds.r cells-reduce-all-reads.Pre cells-reduce-all-reads.Learnt cells.reduce-all-decides cells.reduce-all-allows (
-    promise cells-raise-kinds.ps cells-raise-kinds.r cells-raise-reads.Pre cells-raise-reads.Learnt cells.raise-decides cells.raise-allows keys-decided)))))))))))
+    promise cells-shift-kinds.ps cells-shift-kinds.r cells-shift-reads.Pre cells-shift-reads.Learnt cells.shift-decides cells.shift-allows keys-decided))))))))))))
 
 pub editor-decided : Promises
 editor-decided =
