@@ -600,7 +600,7 @@ static void say_lengths(void)
     say_growth("GET CHARACTERS from D", prepare_diskette, SECTOR_CHARACTERS, 16384, get_diskette);
 }
 
-/* Rows of 40 cells that move up cost what moving 920 bytes costs, and no more. */
+/* What a scroll adds to a tick: 920 bytes move, and 40 become blank. */
 static void say_scrolling(void)
 {
     printf("\n%-48s%12s%16s\n", "kind of tick", "ns a tick", "ticks a second");
