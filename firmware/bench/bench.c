@@ -2,7 +2,7 @@
  * what it prints depends on the machine, and under an emulator only the proportions say something.
  *
  *   bench          calls a second, kind by kind; whole requests; ticks of short and of long requests; ticks of E that
- *                  scroll, and that do not, and of K over one key and over sixteen; the doctor
+ *                  scroll, and that do not; the doctor
  *   bench stack    the bytes of stack of the deepest call, kind by kind, and of the doctor */
 #define _XOPEN_SOURCE 700 /* clock_gettime, ucontext */
 #include "fixlomand.h"
@@ -30,8 +30,6 @@ enum { AT_E = 0, AT_S = 2, AT_K = 4, AT_P = 6, AT_C = 8, AT_D = 10 };
 enum { BLOCK_E = 0, BLOCK_S = 1, BLOCK_K = 2, BLOCK_P = 0, BLOCK_C = 1, BLOCK_D = 2 };
 /* a tape's records, the bytes of each and its characters */
 enum { RECORDS = 250, RECORD_LEN = FIXLOMAND_TAPE_LEN / RECORDS, CHARACTERS = FIXLOMAND_PENDING_LEN };
-/* keys: the letter A, and a code that makes no character */
-enum { KEY_A = 0x3F, NO_CHARACTER = 0xC0 };
 /* the sectors that a file of a diskette may have, and the characters of each */
 enum { SECTORS = FIXLOMAND_SECTORS - 1, SECTOR_CHARACTERS = 125 };
 /* the sectors that the files of a sound diskette may have together, and those of each where 64 files have them all */
@@ -193,8 +191,8 @@ static void start(void)
     call(1, BLOCK_P, OPEN, AT_P, 0, W, 0, SUCCESS);
 }
 
-/* A new paper, the cursor home, certain keys that wait, a tape at its beginning and a file at its own: no message does
- * one of them alone, so the state is written between two calls, by its layout. */
+/* A new paper, the cursor home, a tape at its beginning and a file at its own: no message does one of them alone, so the
+ * state is written between two calls, by its layout. */
 static void new_paper(void)
 {
     state[FIXLOMAND_USED] = state[FIXLOMAND_USED + 1] = 0;
@@ -203,20 +201,6 @@ static void new_paper(void)
 static void home(void)
 {
     state[FIXLOMAND_ROW] = state[FIXLOMAND_COLUMN] = state[FIXLOMAND_COLUMN + 1] = 0;
-}
-
-/* So many keys wait: the letter A, and before it codes that make no character. */
-static unsigned keys_now;
-
-static void set_keys(void)
-{
-    state[FIXLOMAND_FIRST_KEY] = 0;
-    state[FIXLOMAND_WAITING] = (uint8_t)keys_now;
-    memset(state + FIXLOMAND_KEYS, 0, FIXLOMAND_KEYS_LEN);
-    if (keys_now > 0) {
-        memset(state + FIXLOMAND_KEYS, NO_CHARACTER, keys_now - 1);
-        state[FIXLOMAND_KEYS + keys_now - 1] = KEY_A;
-    }
 }
 
 static void rewind_tape(void)
@@ -342,26 +326,10 @@ static unsigned long load_once(void)
     return 261 + 1 + 5;
 }
 
-/* As many as there are places, again and again from none. */
 static unsigned long press_many(void)
 {
-    unsigned done = 0;
-    for (unsigned i = 0; i < 1024; i++) {
-        if (i % FIXLOMAND_KEYS_LEN == 0)
-            set_keys();
-        done += fixlomand_press(LENT, (uint8_t)i) == FIXLOMAND_DONE;
-    }
-    want(done == 1024, "press");
-    set_keys();
-    return 1024;
-}
-
-static unsigned long press_full(void)
-{
-    unsigned full = 0;
     for (unsigned i = 0; i < 1000; i++)
-        full += fixlomand_press(LENT, (uint8_t)i) == FIXLOMAND_QUEUE_FULL;
-    want(full == 1000, "press, sixteen keys wait");
+        fixlomand_press(LENT, (uint8_t)i);
     return 1000;
 }
 
@@ -383,7 +351,7 @@ static unsigned long damaged_many(void)
 
 static unsigned long key_once(void)
 {
-    want(fixlomand_press(LENT, KEY_A) == FIXLOMAND_DONE, "press");
+    want(fixlomand_press(LENT, 0x3F) == FIXLOMAND_DONE, "press");
     return 1 + 12 + call(0, BLOCK_K, GET_CHARACTERS, 64, 1, 0, 0, SUCCESS) + 8;
 }
 
@@ -397,25 +365,6 @@ static unsigned long translate_many(void)
 }
 
 static unsigned length_now;
-
-/* GET CHARACTERS from K, with the same keys waiting before each tick: so one of them is taken, or all. */
-static unsigned long get_keys(void)
-{
-    unsigned long ticks = 0;
-    double begin;
-    send_call(0, BLOCK_K, GET_CHARACTERS, 0, length_now, 0, 0);
-    begin = now();
-    do {
-        set_keys();
-        want(fixlomand_tick(LENT, 0) == FIXLOMAND_DONE, "tick");
-        ticks++;
-    } while (state[FIXLOMAND_PHASE] == FIXLOMAND_RUNNING);
-    tick_time += now() - begin;
-    tick_count += ticks;
-    want(ticks == 1 + length_now && receive(0) == 7 && reply[3] == SUCCESS && area[0] == 'A', "GET from K");
-    want(state[FIXLOMAND_WAITING] == 0, "GET from K");
-    return 12 + ticks + 8;
-}
 
 static unsigned long put_editor(void)
 {
@@ -570,11 +519,6 @@ static void say_kinds(void)
     say("take a byte", take_many);
     say("give a byte (a FETCH's reply)", give_many);
     say("press a key", press_many);
-    keys_now = FIXLOMAND_KEYS_LEN;
-    set_keys();
-    say("press a key, sixteen wait", press_full);
-    keys_now = 0;
-    set_keys();
     say("tick, nothing ready", idle_many);
     say("tick, damaged state", damaged_many);
     say("key translation", translate_many);
@@ -656,8 +600,8 @@ static void say_lengths(void)
     say_growth("GET CHARACTERS from D", prepare_diskette, SECTOR_CHARACTERS, 16384, get_diskette);
 }
 
-/* What a scroll adds to a tick, in which 920 bytes move and 40 become blank; and what keys add that pass. */
-static void say_ticks(void)
+/* What a scroll adds to a tick: 920 bytes move, and 40 become blank. */
+static void say_scrolling(void)
 {
     printf("\n%-48s%12s%16s\n", "kind of tick", "ns a tick", "ticks a second");
     prepare(0, FIXLOMAND_PORT_AREA_LEN);
@@ -668,11 +612,6 @@ static void say_ticks(void)
     put_editor(); /* to the last row */
     say_tick("a tick of E that scrolls (PUT of EOL)", put_editor);
     say_tick("a tick of E that scrolls (GET of a blank row)", get_editor);
-    prepare(0, 1024);
-    keys_now = 1;
-    say_tick("a tick of K over one key", get_keys);
-    keys_now = FIXLOMAND_KEYS_LEN;
-    say_tick("a tick of K over sixteen keys, fifteen pass", get_keys);
 }
 
 /* ---- stack ---- */
@@ -736,12 +675,12 @@ static void work_give(void)
 
 static void work_press(void)
 {
-    fixlomand_press(LENT, KEY_A);
+    fixlomand_press(LENT, 0x3F);
 }
 
 static void work_translate(void)
 {
-    fixlomand_translate(KEY_A, FIXLOMAND_LOCK_SHIFT, 0);
+    fixlomand_translate(0x3F, FIXLOMAND_LOCK_SHIFT, 0);
 }
 
 static void work_doctor(void)
@@ -797,9 +736,9 @@ static void say_stack(void)
     state[FIXLOMAND_ROW] = 23;
     say_call("PUT to E, a new row", 0, BLOCK_E, PUT_CHARACTERS, 2, 0, 0);
     say_call("GET from E", 0, BLOCK_E, GET_CHARACTERS, 2, 0, 0);
-    keys_now = FIXLOMAND_KEYS_LEN;
-    set_keys();
-    say_call("GET from K over sixteen keys", 0, BLOCK_K, GET_CHARACTERS, 2, 0, 0);
+    say_call("GET from K", 0, BLOCK_K, GET_RECORD, 0, 0, 0);
+    say_depth("tick, GET from K, the character", work_tick0);
+    receive(0);
     say_call("PUT to P", 1, BLOCK_P, PUT_CHARACTERS, 2, 0, 0);
     open_tape(R);
     say_call("GET from C", 1, BLOCK_C, GET_CHARACTERS, 2, 0, 0);
@@ -837,7 +776,7 @@ int main(int words, char **word)
     say_kinds();
     say_requests();
     say_lengths();
-    say_ticks();
+    say_scrolling();
     say_doctor();
     return 0;
 }

@@ -143,15 +143,15 @@ static void scan(void)
     }
 }
 
-/* Stores the oldest key. It waits here, and those behind it, while a request is at the console (6) and while the core has
- * sixteen keys that no host has read (9). */
+/* Stores the oldest key. The core has one place, and would store it over a key that no host has read: so it waits here
+ * until the place is empty, and while a request is at the console (6). */
 static void press(void)
 {
     uint8_t answer;
-    if (typed_length == 0)
+    if (typed_length == 0 || board.state[FIXLOMAND_KEY] != FIXLOMAND_NO_KEY)
         return;
     answer = fixlomand_press(LENT, typed[0]);
-    if (answer == FIXLOMAND_CONSOLE_HELD || answer == FIXLOMAND_QUEUE_FULL)
+    if (answer == FIXLOMAND_CONSOLE_HELD)
         return;
     if (answer != FIXLOMAND_DONE) {
         unexpected(answer);

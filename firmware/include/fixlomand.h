@@ -35,8 +35,8 @@ extern "C" {
 
 /* The version of this header, and of the library that it was installed with; as a number it is 10,000 times the first
  * part, plus 100 times the second, plus the third. */
-#define FIXLOMAND_VERSION "4.0.0"
-#define FIXLOMAND_VERSION_NUMBER 40000
+#define FIXLOMAND_VERSION "3.1.0"
+#define FIXLOMAND_VERSION_NUMBER 30100
 
 /* ---- What you lend -------------------------------------------------------------------------------------------------
  *
@@ -71,7 +71,7 @@ extern "C" {
  *            (device FIXLOMAND_D and the drive's number): a block that has goes on from its place in what lies there
  *            then.
  */
-#define FIXLOMAND_STATE_LEN 990
+#define FIXLOMAND_STATE_LEN 973
 #define FIXLOMAND_AREA_LEN 32768
 #define FIXLOMAND_SCREEN_LEN 61440
 #define FIXLOMAND_PAPER_LEN 4096
@@ -104,8 +104,7 @@ enum { FIXLOMAND_DRIVES = 4, FIXLOMAND_IMAGE_LEN = 92160, FIXLOMAND_SECTORS = 72
 /* ---- What a call answers -------------------------------------------------------------------------------------------
  *
  * Every answer but FIXLOMAND_DONE is a refusal: then no byte of any buffer has changed. Each is given exactly when the
- * words beside it hold; where more than one holds, the order is 2, 3, 1 (length, damage, port), and then the others, of a
- * press 6 before 9.
+ * words beside it hold; where more than one holds, the order is 2, 3, 1 (length, damage, port), and then the others.
  */
 enum {
     FIXLOMAND_DONE = 0,          /* done */
@@ -116,8 +115,7 @@ enum {
     FIXLOMAND_NO_REPLY = 5,      /* give: the port has no reply byte to give */
     FIXLOMAND_CONSOLE_HELD = 6,  /* press: a request is at work at the screen or the keyboard; offer the key again */
     FIXLOMAND_IDLE = 7,          /* tick: the port gathers or replies, and has nothing to do */
-    FIXLOMAND_GROUP_HELD = 8,    /* tick: the port waits, the other's request is at work at the device it needs */
-    FIXLOMAND_QUEUE_FULL = 9     /* press: sixteen keys wait to be read, whatever this one is; offer it again */
+    FIXLOMAND_GROUP_HELD = 8     /* tick: the port waits, the other's request is at work at the device it needs */
 };
 
 /* ---- The calls -----------------------------------------------------------------------------------------------------
@@ -130,10 +128,10 @@ enum {
  *     offer a byte of the link with take       0: it is taken; 4: keep it and offer it again later
  *     tick the port                            0, 7 and 8 are all in order
  *     if the link has room for a byte, give    0: send the byte; 5: there is none
- *     if a key was pressed, press              0: it is stored; 6 or 9: keep it and offer it again later
+ *     if a key was pressed, press              0: it is stored; 6: keep it and offer it again later
  *
- * The core keeps up to sixteen keys until the hosts read them, in the order in which they were pressed. A firmware that
- * shall lose none keeps what is pressed while a key is answered 6 or 9, and offers the oldest first.
+ * The core keeps one key. A firmware that shall lose none keeps the next until the last has been read: until
+ * state[FIXLOMAND_KEY] is FIXLOMAND_NO_KEY.
  *
  * A tick starts a request or moves one character, so that a port waits only while the other's request is at work at the
  * device group it needs (8). A device that comes free goes to the port that is ticked first: tick the ports in turn, and
@@ -145,9 +143,9 @@ enum {
  * No call resets one port alone. A host that drops out in the middle of a message leaves its port gathering: the bytes
  * that it sends when it is back are taken as the rest of that message (docs/HOSTS.md says how a host finds its place).
  *
- * Of the state a take changes the port's first 11 bytes and its room, a give these 11 bytes, a press how many keys wait
- * and one place of their ring, a tick the port's 35 bytes and room, and the console, the printer, the cassette or the
- * place of the request's block; a tick also the port's own half of the area, and screen, paper or tape.
+ * Of the state a take changes the port's first 11 bytes and its room, a give these 11 bytes, a press the key code, a
+ * tick the port's 35 bytes and room, and the console, the printer, the cassette or the place of the request's block; a
+ * tick also the port's own half of the area, and screen, paper or tape.
  *
  * FIXLOMAND_BAD_LENGTH and FIXLOMAND_BAD_PORT tell of a mistake in the firmware, FIXLOMAND_DAMAGED of memory that lost
  * what it held, as in a brown-out: make a fresh start, drop the bytes and keys that you hold, and reset both links (on
@@ -161,8 +159,8 @@ enum {
 
 /* Fresh start. Answers 0 or 2 only: what the state held before does not matter. Writes every byte of the state and the
  * area (both areas are zero then) and of the screen (960 cells $20, the rest zero), and none of the paper, the tape and
- * the images: characters that were pending for the tape are lost, and so are keys that wait. The state is then all zero
- * but cursor column 2, read column 255, and lock 1 (shift). */
+ * the images: characters that were pending for the tape are lost. The state is then all zero but cursor column 2, read
+ * column and key code 255, and lock 1 (shift). */
 uint8_t fixlomand_fresh(FIXLOMAND_LENT);
 
 /* Takes a byte that the port's host sent. Answers 0, 1, 2, 3 or 4. */
@@ -178,16 +176,9 @@ uint16_t fixlomand_give(FIXLOMAND_LENT, uint8_t port);
 #define FIXLOMAND_ANSWER(given) ((uint8_t)((given) & 0xFF))
 #define FIXLOMAND_BYTE(given) ((uint8_t)((given) >> 8))
 
-/* Stores a pressed key, behind those that nobody has read. Answers 0, 2, 3, 6 or 9. The code is the key's number, plus
- * 64 with shift, plus 128 with control. Every code, 0 to 255, is a key and takes a place until it is read.
- *
- * A GET from K takes keys from the front, the oldest first, until one makes a character. Those that make none pass: codes
- * above 191 and others that mean nothing, without effect; the keys of inverse and of the locks, which act then, and not
- * when they are pressed, so that the next key is read under them. The key of end of file is taken too, and ends the GET
- * with FIXLOMAND_STATUS_END_OF_FILE; the keys behind it stay. So ends a GET that finds no key, or none that makes a
- * character: what has passed is gone. All this is one tick, however many keys pass. No other request takes a key.
- *
- * The keys' numbers, those not named are no key of the keyboard and mean nothing:
+/* Stores a pressed key, over an older one that nobody has read. Answers 0, 2, 3 or 6. The code is the key's number, plus
+ * 64 with shift, plus 128 with control; a code above 191 is read as no character; 255 stands for no key and empties the
+ * place. The keys' numbers, those not named are no key:
  *
  *    0 L   1 J   2 ;   5 K   6 +   7 *   8 O  10 P  11 U  12 RETURN     13 I  14 -  15 =
  *   16 V  18 C  21 B  22 X  23 Z  24 4  26 3  27 6  28 ESC        29 5  30 2  31 1
@@ -258,7 +249,7 @@ enum {
  * and keep the list in any case, until somebody has looked at the files.
  *
  * It does all its work before it returns, and meanwhile no port is ticked. Of 720 sectors it remembers which are claimed,
- * a byte each, on the stack: it needs 848 bytes of it where the deepest call needs 688 (firmware/measure prints both, and
+ * a byte each, on the stack: it needs 848 bytes of it where the deepest call needs 672 (firmware/measure prints both, and
  * how long it takes).
  */
 #define FIXLOMAND_LIST_LEN 2560
@@ -346,7 +337,7 @@ enum {
     FIXLOMAND_STATUS_NOT_OPEN = 0x85,             /* transfer on a closed block */
     FIXLOMAND_STATUS_BAD_IOCB = 0x86,             /* control block above 7 */
     FIXLOMAND_STATUS_NOT_WRITABLE = 0x87,         /* writing without W */
-    FIXLOMAND_STATUS_END_OF_FILE = 0x88,          /* from K: no character waits, or its key; from C or D: the end */
+    FIXLOMAND_STATUS_END_OF_FILE = 0x88,          /* from K: no key, or one that is no character; from C or D: the end */
     FIXLOMAND_STATUS_RECORD_CUT = 0x89,           /* the buffer was full before the EOL */
     FIXLOMAND_STATUS_CURSOR_PAST_LAST_ROW = 0x8D, /* of S */
     FIXLOMAND_STATUS_CHECKSUM = 0x8F,             /* from C: a bad record; its checksum, control byte or count */
@@ -365,12 +356,12 @@ enum {
  *   offset   bytes  what
  *      0      35    port 0
  *     35      35    port 1
- *     70      27    the console: screen, editor and keyboard
- *     97       2    the printer
- *     99     131    the cassette
- *    230     240    the diskettes: 16 places
- *    470     260    port 0's room
- *    730     260    port 1's room
+ *     70      10    the console: screen, editor and keyboard
+ *     80       2    the printer
+ *     82     131    the cassette
+ *    213     240    the diskettes: 16 places
+ *    453     260    port 0's room
+ *    713     260    port 1's room
  *
  * A port's 35 bytes, from its own offset:
  *
@@ -408,18 +399,15 @@ enum {
  *      4       1    last character, 0 to 255
  *      5       1    escape: 0, or 1 after an escape character
  *      6       1    read column: 2 to 40, or 255 for none
- *      7       1    first: the place of the oldest key in the ring, 0 to 15
- *      8       1    waiting: how many keys wait to be read, 0 to 16
- *      9       1    lock: 0 none, 1 shift, 2 control
- *     10       1    inverse: 0 or 1
- *     11      16    the ring of sixteen places: the codes of the keys that wait, 0 to 255, from the place first on, and
- *                   behind place 15 from place 0 on; the places of no key are 0
+ *      7       1    key code, 0 to 255; 255 for none
+ *      8       1    lock: 0 none, 1 shift, 2 control
+ *      9       1    inverse: 0 or 1
  *
  * with these modes, columns by rows: 0 and 3 40 by 24; 4 and 5 80 by 48; 6 and 7 160 by 96; 8 320 by 192.
  *
- * The printer's two bytes at 97 are the paper's used length, 0 to 4,096.
+ * The printer's two bytes at 80 are the paper's used length, 0 to 4,096.
  *
- * The cassette's, from offset 99:
+ * The cassette's, from offset 82:
  *
  *      0       1    mark, how the tape is open: 0 closed, 1 reading, 2 writing, 3 with neither
  *      1       1    record, that of the next character: reading 0 to 250 (then the tape has run out), writing 0 to 249
@@ -428,7 +416,7 @@ enum {
  *                   0 to 127, but writing at record 249 only 0; else 0
  *      3     128    the pending characters from the first on, any bytes; the others mean nothing, and may be any too
  *
- * The places, from offset 230, have 15 bytes each; that of port p's control block i is number 8 x p + i. It tells where
+ * The places, from offset 213, have 15 bytes each; that of port p's control block i is number 8 x p + i. It tells where
  * a block that has D open reads on. The place of any other block means nothing and may be any bytes: CLOSE leaves it.
  *
  *      0       1    unit: the drive's number less 1, 0 to 3
@@ -463,24 +451,21 @@ enum {
     FIXLOMAND_LAST = 74,
     FIXLOMAND_ESCAPE = 75,
     FIXLOMAND_READ_COLUMN = 76,
-    FIXLOMAND_FIRST_KEY = 77,
-    FIXLOMAND_WAITING = 78,
-    FIXLOMAND_LOCK = 79,
-    FIXLOMAND_INVERSE = 80,
-    FIXLOMAND_KEYS = 81, /* the ring */
-    FIXLOMAND_KEYS_LEN = 16,
-    FIXLOMAND_USED = 97,
-    FIXLOMAND_CASSETTE = 99,
-    FIXLOMAND_MARK = 99,
-    FIXLOMAND_RECORD = 100,
-    FIXLOMAND_PLACE = 101,
-    FIXLOMAND_PENDING = 102,
+    FIXLOMAND_KEY = 77,
+    FIXLOMAND_LOCK = 78,
+    FIXLOMAND_INVERSE = 79,
+    FIXLOMAND_USED = 80,
+    FIXLOMAND_CASSETTE = 82,
+    FIXLOMAND_MARK = 82,
+    FIXLOMAND_RECORD = 83,
+    FIXLOMAND_PLACE = 84,
+    FIXLOMAND_PENDING = 85,
     FIXLOMAND_PENDING_LEN = 128,
-    FIXLOMAND_PLACES = 230, /* port 0's eight, then port 1's */
+    FIXLOMAND_PLACES = 213, /* port 0's eight, then port 1's */
     FIXLOMAND_PLACE_LEN = 15,
     FIXLOMAND_PLACES_LEN = 240,
 
-    FIXLOMAND_ROOMS = 470, /* port 0's room, then port 1's */
+    FIXLOMAND_ROOMS = 453, /* port 0's room, then port 1's */
     FIXLOMAND_ROOM_LEN = 260
 };
 
@@ -500,11 +485,7 @@ enum {
     FIXLOMAND_TAPE_WRITING = 2,
     FIXLOMAND_TAPE_NEITHER = 3
 };
-enum { FIXLOMAND_NO_COLUMN = 255 };
-
-/* Where in the state the code of a key is that waits: number 0 is the oldest, state[FIXLOMAND_WAITING] - 1 the newest. */
-#define FIXLOMAND_KEY_AT(state, number)                                                                                \
-    (FIXLOMAND_KEYS + ((state)[FIXLOMAND_FIRST_KEY] + (number)) % FIXLOMAND_KEYS_LEN)
+enum { FIXLOMAND_NO_COLUMN = 255, FIXLOMAND_NO_KEY = 255 };
 
 /* Where a byte of a block's place is, from the place's own offset. */
 enum {
@@ -528,7 +509,6 @@ enum { FIXLOMAND_ENTRIES = 64, FIXLOMAND_FREE_RECORD = 64, FIXLOMAND_LISTING_END
  *   P never with R, C never with both; E with R always has 1 (forced read), and S never has 16 (split screen).
  * - A block that has D open is at odds with its place: the unit is not the block's number less 1; or AUX1 is exactly 6
  *   and the kind is not 1; or AUX1 is another and the kind is not 0. Only the places of such blocks are looked at.
- * - A place of the ring that is none of the waiting keys' is not 0. Of the others every code is in order.
  * - The blocks and the cassette's mark are at odds. Where it is 0 no block has C open. Where it is not, one block of the
  *   two ports has, and no second one: with R for 1, with W for 2, with neither for 3.
  * - A port gathers as many bytes as its message has, or more: taken is 3 + length or more, and 3 at least. Or a number of
@@ -543,10 +523,9 @@ enum { FIXLOMAND_ENTRIES = 64, FIXLOMAND_FREE_RECORD = 64, FIXLOMAND_LISTING_END
  * - Both ports run requests at one group. E, S and K are one group, the console; P is the second, C the third; D, with
  *   all four drives, is the fourth.
  *
- * So two states that are not answered 3 and differ in some byte before the pending characters are two different sticks,
- * though no host can tell two that differ in nothing but where in the ring the same keys begin.
- * Cells, paper, tape, images, area, the codes of waiting keys, pending characters, rooms and the places of blocks that do
- * not have D open are never damaged: all their values are in range.
+ * So two states that are not answered 3 and differ in some byte before the pending characters are two different sticks.
+ * Cells, paper, tape, images, area, pending characters, rooms and the places of blocks that do not have D open are never
+ * damaged: all their values are in range.
  *
  * Every state that the calls leave after a fresh start passes the test. Some others pass too, such as a graphics cursor
  * below the last row in a column other than 0, and the core works on with them. It is no checksum: a damaged byte may

@@ -151,21 +151,9 @@ static const char *console_damage(const uint8_t *state)
         return "a column";
     if (reading != FIXLOMAND_NO_COLUMN && (reading < 2 || reading > 40))
         return "a read column";
-    return state[FIXLOMAND_ESCAPE] > 1 ? "escape" : NULL;
-}
-
-/* "the places of no key are 0", by how far a place is from the first */
-static const char *keyboard_damage(const uint8_t *state)
-{
-    unsigned first = state[FIXLOMAND_FIRST_KEY], waiting = state[FIXLOMAND_WAITING];
-    if (first >= FIXLOMAND_KEYS_LEN)
-        return "the first key's place";
-    if (waiting > FIXLOMAND_KEYS_LEN)
-        return "how many keys wait";
-    for (unsigned place = 0; place < FIXLOMAND_KEYS_LEN; place++)
-        if ((place + FIXLOMAND_KEYS_LEN - first) % FIXLOMAND_KEYS_LEN >= waiting && state[FIXLOMAND_KEYS + place] != 0)
-            return "a code in the place of no key";
-    return state[FIXLOMAND_LOCK] > FIXLOMAND_LOCK_CONTROL || state[FIXLOMAND_INVERSE] > 1 ? "lock or inverse" : NULL;
+    if (state[FIXLOMAND_ESCAPE] > 1 || state[FIXLOMAND_LOCK] > FIXLOMAND_LOCK_CONTROL || state[FIXLOMAND_INVERSE] > 1)
+        return "escape, lock or inverse";
+    return NULL;
 }
 
 static const char *cassette_damage(const uint8_t *state)
@@ -222,8 +210,6 @@ int holds_console(const uint8_t *state, unsigned port)
 const char *damage(const uint8_t *state)
 {
     const char *why = console_damage(state);
-    if (why == NULL)
-        why = keyboard_damage(state);
     for (unsigned port = 0; port < FIXLOMAND_PORTS && why == NULL; port++)
         why = port_damage(state + port * FIXLOMAND_PORT_LEN,
                           state + FIXLOMAND_PLACES + port * FIXLOMAND_BLOCK_COUNT * FIXLOMAND_PLACE_LEN,

@@ -213,9 +213,7 @@ static void check_diskettes(void)
     want(FIXLOMAND_SECTORS * FIXLOMAND_SECTOR_LEN, FIXLOMAND_IMAGE_LEN, "an image");
     want(FIXLOMAND_SECTOR(2, 1), FIXLOMAND_IMAGE(2), "the first sector of an image");
     want(FIXLOMAND_PORTS * FIXLOMAND_BLOCK_COUNT * FIXLOMAND_PLACE_LEN, FIXLOMAND_PLACES_LEN, "the places");
-    want(FIXLOMAND_PENDING + FIXLOMAND_PENDING_LEN, FIXLOMAND_PLACES, "the end of the pending characters");
     want(FIXLOMAND_PLACES + FIXLOMAND_PLACES_LEN, FIXLOMAND_ROOMS, "the end of the places");
-    want(FIXLOMAND_ROOMS + FIXLOMAND_PORTS * FIXLOMAND_ROOM_LEN, FIXLOMAND_STATE_LEN, "the end of the rooms");
     want(opened("D4:A.B\x9B", R, 0), FIXLOMAND_STATUS_FILE_NOT_FOUND, "OPEN at an empty drive");
     memcpy(images + FIXLOMAND_SECTOR(FIXLOMAND_DRIVES, 361), entry, sizeof entry);
     sector[0] = 'a';
@@ -276,19 +274,10 @@ static void check_keys(void)
     call(0, FIXLOMAND_COMMAND_GET_CHARACTERS, BUFFER, 0, 0, 0);
     want(state[FIXLOMAND_LOCK], FIXLOMAND_LOCK_CONTROL, "CAPS with control");
     fixlomand_press(LENT, caps + FIXLOMAND_WITH_SHIFT);
-    want(state[FIXLOMAND_WAITING], 1, "a press");
-    want(state[FIXLOMAND_KEY_AT(state, 0)], 124, "CAPS with shift");
+    want(state[FIXLOMAND_KEY], 124, "CAPS with shift");
     call(0, FIXLOMAND_COMMAND_GET_CHARACTERS, BUFFER, 0, 0, 0);
-    want(state[FIXLOMAND_WAITING], 0, "a GET");
+    want(state[FIXLOMAND_KEY], FIXLOMAND_NO_KEY, "a GET");
     want(state[FIXLOMAND_LOCK], FIXLOMAND_LOCK_SHIFT, "CAPS with shift");
-    want(FIXLOMAND_KEYS + FIXLOMAND_KEYS_LEN, FIXLOMAND_USED, "the end of the ring");
-    for (unsigned i = 0; i < FIXLOMAND_KEYS_LEN; i++)
-        want(fixlomand_press(LENT, (uint8_t)i), FIXLOMAND_DONE, "a key for which there is a place");
-    want(fixlomand_press(LENT, caps), FIXLOMAND_QUEUE_FULL, "a key for which there is none");
-    for (unsigned i = 0; i < FIXLOMAND_KEYS_LEN; i++)
-        want(state[FIXLOMAND_KEY_AT(state, i)], i, "a key that waits");
-    call(0, FIXLOMAND_COMMAND_GET_CHARACTERS, BUFFER, FIXLOMAND_KEYS_LEN, 0, 0);
-    want(state[FIXLOMAND_WAITING], 0, "a GET of all keys");
 }
 
 /* The colours by a cell, the columns and rows by where the cursor goes. */

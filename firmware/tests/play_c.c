@@ -12,9 +12,8 @@
  *     W BUFFER AT(3) N(2)  the N bytes behind it into the area, screen, paper, tape or images, from AT to its end:
  *                          nothing is written
  *     D                    area, screen, paper, and the state but for the cassette and the diskettes' places, as the
- *                          header lays it out; of the keys the oldest that waits, 255 for none
+ *                          header lays it out
  *     C                    tape, mark, record (2), place, and the pending characters with zeros behind them
- *     Q                    how many keys wait, and sixteen codes, the oldest first, with zeros behind them
  *     R IMAGE              the doctor on one of the four images, 0 to 3, whatever is lent of them: the answer, the number
  *                          of changes (2) and the changes; of another image answer 1 and 0 changes
  *
@@ -77,12 +76,6 @@ static void say_block(const uint8_t *block)
     say(block + 1, 2);
 }
 
-/* The code of a key that waits, or something else where there is none. */
-static uint8_t key_or(unsigned number, uint8_t none)
-{
-    return number < state[FIXLOMAND_WAITING] ? state[FIXLOMAND_KEY_AT(state, number)] : none;
-}
-
 static void dump(void)
 {
     say(area, FIXLOMAND_AREA_LEN);
@@ -95,7 +88,7 @@ static void dump(void)
     say(state + FIXLOMAND_LAST, 1);
     say(state + FIXLOMAND_ESCAPE, 1);
     say(state + FIXLOMAND_READ_COLUMN, 1);
-    say_byte(key_or(0, 255));
+    say(state + FIXLOMAND_KEY, 1);
     say(state + FIXLOMAND_LOCK, 1);
     say(state + FIXLOMAND_INVERSE, 1);
     for (unsigned port = 0; port < FIXLOMAND_PORTS; port++)
@@ -118,13 +111,6 @@ static void dump_tape(void)
     say(state + FIXLOMAND_PLACE, 1);
     say(state + FIXLOMAND_PENDING, pending);
     say(zeros, FIXLOMAND_PENDING_LEN - pending);
-}
-
-static void dump_keys(void)
-{
-    say(state + FIXLOMAND_WAITING, 1);
-    for (unsigned i = 0; i < FIXLOMAND_KEYS_LEN; i++)
-        say_byte(key_or(i, 0));
 }
 
 /* Writes the script's next bytes into a buffer, once all of them are there; 0 if the script ends before. */
@@ -176,8 +162,8 @@ static void doctor(unsigned image)
 /* Plays an op; 0 if it is none, or is cut by the end of the script. */
 static int play(int op)
 {
-    static const char ops[] = "FTKGPXLWDCQR";
-    static const uint8_t operands[] = {0, 2, 1, 1, 1, 3, 4, 6, 0, 0, 0, 1};
+    static const char ops[] = "FTKGPXLWDCR";
+    static const uint8_t operands[] = {0, 2, 1, 1, 1, 3, 4, 6, 0, 0, 1};
     const char *found = op > 0 ? strchr(ops, op) : NULL;
     uint8_t a[6] = {0};
     uint16_t given;
@@ -224,9 +210,6 @@ static int play(int op)
         break;
     case 'C':
         dump_tape();
-        break;
-    case 'Q':
-        dump_keys();
         break;
     default:
         doctor(a[0]);

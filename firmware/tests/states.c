@@ -4,20 +4,18 @@
  * are on random bytes, on states in order, on such states with one wrong byte, and on what the calls make of them. Every
  * call must end in an answer of its own row of the table, answer 3 exactly when damage.c, which is
  * written from the header alone, finds the state damaged, change nothing unless it answers 0, and leave a state in
- * order. The keys that wait must be those that queue.c, written likewise, has after a press and a GET from K, and stay
- * else. The buffers stand between guard pages; what of area, screen, paper and tape a call may not write it is lent at
+ * order. The buffers stand between guard pages; what of area, screen, paper and tape a call may not write it is lent at
  * a place where it can only be read, and so are the images always. */
 #include "damage.h"
 #include "fixlomand.h"
 #include "guard.h"
-#include "queue.h"
 
 #include <inttypes.h>
 #include <stdio.h>
 #include <stdlib.h>
 #include <string.h>
 
-enum { FRESH, TAKE, TICK, GIVE, PRESS, CALLS, ANSWERS = 10, HALF = FIXLOMAND_PORT_AREA_LEN };
+enum { FRESH, TAKE, TICK, GIVE, PRESS, CALLS, ANSWERS = 9, HALF = FIXLOMAND_PORT_AREA_LEN };
 enum { R = FIXLOMAND_AUX1_READ, W = FIXLOMAND_AUX1_WRITE, FORCED = FIXLOMAND_AUX1_FORCED, SPECIFICATIONS = 16 };
 
 /* the control blocks of both ports, and how many numbers the files of the diskettes have */
@@ -222,18 +220,6 @@ static void random_port(uint8_t *port, uint8_t *room, uint8_t mode, int tape_too
         random_block(port + FIXLOMAND_BLOCKS + FIXLOMAND_BLOCK_LEN * below(FIXLOMAND_BLOCK_COUNT), FIXLOMAND_C);
 }
 
-/* Any keys wait, from any place of the ring on; the other places are 0. */
-static void random_keys(uint8_t *s)
-{
-    s[FIXLOMAND_FIRST_KEY] = (uint8_t)between(0, FIXLOMAND_KEYS_LEN - 1);
-    s[FIXLOMAND_WAITING] = (uint8_t)between(0, FIXLOMAND_KEYS_LEN);
-    memset(s + FIXLOMAND_KEYS, 0, FIXLOMAND_KEYS_LEN);
-    for (unsigned i = 0; i < s[FIXLOMAND_WAITING]; i++)
-        s[FIXLOMAND_KEY_AT(s, i)] = (uint8_t)below(256);
-    s[FIXLOMAND_LOCK] = (uint8_t)below(3);
-    s[FIXLOMAND_INVERSE] = (uint8_t)below(2);
-}
-
 static void random_console(uint8_t *s)
 {
     static const uint8_t modes[] = {0, 0, 0, 3, 4, 5, 6, 7, 8};
@@ -244,7 +230,9 @@ static void random_console(uint8_t *s)
     s[FIXLOMAND_LAST] = (uint8_t)below(256);
     s[FIXLOMAND_ESCAPE] = (uint8_t)below(2);
     s[FIXLOMAND_READ_COLUMN] = one_in(2) ? FIXLOMAND_NO_COLUMN : (uint8_t)between(2, 40);
-    random_keys(s);
+    s[FIXLOMAND_KEY] = (uint8_t)below(256);
+    s[FIXLOMAND_LOCK] = (uint8_t)below(3);
+    s[FIXLOMAND_INVERSE] = (uint8_t)below(2);
     put(s + FIXLOMAND_USED, between(0, FIXLOMAND_PAPER_LEN));
 }
 
@@ -421,7 +409,7 @@ static uint8_t operand;
 static int begins_part(unsigned i)
 {
     return i == 0 || i == FIXLOMAND_PORT_LEN || i == FIXLOMAND_CONSOLE || i == FIXLOMAND_USED ||
-           i == FIXLOMAND_KEYS || i == FIXLOMAND_CASSETTE || i == FIXLOMAND_PENDING ||
+           i == FIXLOMAND_CASSETTE || i == FIXLOMAND_PENDING ||
            (i >= FIXLOMAND_PLACES && (i - FIXLOMAND_PLACES) % FIXLOMAND_PLACE_LEN == 0);
 }
 
@@ -443,10 +431,8 @@ static int expected(void)
         return FIXLOMAND_DONE;
     if (damage(state) != NULL)
         return FIXLOMAND_DAMAGED;
-    if (which == PRESS && (holds_console(state, 0) || holds_console(state, 1)))
-        return FIXLOMAND_CONSOLE_HELD;
     if (which == PRESS)
-        return state[FIXLOMAND_WAITING] == FIXLOMAND_KEYS_LEN ? FIXLOMAND_QUEUE_FULL : FIXLOMAND_DONE;
+        return holds_console(state, 0) || holds_console(state, 1) ? FIXLOMAND_CONSOLE_HELD : FIXLOMAND_DONE;
     if (port > 1)
         return FIXLOMAND_BAD_PORT;
     if (which == TAKE)
@@ -503,28 +489,6 @@ static int same(const uint8_t *now, const uint8_t *before, size_t from, size_t t
     return memcmp(now + from, before + from, to - from) == 0;
 }
 
-/* After a press: the key is in the next place of the ring, and nothing else is changed. */
-static void check_press(void)
-{
-    uint8_t right[FIXLOMAND_STATE_LEN];
-    memcpy(right, state_before, sizeof right);
-    right[FIXLOMAND_KEY_AT(right, right[FIXLOMAND_WAITING])] = operand;
-    right[FIXLOMAND_WAITING]++;
-    if (!same(state, right, 0, sizeof right))
-        trouble("does not store the key and nothing else");
-}
-
-/* After a tick: the keys that a character got from K leaves, or those that were there. */
-static void check_keys(void)
-{
-    const uint8_t *its = state_before + port * FIXLOMAND_PORT_LEN;
-    struct queue right = queue_of(state_before), now = queue_of(state);
-    if (its[FIXLOMAND_PHASE] == FIXLOMAND_RUNNING && its[2] == FIXLOMAND_K)
-        queue_get(&right);
-    if (!queue_same(&now, &right))
-        trouble("leaves other keys");
-}
-
 /* After 0: what a call may not touch, and that the state is one in order. */
 static void check_done(unsigned given)
 {
@@ -535,7 +499,9 @@ static void check_done(unsigned given)
     if (which == FRESH)
         return;
     if (which == PRESS) {
-        check_press();
+        if (!same(state, state_before, 0, FIXLOMAND_KEY) ||
+            !same(state, state_before, FIXLOMAND_KEY + 1, FIXLOMAND_STATE_LEN) || state[FIXLOMAND_KEY] != operand)
+            trouble("does not store the key and nothing else");
         return;
     }
     if (!same(state, state_before, other, other + FIXLOMAND_PORT_LEN) ||
@@ -552,7 +518,6 @@ static void check_done(unsigned given)
             if (i != port * FIXLOMAND_BLOCK_COUNT + block &&
                 !same(state, state_before, place_of(i), place_of(i) + FIXLOMAND_PLACE_LEN))
                 trouble("changes the place of another block");
-        check_keys();
     }
     if (which == GIVE) {
         const uint8_t *its = state_before + port * FIXLOMAND_PORT_LEN;

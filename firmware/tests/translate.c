@@ -37,7 +37,7 @@ static void get(uint8_t code, uint8_t lock, uint8_t inverse)
     if (fixlomand_press(LENT, code) != FIXLOMAND_DONE)
         fail("translate: code $%02X cannot be pressed", code);
     call(FIXLOMAND_COMMAND_GET_CHARACTERS, 0);
-    if (state[FIXLOMAND_WAITING] != 0)
+    if (state[FIXLOMAND_KEY] != FIXLOMAND_NO_KEY)
         fail("translate: a GET of code $%02X leaves the key", code);
 }
 

@@ -83,7 +83,7 @@ from .wire import (
     Tag,
 )
 
-__version__ = "4.0.0"
+__version__ = "3.1.0"
 
 __all__ = [
     "AREA",

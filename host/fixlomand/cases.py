@@ -14,7 +14,7 @@ from dataclasses import dataclass
 from . import keys, script, wire
 from .cio import BLOCKS, BUFFER, SPECIFICATION
 from .errors import BadReply
-from .play import CONSOLE_HELD, GROUP_HELD, QUEUE_FULL, Player
+from .play import GROUP_HELD, Player
 from .tape import CHARACTERS, END, FULL, PARTIAL, RECORD, RECORDS, checksum
 from .wire import AREA, DIRECTORY, EOL, FORCED, KEEP, PIECE, READ, WRITE, CallReply, Command, FetchReply, LoadReply
 
@@ -26,7 +26,6 @@ CLEAR, BACKSPACE, BELL = 0x7D, 0x7E, 0xFD
 CONTROL_CODES = bytes.fromhex("1B 1C 1D 1E 1F 7D 7E 7F 9B 9C 9D 9E 9F FD FE FF")
 """The sixteen control codes of the screen editor."""
 EDITOR = READ | WRITE | FORCED
-BAD_LENGTH = 2
 CAPS, SHIFT, CONTROL, INVERSE_KEY = 0x3C, 0x40, 0x80, 0x27
 
 
@@ -69,19 +68,9 @@ class Bench:
         """A fresh start."""
         self.same(b"\x00", self._player.do(script.Fresh())[0])
 
-    def press(self, *codes: int, answer: int = 0) -> None:
-        """Presses keys, one after the other; each is to be answered so."""
-        for code, output in zip(codes, self._player.do(*map(script.Press, codes))):
-            self.same((f"key ${code:02X}", answer), (f"key ${code:02X}", output[0]))
-
-    def waiting(self, *codes: int) -> None:
-        """Compares the keys that wait, the oldest first."""
-        dumped = self._player.do(script.DumpKeys())[0]
-        self.same(bytes([len(codes)]) + bytes(codes).ljust(script.KEYS, b"\0"), dumped)
-
-    def lend(self, buffer: int, length: int) -> None:
-        """From now on a buffer is lent with its first bytes."""
-        self._player.do(script.Lend(buffer, length))
+    def press(self, code: int) -> None:
+        """Presses a key."""
+        self.same(b"\x00", self._player.do(script.Press(code))[0])
 
     @property
     def state(self) -> script.State:
@@ -936,14 +925,13 @@ def _(bench: Bench) -> None:
     bench.get_record(80, b"", 0x88)
 
 
-@case("manual, Keyboard Handler, Theory of Operation", "a FIFO, with or without a read; by 02 of sixteen bytes")
+@case("manual, Keyboard Handler, Theory of Operation", "one key is kept, with or without a read; $FF is empty")
 def _(bench: Bench) -> None:
     bench.same(0xFF, bench.state.key)
-    bench.press(0x00, 0x3F)
-    bench.same(0x00, bench.state.key)
-    bench.keyboard()
-    bench.get(1, b"L")
+    bench.press(0x00)
+    bench.press(0x3F)
     bench.same(0x3F, bench.state.key)
+    bench.keyboard()
     bench.get(1, b"A")
     bench.same(0xFF, bench.state.key)
     bench.get(1, b"", 0x88)
@@ -1739,292 +1727,6 @@ def _(bench: Bench) -> None:
         if row == 23:
             screen[:text] = screen[40:text] + 40 * blank
         bench.same(bytes(screen), bench.state.screen)
-
-
-# 02-change-requests, Ask 6: sixteen keys
-
-KEYS = "02-change-requests, Ask 6"
-LETTER_A, LETTER_B, LETTER_C, RETURN = 0x3F, 0x15, 0x12, keys.RETURN
-SHIFT_LOCK, CONTROL_LOCK, END_OF_FILE = SHIFT | CAPS, CONTROL | CAPS, keys.END_OF_FILE
-GET_ONE = "10 09 00 00 07 00 00 00 00 00 00 {:02X}"
-"""GET of one character by A, with this A."""
-WITHOUT = [code for code in range(256) if code >= len(keys.TABLE) or keys.TABLE[code] == 0x80]
-"""The codes that make no character and do nothing."""
-
-
-def _key(bench: Bench, expected: int | None, *, port: int = 0) -> None:
-    """GET of one character by A on block 0, in two ticks: a character, or none and $88 with the request's A."""
-    reply = bytes([0x90, 4, 0, 0x88, 0, 0, 7]) if expected is None else bytes([0x90, 4, 0, OK, 0, 0, expected])
-    bench.same((reply, 2), (bench.message(wire.call(0, Command.GET_CHARACTERS, a=7), port), 1 + bench.ticks))
-
-
-@case(KEYS, "unlock, none, none, a, inverse, a: $61, $E1, then $88, 2 ticks each; behind end of file a key stays")
-def _(bench: Bench) -> None:
-    _ask(bench, 0, "11 04 00 00 00 4B 3A", "91 01 00 01")
-    _ask(bench, 0, "10 09 00 00 03 00 00 00 00 04 00 00", "90 04 00 01 00 00 00")
-    bench.press(0x3C, 0xC0, 0xFF, 0x3F, 0x27, 0x3F)
-    bench.waiting(0x3C, 0xC0, 0xFF, 0x3F, 0x27, 0x3F)
-    _ask(bench, 0, GET_ONE.format(0), "90 04 00 01 00 00 61", 2)
-    bench.waiting(0x27, 0x3F)
-    _ask(bench, 0, GET_ONE.format(0), "90 04 00 01 00 00 E1", 2)
-    _ask(bench, 0, GET_ONE.format(7), "90 04 00 88 00 00 07", 2)
-    bench.press(0x9A, 0x3F)
-    _ask(bench, 0, GET_ONE.format(7), "90 04 00 88 00 00 07", 2)
-    bench.waiting(0x3F)
-
-
-@case(KEYS, "00 to 0F are taken, the next is 9; GET gives $4C, and FF is taken: 01 to 0F and FF wait, the next is 9")
-def _(bench: Bench) -> None:
-    bench.keyboard()
-    bench.press(*range(16))
-    bench.press(0x10, answer=QUEUE_FULL)
-    bench.waiting(*range(16))
-    _key(bench, 0x4C)
-    bench.press(0xFF)
-    bench.waiting(*range(1, 16), 0xFF)
-    bench.press(0x3F, answer=QUEUE_FULL)
-
-
-@case(KEYS, "3F 15 0C 12, GET RECORD n 1: $89, count 1, 4 ticks, and 12 stays")
-def _(bench: Bench) -> None:
-    bench.keyboard()
-    bench.press(0x3F, 0x15, 0x0C, 0x12)
-    bench.get_record(1, b"A", 0x89, ticks=4)
-    bench.waiting(0x12)
-
-
-@case(KEYS, "queue full and E running: every press is 6, before 9; when E is done it is 9")
-def _(bench: Bench) -> None:
-    bench.press(*range(16))
-    bench.editor()
-    bench.same(0, bench.begin(wire.call(0, Command.PUT_CHARACTERS, BUFFER, 2)))
-    bench.press(*range(256), answer=CONSOLE_HELD)
-    bench.same(bytes.fromhex("90 04 00 01 02 00 00"), bench.reply())
-    bench.press(0x3F, answer=QUEUE_FULL)
-    bench.waiting(*range(16))
-
-
-@case(KEYS, "the order of a press: 2 before 6 and 9, then 6, then 9; none of them changes the queue")
-def _(bench: Bench) -> None:
-    bench.press(*range(16))
-    bench.editor()
-    bench.same(0, bench.begin(wire.call(0, Command.PUT_CHARACTERS, BUFFER, 2)))
-    whole = script.PAPER
-    for length, held in ((whole - 1, BAD_LENGTH), (whole, CONSOLE_HELD)):
-        bench.lend(script.Buffer.PAPER, length)
-        bench.press(0x3F, answer=held)
-    bench.same(bytes.fromhex("90 04 00 01 02 00 00"), bench.reply())
-    for length, full in ((whole - 1, BAD_LENGTH), (whole, QUEUE_FULL)):
-        bench.lend(script.Buffer.PAPER, length)
-        bench.press(0x3F, answer=full)
-    bench.waiting(*range(16))
-
-
-@case(KEYS, "9 is for every code, and changes nothing: the queue and all that a dump shows")
-def _(bench: Bench) -> None:
-    bench.press(*range(0xF0, 0x100))
-    before = bench.state
-    bench.press(*range(256), answer=QUEUE_FULL)
-    bench.waiting(*range(0xF0, 0x100))
-    bench.same(before, bench.state)
-
-
-@case(KEYS, "a press adds at the end, a GET takes from the front, and places are used again: 500 keys in order")
-def _(bench: Bench) -> None:
-    bench.keyboard()
-    digits = [keys.TABLE.index(digit) for digit in b"0123456789"]
-    held: list[int] = []
-    pressed = 0
-    for turn in range(100):
-        for _ in range(1 + turn * 7 % 16):
-            bench.press(digits[pressed % 10], answer=0 if len(held) < 16 else QUEUE_FULL)
-            if len(held) < 16:
-                held.append(digits[pressed % 10])
-                pressed += 1
-        bench.waiting(*held)
-        for _ in range(min(len(held), 1 + turn * 5 % 11)):
-            _key(bench, keys.TABLE[held.pop(0)])
-        bench.waiting(*held)
-    bench.same(True, pressed > 500)
-
-
-@case(KEYS, "$FF is a code like any other: sixteen of them take all places, and one GET passes them all")
-def _(bench: Bench) -> None:
-    bench.keyboard()
-    bench.press(*[0xFF] * 16)
-    bench.waiting(*[0xFF] * 16)
-    bench.press(0xFF, LETTER_A, answer=QUEUE_FULL)
-    _key(bench, None)
-    bench.waiting()
-    bench.press(LETTER_A, 0xFF, LETTER_B)
-    for expected in b"AB":
-        _key(bench, expected)
-    _key(bench, None)
-
-
-@case(KEYS, "a dump's key byte is the oldest code that waits, $FF if there is none")
-def _(bench: Bench) -> None:
-    bench.keyboard()
-    bench.same(0xFF, bench.state.key)
-    bench.press(LETTER_B, LETTER_A)
-    bench.same(LETTER_B, bench.state.key)
-    _key(bench, ord("B"))
-    bench.same(LETTER_A, bench.state.key)
-    _key(bench, ord("A"))
-    bench.same(0xFF, bench.state.key)
-
-
-@case(KEYS, "GET passes each code above $BF and each entry $80, without effect, in the tick of the character behind it")
-def _(bench: Bench) -> None:
-    bench.keyboard()
-    for code in WITHOUT:
-        bench.press(code, LETTER_A)
-        _key(bench, ord("A"))
-        bench.waiting()
-    bench.same((1, 0), (bench.state.lock, bench.state.inverse))
-
-
-@case(KEYS, "entries $81 to $84 act and pass, and the next key is read under them, several at once too")
-def _(bench: Bench) -> None:
-    for codes, expected, lock, inverse in (
-        ((CAPS,), 0x61, 0, 0),
-        ((CONTROL_LOCK,), 0x01, 2, 0),
-        ((CAPS, SHIFT_LOCK), 0x41, 1, 0),
-        ((INVERSE_KEY,), 0xC1, 1, 1),
-        ((SHIFT | INVERSE_KEY, CONTROL | INVERSE_KEY), 0x41, 1, 0),
-        ((CAPS, INVERSE_KEY), 0xE1, 0, 1),
-        ((INVERSE_KEY, CONTROL_LOCK, 0xC0), 0x81, 2, 1),
-        ((CONTROL_LOCK, CAPS, SHIFT_LOCK, INVERSE_KEY, INVERSE_KEY, INVERSE_KEY), 0xC1, 1, 1),
-    ):
-        bench.fresh()
-        bench.keyboard()
-        bench.press(*codes, LETTER_A, LETTER_B)
-        _key(bench, expected)
-        bench.waiting(LETTER_B)
-        bench.same((codes, lock, inverse), (codes, bench.state.lock, bench.state.inverse))
-
-
-@case(KEYS, "end of file is taken and gives $88, the keys behind it stay; without a key it is $88, again and again")
-def _(bench: Bench) -> None:
-    bench.keyboard()
-    _key(bench, None)
-    _key(bench, None)
-    bench.press(LETTER_A, END_OF_FILE, END_OF_FILE, LETTER_B)
-    _key(bench, ord("A"))
-    _key(bench, None)
-    bench.waiting(END_OF_FILE, LETTER_B)
-    _key(bench, None)
-    bench.waiting(LETTER_B)
-    _key(bench, ord("B"))
-    _key(bench, None)
-
-
-@case(KEYS, "what passed before a $88 is gone and its effects stay: before end of file, and where no key is left")
-def _(bench: Bench) -> None:
-    for last in ((END_OF_FILE,), ()):
-        bench.fresh()
-        bench.keyboard()
-        bench.press(CAPS, 0xC0, INVERSE_KEY, *last)
-        _key(bench, None)
-        bench.waiting()
-        bench.same((0, 1), (bench.state.lock, bench.state.inverse))
-        bench.press(LETTER_A)
-        _key(bench, 0xE1)
-
-
-@case(KEYS, "one tick, however many keys pass: fifteen and a character, and sixteen and $88")
-def _(bench: Bench) -> None:
-    bench.keyboard()
-    bench.press(*WITHOUT[:7], CAPS, *WITHOUT[-7:], LETTER_A)
-    _key(bench, 0x61)
-    bench.press(*WITHOUT[:8], SHIFT_LOCK, *WITHOUT[-7:])
-    _key(bench, None)
-    bench.same(1, bench.state.lock)
-    bench.press(0xC0, LETTER_A, 0xC0, LETTER_B, 0xC0)
-    bench.get(3, b"AB", 0x88, ticks=4)
-
-
-@case(KEYS, "a lock acts when a GET passes it, not at the press: a key before it is read under the old one")
-def _(bench: Bench) -> None:
-    bench.keyboard()
-    bench.press(LETTER_A, CAPS, INVERSE_KEY, LETTER_A)
-    bench.same((1, 0), (bench.state.lock, bench.state.inverse))
-    _key(bench, 0x41)
-    bench.same((1, 0), (bench.state.lock, bench.state.inverse))
-    _key(bench, 0xE1)
-    bench.same((0, 1), (bench.state.lock, bench.state.inverse))
-
-
-@case(KEYS, "OPEN, CLOSE, GET STATUS and SPECIAL of K leave the queue, and so do other devices; fresh it is empty")
-def _(bench: Bench) -> None:
-    codes = (CAPS, LETTER_A, END_OF_FILE, 0xFF)
-    bench.press(*codes)
-    bench.keyboard()
-    bench.same(CallReply(OK, 0, 0), bench.call(Command.GET_STATUS))
-    bench.same(CallReply(0x84, 0, 0), bench.call(0x0E))
-    bench.waiting(*codes)
-    bench.same(CallReply(OK, 0, 0), bench.call(Command.CLOSE))
-    bench.open(b"K:", READ, command=Command.GET_STATUS)
-    bench.open(b"K:", READ, command=0x0E, status=0x84)
-    bench.waiting(*codes)
-    bench.editor()
-    bench.put(b"AB\x9b" + bytes([UP]))
-    bench.get_record(9, b"AB\x9b")
-    bench.open(b"S:", WRITE, 3, iocb=1)
-    bench.put(b"A", iocb=1)
-    bench.open(b"P:", WRITE, iocb=2)
-    bench.put(b"A", iocb=2)
-    bench.waiting(*codes)
-    bench.same((1, 0), (bench.state.lock, bench.state.inverse))
-    bench.fresh()
-    bench.waiting()
-
-
-@case(KEYS, "a line typed ahead is a record: BANDAGES and RETURN, n 20: count 9, 10 ticks; without RETURN $88, count 8")
-def _(bench: Bench) -> None:
-    word = [keys.code_of(letter) or 0 for letter in b"bandages"]
-    bench.keyboard()
-    bench.press(*word, RETURN, LETTER_C)
-    bench.get_record(20, b"BANDAGES\x9b", ticks=10)
-    bench.waiting(LETTER_C)
-    bench.fresh()
-    bench.keyboard()
-    bench.press(*word)
-    bench.get_record(20, b"BANDAGES", 0x88, ticks=10)
-    bench.press(*word, RETURN, LETTER_C)
-    bench.get_record(3, b"BAN", 0x89, ticks=10)
-    bench.get(1, b"C")
-
-
-@case(KEYS, "both ports read one queue, each key once and in order; a press is taken while a port prints")
-def _(bench: Bench) -> None:
-    for port in (0, 1):
-        _specify(bench, port, 0, READ, b"K:")
-        _specify(bench, port, 1, WRITE, b"P:")
-    bench.press(*(keys.code_of(digit) or 0 for digit in b"0123456789"))
-    for place, digit in enumerate(b"0123456789"):
-        _key(bench, digit, port=place // 3 % 2)
-    for port in (0, 1):
-        bench.same(0, bench.begin(wire.call(1, Command.PUT_CHARACTERS, BUFFER, 9), port))
-        bench.press(LETTER_A)
-        _key(bench, ord("A"), port=1 - port)
-        bench.same(bytes.fromhex("90 04 00 01 09 00 00"), bench.reply(port))
-
-
-@case(KEYS, "while a GET from K runs a press is 6, the queue full or not, and the other port's GET waits")
-def _(bench: Bench) -> None:
-    for port in (0, 1):
-        _specify(bench, port, 0, READ, b"K:")
-    for codes in ([LETTER_A, LETTER_B], [LETTER_A, *[LETTER_B] * 15]):
-        bench.press(*codes)
-        bench.same(0, bench.begin(wire.call(0, Command.GET_CHARACTERS, BUFFER, len(codes)), 0))
-        bench.press(LETTER_C, 0xFF, answer=CONSOLE_HELD)
-        bench.same(GROUP_HELD, bench.begin(wire.call(0, Command.GET_CHARACTERS, a=7), 1))
-        bench.waiting(*codes)
-        bench.same(bytes([0x90, 4, 0, OK, len(codes), 0, 0]), bench.reply(0))
-        bench.press(LETTER_C)
-        bench.same(bytes.fromhex("90 04 00 01 00 00 43"), bench.reply(1))
-        bench.waiting()
 
 
 # 02-change-requests, Ask 7: the last character before the end

@@ -45,8 +45,8 @@ stick: the I/O half of an Atari 400/800 between a laptop and a phone
 
 A call script has one op a line; # begins a comment (more: stick play --help):
   fresh | take PORT BYTES | tick PORT [x N] | give PORT [x N] | press CODE
-  lend BUFFER N | write BUFFER AT BYTES | dump [tape|keys] | doctor N
-  raw BYTES                                (BYTES and CODE are hexadecimal)
+  lend BUFFER N | write BUFFER AT BYTES | dump [tape] | doctor N | raw BYTES
+                                           (BYTES and CODE are hexadecimal)
 
 What is needed is proved and built first; {toolchain.OVERRIDE} names another
 program in its place. The end status is 0; 1 if a run went wrong; 2 for a bad

@@ -26,7 +26,7 @@ diskettes and the paper.
                one is blank.
 
 Keys are those of the stick's keyboard, with Shift and Ctrl as typed. The stick
-keeps sixteen until a host reads them; what is typed then waits here, in order.
+keeps one key: what is typed faster than a host reads waits here, in order.
   Return, Backspace, Tab, Esc, arrows   as they are called
   F1 inverse   F2 unlock   F3 shift lock   F4 control lock
   F5 end of file   F6 clear
@@ -50,9 +50,8 @@ SCRIPT is a file, or - for standard input: one op a line; # begins a comment.
   lend BUFFER LENGTH  from now on a buffer is lent with its first LENGTH bytes
   write BUFFER AT BYTES
                       writes bytes into a buffer from byte AT on: no call
-  dump [tape|keys]    shows all numbers, and screen and paper as text; with
-                      tape, the tape's records and where its head stands;
-                      with keys, the codes of those that wait
+  dump [tape]         shows all numbers, and screen and paper as text; with
+                      tape, the tape's records and where its head stands
   doctor N            repairs diskette N, and shows what was changed: no call
   raw BYTES           bytes of the script as they are: no op, or a part of one
 

@@ -16,6 +16,8 @@ from .cio import Stick
 from .play import Player
 from .ports import Port
 
+CONSOLE_HELD = 6
+
 
 @dataclass
 class Step:
@@ -68,7 +70,7 @@ class Host:
 
     def press(self, code: int) -> None:
         """Somebody presses a key, again and again while it is refused."""
-        while not self._player.press(code):
+        while self._player.do(script.Press(code))[0][0] == CONSOLE_HELD:
             self._pause()
 
     @contextmanager

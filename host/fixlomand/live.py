@@ -16,13 +16,13 @@ from itertools import count
 from pathlib import Path
 from types import FrameType
 
-from . import keys, picture, screen
+from . import keys, picture, screen, script
 from .deck import Deck
 from .drives import Drives
 from .errors import StickError
-from .play import Player
+from .play import CONSOLE_HELD, Player
 from .ports import Port
-from .view import View, Waiting
+from .view import View
 
 NAMES = ("laptop", "phone")
 SPEED = 20_000
@@ -36,6 +36,7 @@ SLICE = 64
 PIECE = 4096
 NOTICE = 5.0
 """How long something is said at the foot of the window, in seconds."""
+NO_KEY = 0xFF
 QUIT = (3, curses.KEY_F10)
 """Control-C, F10."""
 
@@ -104,6 +105,10 @@ class Live:
         self.plugs = [Plug(Port(player, number)) for number in (0, 1)]
         self._typed: deque[int] = deque()
         """Keys that are not pressed yet, the oldest first."""
+        self._stored = False
+        """Whether a key was pressed, and not seen to be read since."""
+        self._looked = 0
+        """How many requests were done when that was looked at."""
         self._notice, self._noticed = "", 0.0
         self.saved: list[str] = []
         """The files that were written."""
@@ -127,8 +132,7 @@ class Live:
                 self._notice, changed = "", True
             # A dump may be slow; most of the time is for the hosts.
             if changed and now - drawn >= max(FRESH, 3 * cost):
-                waiting = Waiting(self._player.keys(), len(self._typed))
-                view.draw(self._player.state(), self._player.tape(), ports, waiting, self._notice)
+                view.draw(self._player.state(), self._player.tape(), ports, len(self._typed), self._notice)
                 drawn, changed = now, any(port.under_way for port in ports)
                 cost = time.monotonic() - now
             self._rest(changed)
@@ -189,13 +193,26 @@ class Live:
         return changed
 
     def _press(self) -> bool:
-        """Presses what was typed, in order. A key that is refused stays the
-        first, and is pressed again later."""
+        """Presses the keys that wait, each when the one before it was read:
+        the stick keeps one. A refused key is pressed again later."""
         changed = False
-        while self._typed and self._player.press(self._typed[0]):
+        while self._typed and self._is_free():
+            if self._player.do(script.Press(self._typed[0]))[0][0] == CONSOLE_HELD:
+                break
             self._typed.popleft()
-            changed = True
+            self._stored, self._looked, changed = True, self._requests(), True
         return changed
+
+    def _is_free(self) -> bool:
+        """Whether no key would be lost. Only a request reads a key: there is
+        nothing to look for until one is done."""
+        if self._stored and self._looked != self._requests():
+            self._looked = self._requests()
+            self._stored = self._player.state().key != NO_KEY
+        return not self._stored
+
+    def _requests(self) -> int:
+        return sum(plug.port.requests for plug in self.plugs)
 
     def _save_paper(self) -> None:
         lines = screen.paper_lines(self._player.state())

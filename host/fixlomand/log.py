@@ -13,7 +13,7 @@ from datetime import datetime
 from typing import TextIO
 
 from . import errors, keys, ports, script, tape, wire
-from .play import CONSOLE_HELD, GROUP_HELD, QUEUE_FULL
+from .play import CONSOLE_HELD, GROUP_HELD
 
 NO_REPLY = 5
 SHOWN = 32
@@ -54,7 +54,7 @@ class Log:
             elif isinstance(op, script.Give) and output[0] in (0, NO_REPLY):
                 if output[0] == 0:
                     self._give(op, output[1])
-            elif isinstance(op, script.Press) and output[0] in (0, CONSOLE_HELD, QUEUE_FULL):
+            elif isinstance(op, script.Press) and output[0] in (0, CONSOLE_HELD):
                 if output[0] == 0:
                     self._put(op)
                     self._flush(f"key {key_words(op.code)}")
@@ -62,7 +62,7 @@ class Log:
                 self._put(op)
             elif isinstance(op, script.DumpTape):
                 self._tape = output
-            elif not isinstance(op, (script.Dump, script.DumpKeys)):
+            elif not isinstance(op, script.Dump):
                 self._put(op)
                 self._flush(f"answered {script.describe(op, output)}")
 
@@ -79,7 +79,7 @@ class Log:
         if self._tape:
             self._note(f"tape, {tape.words(script.read_tape(self._tape))}")
         self._note("unplugged")
-        self._write("dump\ndump tape\ndump keys\n")
+        self._write("dump\ndump tape\n")
         try:
             self._file.close()
         except OSError as error:

@@ -12,7 +12,6 @@ from .errors import StickError
 
 CONSOLE_HELD = 6
 GROUP_HELD = 8
-QUEUE_FULL = 9
 
 Listener = Callable[[Sequence[script.Op], Sequence[bytes]], None]
 
@@ -64,18 +63,6 @@ class Player:
     def tape(self) -> script.Tape:
         """What a dump of the tape tells."""
         return script.read_tape(self.do(script.DumpTape())[0])
-
-    def keys(self) -> bytes:
-        """The codes of the keys that wait to be read, the oldest first."""
-        return script.read_keys(self.do(script.DumpKeys())[0])
-
-    def press(self, code: int) -> bool:
-        """Presses a key; false if it is to be pressed again later, for a
-        request is at the console or sixteen keys wait."""
-        answer = self.do(script.Press(code))[0][0]
-        if answer not in (0, CONSOLE_HELD, QUEUE_FULL):
-            raise StickError(f"play answered {script.answer_text(answer)}")
-        return answer == 0
 
     def doctor(self, drive: int = 1) -> list[script.Change]:
         """Repairs the diskette in a drive; what the doctor changed."""

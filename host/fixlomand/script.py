@@ -15,7 +15,6 @@ The readable form has one op a line; ``#`` begins a comment::
                              bytes hexadecimal)
     dump                     D
     dump tape                C: the tape, and where its head stands
-    dump keys                Q: the keys that wait, the oldest first
     doctor 0                 R: repairs a diskette, 0 to 3 (D1 to D4)
     raw 54 00                bytes as they are (no op, or one that is cut)
 """
@@ -42,8 +41,6 @@ DRIVES = 4
 IMAGES = DRIVES * IMAGE
 CHANGE = 5
 """The bytes of a change that the doctor lists: sector (2), place, old, new."""
-KEYS = 16
-"""The most keys that wait to be read."""
 
 
 class Buffer(IntEnum):
@@ -72,7 +69,6 @@ ANSWERS = (
     "key pressed while a request holds the console",
     "tick, nothing ready or running",
     "tick, ready, group held by the other port",
-    "key pressed while the queue is full",
 )
 DOCTOR_ANSWERS = ("done", "no such diskette")
 """The doctor's own answers: it is no call."""
@@ -94,8 +90,6 @@ DUMP = 2 * AREA + SCREEN + PAPER + sum(length for _, length in NUMBERS) + 2 * 8 
 TAPE_DUMP = TAPE + 4 + PENDING
 """The bytes of a tape's dump: the tape, its mark, record (2) and place, and
 the pending characters."""
-KEYS_DUMP = 1 + KEYS
-"""The bytes of a dump of the keys: how many wait, and their codes."""
 TAKES = 16
 """The most bytes of a take on one line."""
 
@@ -199,7 +193,7 @@ class Write:
 
 @dataclass(frozen=True)
 class Dump:
-    """Dump all but the tape, the diskettes and the keys behind the oldest."""
+    """Dump all but the tape and the diskettes."""
 
     output = DUMP
 
@@ -215,16 +209,6 @@ class DumpTape:
 
     def encode(self) -> bytes:
         return b"C"
-
-
-@dataclass(frozen=True)
-class DumpKeys:
-    """Dump the keys that wait."""
-
-    output = KEYS_DUMP
-
-    def encode(self) -> bytes:
-        return b"Q"
 
 
 @dataclass(frozen=True)
@@ -250,7 +234,7 @@ class Raw:
         return self.data
 
 
-Op = Union[Fresh, Take, Tick, Give, Press, Ticks, Lend, Write, Dump, DumpTape, DumpKeys, Doctor, Raw]
+Op = Union[Fresh, Take, Tick, Give, Press, Ticks, Lend, Write, Dump, DumpTape, Doctor, Raw]
 
 
 def written(op: Op, output: bytes) -> int:
@@ -279,8 +263,7 @@ def to_bytes(ops: Sequence[Op]) -> bytes:
 
 def from_bytes(script: bytes) -> list[Op]:
     """The ops of a script; what ends its run is the last, as ``Raw``."""
-    lengths = {b"F": 1, b"T": 3, b"K": 2, b"G": 2, b"P": 2, b"X": 4, b"L": 5, b"W": 7}
-    lengths |= {b"D": 1, b"C": 1, b"Q": 1, b"R": 2}
+    lengths = {b"F": 1, b"T": 3, b"K": 2, b"G": 2, b"P": 2, b"X": 4, b"L": 5, b"W": 7, b"D": 1, b"C": 1, b"R": 2}
     ops: list[Op] = []
     at = 0
     while at < len(script):
@@ -303,8 +286,6 @@ def _op(letter: bytes, operands: bytes) -> Op:
         return Dump()
     if letter == b"C":
         return DumpTape()
-    if letter == b"Q":
-        return DumpKeys()
     if letter == b"W":
         return Write(operands[0], int.from_bytes(operands[1:4], "little"), operands[6:])
     first, rest = operands[0], int.from_bytes(operands[1:], "little")
@@ -348,7 +329,7 @@ FORMS = {
     "press": "press CODE",
     "lend": "lend BUFFER LENGTH",
     "write": "write BUFFER AT BYTES",
-    "dump": "dump [tape|keys]",
+    "dump": "dump [tape]",
     "doctor": "doctor N",
     "raw": "raw BYTES",
 }
@@ -393,8 +374,6 @@ def _line_ops(words: list[str]) -> list[Op]:
         return [Dump()]
     if name == "dump" and operands == ["tape"]:
         return [DumpTape()]
-    if name == "dump" and operands == ["keys"]:
-        return [DumpKeys()]
     if name == "take" and len(operands) > 1:
         port = _number("port", operands[0], 255)
         return [Take(port, _byte("byte", word)) for word in operands[1:]]
@@ -471,8 +450,6 @@ def _line(op: Op) -> str:
         return "dump"
     if isinstance(op, DumpTape):
         return "dump tape"
-    if isinstance(op, DumpKeys):
-        return "dump keys"
     if isinstance(op, Doctor):
         return f"doctor {op.image}"
     return f"raw {_hexadecimal(op.encode())}"
@@ -511,7 +488,6 @@ class State:
     escape: bool
     read_column: int | None
     key: int
-    """The oldest key that waits; $FF if none does, but it is a code too."""
     lock: int
     inverse: int
     blocks: tuple[tuple[Block, ...], tuple[Block, ...]]
@@ -553,13 +529,6 @@ def read_changes(output: bytes) -> list[Change]:
         Change(int.from_bytes(output[at : at + 2], "little"), *output[at + 2 : at + CHANGE])
         for at in range(Doctor.output, len(output), CHANGE)
     ]
-
-
-def read_keys(output: bytes) -> bytes:
-    """Reads what ``dump keys`` wrote: the codes that wait, the oldest first."""
-    if len(output) != KEYS_DUMP or output[0] > KEYS or any(output[1 + output[0] :]):
-        raise ValueError(f"no dump of keys: {_hexadecimal(output[:KEYS_DUMP])}")
-    return output[1 : 1 + output[0]]
 
 
 def read_tape(output: bytes) -> Tape:
@@ -627,8 +596,6 @@ def describe(op: Op, output: bytes) -> str:
         return _describe_dump(output)
     if isinstance(op, DumpTape):
         return _describe_tape(read_tape(output))
-    if isinstance(op, DumpKeys):
-        return _describe_keys(output)
     if isinstance(op, Doctor):
         return _describe_doctor(output)
     return answer_text(output[0])
@@ -652,13 +619,6 @@ def _describe_tape(tape: Tape) -> str:
     """The numbers of a tape's dump on one line."""
     mark = MARKS[tape.mark] if tape.mark < len(MARKS) else "no such mark"
     return f"mark {tape.mark} {mark}, record {tape.record}, place {tape.place}"
-
-
-def _describe_keys(output: bytes) -> str:
-    """How many keys wait, and their codes."""
-    number = min(output[0], KEYS)
-    codes = f": {_hexadecimal(output[1 : 1 + number])}" if number else ""
-    return f"{counted(output[0], 'key')}{codes}"
 
 
 def _describe_doctor(output: bytes) -> str:

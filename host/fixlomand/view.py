@@ -7,12 +7,10 @@ import curses
 import locale
 import textwrap
 from collections.abc import Sequence
-from typing import NamedTuple
 
 from . import ports, screen, tape, toolchain
 from .keys import LOCKS
 from .script import State, Tape
-from .text import counted
 from .wire import DIRECTORY
 
 FOOT = (
@@ -51,15 +49,6 @@ def foot(width: int) -> list[str]:
     return lines
 
 
-class Waiting(NamedTuple):
-    """The keys that nobody has read."""
-
-    codes: bytes = b""
-    """Those in the stick, the oldest first."""
-    typed: int = 0
-    """How many are not pressed yet."""
-
-
 class View:
     """Draws a dump into a window, cut to its size."""
 
@@ -87,10 +76,9 @@ class View:
                 curses.init_pair(1 + 4 * upper + lower, colours[upper], colours[lower])
         return True
 
-    def draw(
-        self, state: State, reel: Tape, both: Sequence[ports.Port], waiting: Waiting = Waiting(), notice: str = ""
-    ) -> None:
-        """Draws all; a notice is at the foot in place of the keys there."""
+    def draw(self, state: State, reel: Tape, both: Sequence[ports.Port], waiting: int = 0, notice: str = "") -> None:
+        """Draws all; so many keys wait to be pressed, and a notice is at the
+        foot in place of the keys."""
         self._window.erase()
         height, width = self._window.getmaxyx()
         self._put(0, 0, f"{toolchain.title()}   laptop {self._paths[0]}   phone {self._paths[1]}", curses.A_BOLD)
@@ -146,7 +134,7 @@ class View:
                 self._put(1 + place, column, UPPER_HALF, pair)
 
     def _panel(
-        self, state: State, reel: Tape, both: Sequence[ports.Port], waiting: Waiting, column: int, height: int
+        self, state: State, reel: Tape, both: Sequence[ports.Port], waiting: int, column: int, height: int
     ) -> None:
         """The ports, the keyboard, the tape, the diskettes and the end of the
         paper. What is too long for a narrow window goes on in the next line."""
@@ -155,15 +143,12 @@ class View:
             lines.append((f"port {port.number}, {name}: {port.requests} requests", curses.A_BOLD))
             lines.append((f"  {ports.describe(port, state)}", 0))
             lines.append((f"  open: {_blocks(state, port.number)}", 0))
-        key = f"${waiting.codes[0]:02X}" if waiting.codes else "none"
+        key = "none" if state.key == 0xFF else f"${state.key:02X}"
         inverse = ", inverse" if state.inverse else ""
         lines.append((f"mode {state.mode}, cursor {state.row},{state.column}", 0))
         lines.append((f"key {key}, {LOCKS[state.lock]}{inverse}", 0))
-        behind = len(waiting.codes) - 1
-        if behind > 0:
-            lines.append((f"  {behind} more {'keys wait' if behind > 1 else 'key waits'}", 0))
-        if waiting.typed:
-            lines.append((f"  {counted(waiting.typed, 'key')} not pressed yet", 0))
+        if waiting:
+            lines.append((f"  {waiting} more {'keys wait' if waiting > 1 else 'key waits'}", 0))
         lines.append((f"tape, {tape.summary(tape.records_of(reel.data))}", curses.A_BOLD))
         lines.append((f"  {tape.head_words(reel)}", 0))
         if self._diskettes:

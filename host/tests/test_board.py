@@ -15,7 +15,7 @@ import time
 import unittest
 from collections.abc import Callable
 
-from fixlomand import errors, keys, wire
+from fixlomand import errors, wire
 from fixlomand.cio import EOL, FORCED, READ, WRITE, File, Stick
 
 from .terminal import Terminal
@@ -188,32 +188,6 @@ class Board(unittest.TestCase):
         self.assertEqual(read_keys(keyboard, 11), b"bandages 8\x9b")
         self.assertRaises(errors.EndOfFile, keyboard.get_character)
 
-    def test_keys_are_in_the_core(self) -> None:
-        """A word that is typed before anybody reads: one request reads it."""
-        keyboard = self.phone.open("K:", READ)
-        self.tell(" ".join(f"{code:02X}" for code in BANDAGES))
-        time.sleep((len(BANDAGES) + 1) * TYPING)
-        self.assertEqual(keyboard.get_characters(8), b"BANDAGES")
-        self.assertRaises(errors.EndOfFile, keyboard.get_character)
-
-    def test_more_keys_than_the_core_keeps(self) -> None:
-        """Sixteen wait in the core and the others in the board; a request at the screen holds up some. All come, in order."""
-        line = b"THE QUICK BROWN FOX JUMPS\x9b"
-        picture = self.laptop.open("S:", READ | WRITE, 8)
-        keyboards = [stick.open("K:", READ) for stick in (self.laptop, self.phone)]
-        codes = [keys.code_of(letter) or 0 for letter in line[:-1].lower()] + [keys.RETURN]
-        self.tell(" ".join(f"{code:02X}" for code in codes))
-        typed = time.monotonic() + (len(codes) + 1) * TYPING
-        self.assertRaises(errors.CursorPastLastRow, picture.get_record, 1)
-        time.sleep(max(0.0, typed - time.monotonic()))
-        got = keyboards[0].get_characters(16)
-        while len(got) < len(line):
-            got += (more := read_keys(keyboards[len(got) % 2], 1))
-            self.assertTrue(more)
-        self.assertEqual(got, line)
-        for keyboard in keyboards:
-            self.assertRaises(errors.EndOfFile, keyboard.get_character)
-
     def test_the_tape(self) -> None:
         """Both hosts have the one tape; it is bad before it is written, and outlasts a fresh start."""
         with self.assertRaises(errors.Checksum):
@@ -339,9 +313,9 @@ class BoardInATerminal(unittest.TestCase):
         self.addCleanup(line.close)
         phone = Stick(line)
         keyboard = phone.open("K:", READ)
-        terminal.type(b"".join(b"%02x\n" % code for code in (0x3C, *3 * BANDAGES)))
-        time.sleep((3 * len(BANDAGES) + 2) * TYPING)
-        self.assertEqual(read_keys(keyboard, 24), 3 * b"bandages")
+        terminal.type(b"".join(b"%02x\n" % code for code in (0x3C, *BANDAGES)))
+        time.sleep((len(BANDAGES) + 2) * TYPING)
+        self.assertEqual(read_keys(keyboard, 8), b"bandages")
         terminal.type(b"damage\n")
         terminal.wait_for_text(RESTARTED)
         self.assertRaises(errors.NotOpen, keyboard.get_character)

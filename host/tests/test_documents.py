@@ -8,8 +8,8 @@ import unittest
 from pathlib import Path
 
 import fixlomand
-from fixlomand import cases, drives, errors, keys, script, wire
-from fixlomand.cio import READ, WRITE, File, Stick
+from fixlomand import cases, drives, errors, script, wire
+from fixlomand.cio import WRITE, File, Stick
 from fixlomand.play import Player, PlayPort
 from fixlomand.ports import Port
 from fixlomand.wire import Command
@@ -136,28 +136,6 @@ class Hosts(unittest.TestCase):
                 first, *last = (int(number[1:], 16) for number in each.split(" to "))
                 codes += range(first, (last or [first])[0] + 1)
         self.assertEqual(sorted(codes), sorted(cases.CONTROL_CODES))
-
-    @unittest.skipUnless(PLAY, NO_PLAY)
-    def test_the_keyboard(self) -> None:
-        """Its table: the keys that wait, what a GET of one character gives, and what waits then."""
-        codes = {"A": 0x3F, "B": 0x15, "CAPS": keys.UNLOCK, "inverse": keys.INVERSE, "[CTRL] 3": keys.END_OF_FILE}
-        codes_of = {"none": b"", "nothing": b"", **{name: bytes([code]) for name, code in codes.items()}}
-        table = self.text.split("## The keyboard")[1].split("##")[0]
-        rows = [line[2:-2].split(" | ") for line in table.splitlines() if line.startswith("| ")][1:]
-        self.assertEqual(len(rows), 6)
-        with Player(shlex.split(PLAY)) as player:
-            for waiting, given, then in rows:
-                player.do(script.Fresh())
-                keyboard = Stick(PlayPort(player, 0)).open("K:", READ)
-                for name in waiting.split(", "):
-                    player.do(*map(script.Press, codes_of[name]))
-                if given.startswith("$88"):
-                    self.assertRaises(errors.EndOfFile, keyboard.get_character)
-                    self.assertEqual(player.state().lock == 0, "the lock has ended" in given)
-                else:
-                    character = ord(re.findall("`(.)`", given)[0]) + 0x80 * ("in inverse, $C1" in given)
-                    self.assertEqual(keyboard.get_character(), character)
-                self.assertEqual(player.keys(), codes_of[then])
 
     def test_the_library(self) -> None:
         """Its table has each public method once, with its parameters; and the errors that are no status."""

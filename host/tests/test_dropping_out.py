@@ -15,15 +15,15 @@ import time
 import unittest
 from collections.abc import Iterator
 from contextlib import closing, contextmanager
-from typing import ClassVar, TextIO
+from typing import ClassVar
 
-from fixlomand import errors, keys, wire
+from fixlomand import errors, wire
 from fixlomand.cio import READ, WRITE, File, Stick
 from fixlomand.wire import Command
 
 from .running import NO_PLAY, PLAY, STICK
 from .terminal import Terminal
-from .test_board import BOARD, TYPING, read_keys
+from .test_board import BOARD
 
 PATIENCE = 20.0
 """Seconds until something that does not come counts as missing."""
@@ -37,8 +37,6 @@ KEPT = 12_000
 SHORT_LOAD = wire.load(16, b"E:\x9b")
 LONG_LOAD = wire.load(1024, bytes(range(256)))
 OPEN = wire.call(2, Command.OPEN, aux1=WRITE)
-LETTERS = b"ABCDEFGHIJKLMNOPQRSTUVWXYZ"
-"""Keys, more than the stick keeps."""
 
 
 class Dying:
@@ -129,11 +127,6 @@ class Shared:
                 phone.load(KEPT, PATTERN)
 
         @classmethod
-        def type_letters(cls) -> None:
-            """Somebody types all letters, faster than they are read."""
-            raise NotImplementedError
-
-        @classmethod
         @contextmanager
         def phone(cls, patience: float = PATIENCE) -> Iterator[Stick]:
             """The next host at the phone's port."""
@@ -187,23 +180,6 @@ class Shared:
                         kill(self.paths[1], put, len(put), reads)
                         self.check()
 
-        def test_killed_in_a_get_from_the_keyboard(self) -> None:
-            """The keys that it asked for are gone with it, as many as docs/HOSTS.md tells; the next host reads on behind them."""
-            get = wire.call(0, Command.GET_CHARACTERS, 16, 3)
-            with self.phone() as phone, phone.open("K:", READ) as keyboard:
-                self.type_letters()
-                read = 0
-                for sends, reads, gone in ((4, 0, 0), (5, 0, 1), (8, 0, 3), (12, 0, 3), (12, 1, 3), (12, 6, 3)):
-                    with self.subTest(sends=sends, reads=reads):
-                        kill(self.paths[1], get, sends, reads)
-                        self.check()
-                        with self.phone() as following:
-                            got = following.call(0, Command.GET_CHARACTERS).a
-                        self.assertEqual(got, LETTERS[read + gone])
-                        read += gone + 1
-                self.assertEqual(read_keys(keyboard, len(LETTERS) - read), LETTERS[read:])
-                self.assertRaises(errors.EndOfFile, keyboard.get_character)
-
         def test_killed_in_its_reply(self) -> None:
             fetch = wire.fetch(KEPT, 200)
             for reads in (0, 1, 3, 100, 203):
@@ -256,26 +232,19 @@ class Shared:
 @unittest.skipUnless(PLAY, NO_PLAY)
 class AtLive(Shared.DroppingOut):
     slow = 5
-    terminal: ClassVar[Terminal]
 
     @classmethod
     def setUpClass(cls) -> None:
-        cls.terminal = terminal = Terminal([STICK, "live"], 30, 120)
+        terminal = Terminal([STICK, "live"], 30, 120)
         cls.addClassCleanup(terminal.close)
         names = re.compile(rb"laptop: (\S+)\s+phone: (\S+)\s")
         terminal.wait_for(lambda: names.search(terminal.written), "the names of the plugs")
         cls.begin([path.decode() for path in names.findall(terminal.written)[0]])
 
-    @classmethod
-    def type_letters(cls) -> None:
-        cls.terminal.type(LETTERS.lower())
-        cls.terminal.wait_for_text(f"{len(LETTERS) - 16} keys not pressed yet")
-
 
 @unittest.skipUnless(BOARD, "FIXLOMAND_BOARD names no example firmware to start")
 class AtTheBoard(Shared.DroppingOut):
     slow = 8
-    input: ClassVar[TextIO]
 
     @classmethod
     def setUpClass(cls) -> None:
@@ -283,16 +252,9 @@ class AtTheBoard(Shared.DroppingOut):
             shlex.split(BOARD), stdin=subprocess.PIPE, stdout=subprocess.PIPE, stderr=subprocess.DEVNULL, text=True
         )
         assert process.stdin is not None and process.stdout is not None
-        cls.input = process.stdin
         for clean in (process.stdout.close, process.wait, process.kill, process.stdin.close):
             cls.addClassCleanup(clean)
         cls.begin([process.stdout.readline().split()[1] for _ in range(2)])
-
-    @classmethod
-    def type_letters(cls) -> None:
-        cls.input.write(" ".join(f"{keys.code_of(letter):02X}" for letter in LETTERS.lower()) + "\n")
-        cls.input.flush()
-        time.sleep((len(LETTERS) + 1) * TYPING)
 
 
 if __name__ == "__main__":

@@ -18,7 +18,7 @@ from collections.abc import Sequence
 from pathlib import Path
 
 import fixlomand
-from fixlomand import errors, play, script, wire
+from fixlomand import errors, wire
 
 BOARD = os.environ.get("FIXLOMAND_BOARD", "")
 FIRMWARE = Path(__file__).resolve().parents[2] / "firmware"
@@ -103,14 +103,6 @@ class Header(unittest.TestCase):
         raised = {re.sub(r"\B([A-Z])", r"_\1", error.__name__).upper(): n for n, error in errors.BY_STATUS.items()}
         below = {"SUCCESS": wire.SUCCESS, "LAST_CHARACTER": wire.LAST_CHARACTER}
         self.assertEqual(self.named("STATUS"), {**below, **raised})
-
-    def test_answers(self) -> None:
-        text = (FIRMWARE / "include" / "fixlomand.h").read_text(encoding="utf-8")
-        part = text.split("---- What a call answers")[1].split("};")[0]
-        named = {name: int(number) for name, number in re.findall(r"FIXLOMAND_(\w+) = (\d+)", part)}
-        self.assertEqual(list(named.values()), list(range(len(script.ANSWERS))))
-        for name in ("CONSOLE_HELD", "GROUP_HELD", "QUEUE_FULL"):
-            self.assertEqual(named[name], getattr(play, name))
 
     def test_messages(self) -> None:
         replies = {f"{tag.name}_REPLY": tag + wire.REPLY for tag in wire.Tag}

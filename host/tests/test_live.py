@@ -7,20 +7,18 @@ import re
 import shutil
 import signal
 import threading
+import time
 import unittest
 
-from fixlomand import errors, keys, script, view
+from fixlomand import errors, view
 from fixlomand.cio import EOL, FORCED, READ, WRITE, File
 from fixlomand.picture import drawing
 
 from .living import Living
 from .running import NO_PLAY, PLAY, STICK, run
 from .terminal import PATIENCE, Terminal
-from .test_board import read_keys
 
 F7, F8 = b"\x1b[18~", b"\x1b[19~"
-LINE = b"the quick brown fox jumps over the lazy dog\r"
-"""More keys than the stick keeps."""
 
 
 @unittest.skipUnless(PLAY, NO_PLAY)
@@ -80,76 +78,23 @@ class Live(Living):
         self.end(terminal, b"\x1b[21~")
 
     def test_keys_that_wait(self) -> None:
-        """A word typed at once waits in the stick: one request reads it."""
         terminal, _, phone = self.start()
         keyboard = phone.open("K:", READ)
         terminal.type(b"bandages\r")
-        terminal.wait_for_text("key $15, ")
         terminal.wait_for_text("8 more keys wait")
-        self.assertFalse(any("not pressed yet" in line for line in terminal.screen.lines()))
-        self.assertEqual(keyboard.get_characters(8), b"BANDAGES")
-        terminal.wait_for_text("key $0C, ")
-        self.assertEqual(keyboard.get_record(), b"\x9b")
+        typed = b""
+        end = time.monotonic() + PATIENCE
+        while not typed.endswith(bytes([EOL])) and time.monotonic() < end:
+            try:
+                typed += bytes([keyboard.get_character()])
+            except errors.EndOfFile:
+                pass
+        self.assertEqual(typed, b"BANDAGES\x9b")
         terminal.wait_for_text("key none")
-        # Nothing is left over.
+        # Nothing is left over, and a key is not held back for one that was read long ago.
         self.assertRaises(errors.EndOfFile, keyboard.get_character)
         self.assertEqual(self.key(terminal, keyboard, b"7", 0x33), ord("7"))
         self.end(terminal)
-
-    def test_more_keys_than_the_stick_keeps(self) -> None:
-        """The others wait here, in order, and none is lost, also where one request reads all sixteen, and both hosts read."""
-        terminal, laptop, phone = self.start()
-        keyboards = [host.open("K:", READ) for host in (laptop, phone)]
-        typed = LINE.upper().replace(b"\r", bytes([EOL]))
-        for first in (1, 16):
-            with self.subTest(first=first):
-                terminal.type(LINE)
-                terminal.wait_for_text("15 more keys wait")
-                terminal.wait_for_text(f"{len(LINE) - 16} keys not pressed yet")
-                got = keyboards[0].get_characters(first)
-                while len(got) < len(typed):
-                    got += (more := read_keys(keyboards[len(got) % 2], 1))
-                    self.assertTrue(more, got)
-                self.assertEqual(got, typed)
-                terminal.wait_for_text("key none")
-                for keyboard in keyboards:
-                    self.assertRaises(errors.EndOfFile, keyboard.get_character)
-        self.end(terminal)
-
-    def test_keys_while_a_request_is_at_the_screen(self) -> None:
-        """They are refused, and pressed in order when it is done, those that wait already before them."""
-        terminal, laptop, phone = self.start("--speed", "1000")
-        keyboard = phone.open("K:", READ)
-        terminal.type(LINE[:10])
-        terminal.wait_for_text("9 more keys wait")
-        editor = laptop.open("E:", WRITE)
-        listing = threading.Thread(target=editor.put_characters, args=(b"stock " * 400,), daemon=True)
-        listing.start()
-        terminal.wait_for_text("PUT CHARACTERS: holds the console")
-        terminal.type(LINE[10:])
-        terminal.wait_for_text(f"{len(LINE) - 10} keys not pressed yet")
-        self.assertTrue(listing.is_alive())
-        listing.join(PATIENCE)
-        terminal.wait_for_text(f"{len(LINE) - 16} keys not pressed yet")
-        self.assertEqual(read_keys(keyboard, len(LINE)), LINE.upper().replace(b"\r", bytes([EOL])))
-        self.end(terminal)
-
-    def test_keys_in_the_log_of_a_live_that_was_killed(self) -> None:
-        """Each key that the stick took is there once, in order, and none that it refused."""
-        terminal, _, phone = self.start("--log", "log")
-        keyboard = phone.open("K:", READ)
-        terminal.type(LINE)
-        terminal.wait_for_text(f"{len(LINE) - 16} keys not pressed yet")
-        self.assertEqual(keyboard.get_characters(5), LINE[:5].upper())
-        terminal.wait_for_text(f"{len(LINE) - 21} keys not pressed yet")
-        terminal.process.kill()
-        terminal.process.wait(PATIENCE)
-        text = (self.folder / "log").read_text()
-        codes = bytes(keys.code_of(letter) or 0 for letter in LINE)
-        self.assertEqual(bytes(op.code for op in script.parse(text) if isinstance(op, script.Press)), codes[:21])
-        again = run("play", "-", give=text.encode() + b"dump keys\n").stdout.decode()
-        self.assertIn(f"\ndump keys: 16 keys: {codes[5:21].hex(' ').upper()}\n", again)
-        self.assertNotIn("9 key pressed while the queue is full", again)
 
     def test_two_hosts_at_once(self) -> None:
         terminal, laptop, phone = self.start("--speed", "1000")

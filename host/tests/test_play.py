@@ -6,7 +6,7 @@ import shlex
 import sys
 import unittest
 
-from fixlomand import errors, keys, log, script, wire
+from fixlomand import errors, log, script, wire
 from fixlomand.cio import FORCED, READ, WRITE, Stick
 from fixlomand.play import Player, PlayPort
 from fixlomand.ports import Port
@@ -47,22 +47,10 @@ class Play(unittest.TestCase):
         self.assertEqual(self.player.state().phases, (3, 0))
 
     def test_keys(self) -> None:
-        """As many as there are places, read at both ports; one more is to be pressed again, and so it is while a request is at the
-        console."""
-        keyboards = [stick.open("K:", READ) for stick in (self.laptop, self.phone)]
-        self.assertRaises(errors.EndOfFile, keyboards[0].get_character)
-        digits = bytes(map(keys.TABLE.index, b"0123456789")) * 2
-        self.assertEqual([self.player.press(code) for code in digits], [True] * 16 + [False] * 4)
-        self.assertEqual(self.player.keys(), digits[:16])
-        self.assertEqual(keyboards[0].get_characters(3) + keyboards[1].get_characters(2), b"01234")
-        self.assertEqual([self.player.press(code) for code in digits[16:]], [True] * 4)
-        self.player.do(*(script.Take(0, byte) for byte in wire.call(0, 0x07, 0, 9)), script.Tick(0))
-        self.assertFalse(self.player.press(0x3F))
-        self.assertEqual(self.player.keys(), digits[5:])
-        self.player.do(script.Lend(script.Buffer.AREA, 0))
-        with self.assertRaises(errors.StickError) as caught:
-            self.player.press(0x3F)
-        self.assertEqual(str(caught.exception), "play answered 2 a lent buffer has another length")
+        keyboard = self.phone.open("K:", READ)
+        self.assertRaises(errors.EndOfFile, keyboard.get_character)
+        self.player.do(script.Press(0x3F))
+        self.assertEqual(keyboard.get_character(), ord("A"))
 
 
 class Written(io.StringIO):
@@ -101,7 +89,7 @@ class Logged(unittest.TestCase):
 
     def test_words(self) -> None:
         self.ask(0, wire.load(0, b"K:\x9b"), wire.call(2, 0x03, aux1=0x04), wire.call(2, 0x07))
-        self.player.do(script.Press(0x3F), script.Dump(), script.DumpKeys(), script.Press(0x0C))
+        self.player.do(script.Press(0x3F), script.Dump(), script.Press(0x0C))
         self.ask(0, wire.call(2, 0x07), wire.call(2, 0x07, 0, 5), wire.fetch(0, 1), wire.call(2, 0x0C))
         self.ask(1, b"\x55\x01\x00x", b"\x12\x00\x00", wire.call(0, 0x0B, a=0x41), wire.call(0, 0x0E))
         self.ports[1].inbox += b"\x11\x05"
@@ -118,11 +106,11 @@ class Logged(unittest.TestCase):
                 'key $3F: "a"',
                 "key $0C: return",
                 "port 0: GET CHARACTERS block 2, one by A",
-                'port 0: GET CHARACTERS replied $01 success, A "A"',
+                "port 0: GET CHARACTERS replied $01 success, A EOL",
                 "port 0: GET CHARACTERS block 2, 5 bytes at 0",
-                "port 0: GET CHARACTERS replied $88 EndOfFile, end of file from K, C or D, count 1",
+                "port 0: GET CHARACTERS replied $88 EndOfFile, end of file from K, C or D, count 0",
                 "port 0: FETCH 1 byte at 0",
-                "port 0: FETCH replied $01 success: EOL",
+                'port 0: FETCH replied $01 success: "K"',
                 "port 0: CLOSE block 2",
                 "port 0: CLOSE replied $01 success",
                 "port 1: tag $55 of 1 byte, an unknown tag",
@@ -154,7 +142,7 @@ class Logged(unittest.TestCase):
         )
 
     def test_played_again(self) -> None:
-        """Both at the console in small steps; a key refused meanwhile, more keys than are kept, and a cut message at the end."""
+        """Both at the console in small steps; a key refused meanwhile, and a cut message at the end."""
         for port in (0, 1):
             self.ask(port, wire.load(0, b"E:\x9b"), wire.call(0, 0x03, aux1=0x0D), wire.load(16, b"0123456789" * 25))
             self.ports[port].inbox += wire.call(0, 0x0B, 16, 250 - 100 * port)
@@ -163,28 +151,24 @@ class Logged(unittest.TestCase):
         while any([port.step(7) for port in self.ports]):
             for port in self.ports:
                 port.outbox.clear()
-        answers = self.player.do(*[script.Press(0x15)] * 16, script.Press(0x12))
-        self.assertEqual(answers, [b"\0"] * 16 + [b"\x09"])
+        self.player.do(script.Press(0x15))
         self.ports[0].inbox += wire.load(500, b"abc")[:-1]
         self.ports[0].step(1)
         words = self.words()
         self.assertEqual(words.count("port 1: PUT CHARACTERS waits for the other port"), 1)
         self.assertNotIn('key $3F: "a"', words)
-        self.assertNotIn('key $12: "c"', words)
-        self.assertEqual(words.count('key $15: "b"'), 16)
         ops = script.parse(self.file.text)
-        self.assertEqual((ops[0], *ops[-3:]), (script.Fresh(), script.Dump(), script.DumpTape(), script.DumpKeys()))
+        self.assertEqual((ops[0], *ops[-2:]), (script.Fresh(), script.Dump(), script.DumpTape()))
         counts = [[op.count for op in ops if isinstance(op, script.Ticks) and op.port == port] for port in (0, 1)]
         self.assertEqual(counts, [[14, 237], [151]])
         with Player(shlex.split(PLAY)) as other:
             outputs = other.do(*ops)
-            self.assertEqual(script.read_dump(outputs[-3]), self.player.state())
-            self.assertEqual(script.read_tape(outputs[-2]), self.player.tape())
-            self.assertEqual(script.read_keys(outputs[-1]), self.player.keys())
+            self.assertEqual(script.read_dump(outputs[-2]), self.player.state())
+            self.assertEqual(script.read_tape(outputs[-1]), self.player.tape())
             for op, output in zip(ops, outputs):
                 if isinstance(op, script.Ticks):
                     self.assertEqual(output, op.count.to_bytes(2, "little") + b"\0")
-                elif not isinstance(op, (script.Dump, script.DumpTape, script.DumpKeys)):
+                elif not isinstance(op, (script.Dump, script.DumpTape)):
                     self.assertEqual(output[0], 0)
             self.assertEqual(other.do(script.Take(0, ord("c")), script.Tick(0)), [b"\0", b"\0"])
             self.assertEqual(other.state().areas[0][500:503], b"abc")

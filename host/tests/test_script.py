@@ -4,8 +4,7 @@ import unittest
 from pathlib import Path
 
 from fixlomand import script
-from fixlomand.script import Change, Doctor, Dump, DumpKeys, DumpTape, Fresh, Give
-from fixlomand.script import Lend, Press, Raw, Take, Tape, Tick, Ticks, Write
+from fixlomand.script import Change, Doctor, Dump, DumpTape, Fresh, Give, Lend, Press, Raw, Take, Tape, Tick, Ticks, Write
 
 # The same bytes are tested in the model.
 TEXT = """\
@@ -28,7 +27,6 @@ write images 45952 02
 raw 57 09 FF FF FF 00 00
 dump
 dump tape
-dump keys
 doctor 3
 raw 54 00
 """
@@ -36,7 +34,7 @@ BYTES = bytes.fromhex(
     "46 540011 540005 540000 540000 540000 540045 54003A 54009B 4B00 4700 4700 4700 4700 4700"
     "540110 54FFFF 58012C01 503F 4C00640000 4C035A0200 4C07701101 4C04E88000 4C0600A005"
     "57048400000300 5555FA 570680B300010002 5709FFFFFF0000"
-    "44 43 51 5203 5400"
+    "44 43 5203 5400"
 )
 
 
@@ -61,7 +59,7 @@ class Forms(unittest.TestCase):
 
     def test_ops(self) -> None:
         ops = [Fresh(), Take(1, 2), Tick(3), Give(4), Press(5), Ticks(6, 7), Lend(2, 9), Dump(), DumpTape(), Doctor(3)]
-        ops += [DumpKeys(), Raw(b"T\0")]
+        ops.append(Raw(b"T\0"))
         self.assertEqual(script.from_bytes(script.to_bytes(ops)), ops)
 
     def test_writes(self) -> None:
@@ -107,8 +105,7 @@ class Forms(unittest.TestCase):
             "write tape 16777216 00": "place 16777216: at most 16777215",
             "write tape 0 100": "byte 100: at most FF",
             "write tape 0 " + "00 " * 65_536: "65536 bytes: at most 65535",
-            "dump disk": "dump disk: not of the form dump [tape|keys]",
-            "dump keys 1": "dump keys 1: not of the form dump [tape|keys]",
+            "dump disk": "dump disk: not of the form dump [tape]",
             "doctor": "doctor: not of the form doctor N",
             "doctor 0 1": "doctor 0 1: not of the form doctor N",
             "doctor 256": "diskette 256: at most 255",
@@ -140,9 +137,7 @@ class Answers(unittest.TestCase):
         self.assertEqual(script.describe(Write(4, 0, b"A"), b""), "nothing")
         self.assertEqual(script.describe(Tick(0), b""), "the output ends")
         self.assertEqual(script.describe(Give(0), b"\x05"), "the output ends after 05")
-        self.assertEqual(script.describe(Press(0x3F), b"\x06"), "6 key pressed while a request holds the console")
-        self.assertEqual(script.describe(Press(0x3F), b"\x09"), "9 key pressed while the queue is full")
-        self.assertEqual(script.describe(Tick(0), b"\x0a"), "10 no such answer")
+        self.assertEqual(script.describe(Tick(0), b"\x09"), "9 no such answer")
 
     def test_lines(self) -> None:
         ops = script.parse("fresh\ntake 0 55 00 00\nlend area 5\ntick 0\ngive 0 x 3\ntake 1 00 00 00 00")
@@ -189,24 +184,6 @@ class Answers(unittest.TestCase):
             self.assertRaises(ValueError, script.read_tape, output[1:])
         lines = script.format_answers([DumpTape()], output, lambda tape: [f"mark {tape.mark}"])
         self.assertEqual(lines, ["dump tape: mark 0 closed, record 0, place 0", "mark 0"])
-
-    def test_dump_of_the_keys(self) -> None:
-        self.assertEqual(script.KEYS_DUMP, 17)
-        every = bytes(range(0xF0, 0x100))
-        for codes, words in (
-            (b"", "0 keys"),
-            (b"\x00", "1 key: 00"),
-            (bytes.fromhex("3C C0 FF 3F 27 3F"), "6 keys: 3C C0 FF 3F 27 3F"),
-            (every, f"16 keys: {every.hex(' ').upper()}"),
-        ):
-            output = bytes([len(codes)]) + codes.ljust(16, b"\0")
-            self.assertEqual(script.read_keys(output), codes)
-            self.assertEqual(script.format_answers([DumpKeys()], output), [f"dump keys: {words}"])
-            self.assertRaises(ValueError, script.read_keys, output[:-1])
-            self.assertEqual(script.describe(DumpKeys(), output[:2]), f"the output ends after {output[:2].hex(' ').upper()}")
-        for wrong in (b"\x11" + every, b"\x01" + every, b"\x00" + b"\x01".rjust(16, b"\0")):
-            self.assertRaises(ValueError, script.read_keys, wrong)
-            self.assertTrue(script.describe(DumpKeys(), wrong).startswith(f"{wrong[0]} key"))
 
     def test_the_doctor(self) -> None:
         """Its output is as long as it says; the changes are under its line."""
@@ -261,7 +238,7 @@ class Gate(unittest.TestCase):
 
     def test_notes(self) -> None:
         at = 0
-        dumps, tapes, keys = [], [], []
+        dumps, tapes = [], []
         for line in self.text.splitlines():
             words, _, note = line.partition("#")
             for op in (ops := script.parse(words)):
@@ -271,17 +248,15 @@ class Gate(unittest.TestCase):
                     dumps.append(script.read_dump(written))
                 if isinstance(op, DumpTape):
                     tapes.append(script.read_tape(written))
-                if isinstance(op, DumpKeys):
-                    keys.append(script.read_keys(written).hex(" "))
                 if isinstance(op, Ticks) and note:
                     self.assertEqual(written, int(note).to_bytes(2, "little") + b"\0", line)
-            if ops and isinstance(ops[0], (Doctor, DumpKeys, Press, Tick)) and note:
+            if ops and isinstance(ops[0], Doctor) and note:
                 self.assertEqual(written.hex(" "), bytes.fromhex(note).hex(" "), line)
             if ops and isinstance(ops[0], Give) and note:
                 given = b"".join(bytes([0, byte]) for byte in bytes.fromhex(note))
                 self.assertEqual(self.output[at - len(given) : at], given, line)
         self.assertEqual(at, len(self.output))
-        record, cell, letters, rows, full, ends, disks = dumps
+        record, cell, letters, rows, ends, disks = dumps
         self.assertEqual((record.screen[2:4], record.row, record.column), (b"\x41\x42", 1, 2))
         self.assertEqual(cell.screen[0], 1)
         blank = b"\x20"
@@ -293,9 +268,6 @@ class Gate(unittest.TestCase):
         self.assertEqual(rows.screen[917:963], blank + b"\x0e\x0f" + 40 * blank + b"\x10\x11\0")
         self.assertEqual(rows.screen[997:1003], b"\0\x12\x13\x14\x15\0")
         self.assertEqual(rows.screen[-3:], b"\0\x16\x17")
-        behind = bytes([*range(1, 16), 0xFF]).hex(" ")
-        self.assertEqual(keys, ["3c c0 ff 3f 27 3f", "27 3f", "3f", behind, behind, "", "12"])
-        self.assertEqual((rows.key, full.key, ends.key, full.lock, full.inverse), (0xFF, 0x01, 0xFF, 1, 0))
         self.assertEqual((ends.areas[1][-1], ends.screen[-1], ends.paper[-1]), (0x7A, 0x7B, 0x7C))
         self.assertEqual(ends.blocks[1][2], script.Block(True, "C", 1, 0x04))
         first = (script.Block(True, "D", 1, 0x04), script.Block(True, "D", 1, 0x06), script.Block(False, "", 0, 0))

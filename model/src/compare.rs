@@ -269,7 +269,6 @@ fn by_values(best: &mut Vec<Op>, real: &mut dyn Real, budget: &mut Budget) {
     while place < best.len() {
         let smaller = match best[place] {
             Op::Take { port, byte: 1.. } => vec![Op::Take { port, byte: 0 }],
-            Op::Press { code: 1.. } => vec![Op::Press { code: 0 }],
             Op::Ticks { port, count: 2.. } => vec![Op::Tick { port }],
             Op::Doctor { image: 1.. } => vec![Op::Doctor { image: 0 }],
             Op::Write { buffer, at, ref bytes } if bytes.len() > 1 => {

@@ -1,4 +1,4 @@
-//! An independent model of document 01 and Asks 1, 6, 7, 12 and 13 of document 02, written from the paper and not
+//! An independent model of document 01 and Asks 1, 7, 12 and 13 of document 02, written from the paper and not
 //! from the core, so that the two can be compared call by call.
 //!
 //! - `stick`: the stick itself: fresh, take, tick, give, press.

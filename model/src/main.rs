@@ -4,9 +4,7 @@
 use model::compare::{compare, shorten, Budget, Difference, Itself, Program, Real};
 use model::images::{self, CONVERSATIONS, KINDS};
 use model::random::conversation;
-use model::script::{
-    bytes_of, from_text, ops_of, to_text, Figures, Op, Player, DISK_STATUSES, KEY_STATUSES, TAPE_STATUSES,
-};
+use model::script::{bytes_of, from_text, ops_of, to_text, Figures, Op, Player, DISK_STATUSES, TAPE_STATUSES};
 use std::io::{IsTerminal, Read, Write};
 use std::process::ExitCode;
 use std::sync::atomic::{AtomicBool, AtomicU64, Ordering};
@@ -37,7 +35,7 @@ options
 
 A script has one op a line: fresh, take PORT BYTES, tick PORT, tick PORT x N,
 give PORT, give PORT x N, press CODE, lend BUFFER N, write BUFFER AT BYTES,
-dump, dump tape, dump keys, doctor IMAGE, raw BYTES.
+dump, dump tape, doctor IMAGE, raw BYTES.
 The end status is 0 for no difference, 1 for a difference, or if of 20 doctor's
 scripts or more some kind of image was not seen, 2 for trouble.";
 
@@ -432,7 +430,6 @@ fn in_figures(figures: &Figures) -> String {
     for (device, statuses, counts, waits) in [
         ("C", &TAPE_STATUSES[..], &figures.tape, figures.tape_waits),
         ("D", &DISK_STATUSES, &figures.disk, figures.disk_waits),
-        ("K", &KEY_STATUSES, &figures.keys, figures.key_waits),
     ] {
         text.push_str(&format!("\nof {device}:"));
         for status in statuses {

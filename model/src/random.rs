@@ -10,8 +10,7 @@
 //! few bytes of them are damaged: bytes at random would be no records at all.
 //! So are diskettes, file by file; of an image only the sectors that files have.
 //! The doctor is asked now and then, before, between and during reads; scripts
-//! that are about it alone are those of `images`. Keys are typed one by one or
-//! many in a row, often more than the queue holds.
+//! that are about it alone are those of `images`.
 
 use crate::diskette::{chain_of_all, entry_at, link, sector_at, Diskette};
 use crate::script::{Op, Player, BUFFERS};
@@ -93,24 +92,6 @@ const CONTROLS: [u8; 16] =
 /// none, the edges of the table.
 const KEYS: [u8; 16] = [0x3C, 0x7C, 0xBC, 0x27, 0x67, 0xA7, 0x9A, 0x0C, 0xFF, 0x00, 0x3F, 0x40, 0x7F, 0x80, 0xBF, 0xC0];
 
-/// Keys by sort: letters, RETURN, locks, inverse, none or above the table, end of file.
-const LETTERS: [u8; 6] = [0x00, 0x3F, 0x15, 0x12, 0x2F, 0x17];
-const RETURN: u8 = 0x0C;
-const LOCKS: [u8; 3] = [0x3C, 0x7C, 0xBC];
-const INVERSE: [u8; 3] = [0x27, 0x67, 0xA7];
-const NONE: [u8; 10] = [0x03, 0x3B, 0x43, 0x7B, 0x99, 0xBB, 0xC0, 0xC0, 0xFF, 0xFF];
-const END_KEY: u8 = 0x9A;
-/// Weights of any key of the table and then of these sorts: all of them, text, text under locks, text with ends, and keys that are
-/// passed, the last nothing else.
-const HANDS: [[usize; 7]; 6] = [
-    [60, 15, 5, 5, 5, 5, 5],
-    [5, 75, 14, 3, 3, 0, 0],
-    [0, 45, 5, 27, 18, 5, 0],
-    [0, 45, 10, 5, 5, 15, 20],
-    [0, 5, 0, 15, 15, 63, 2],
-    [0, 0, 0, 3, 3, 94, 0],
-];
-
 /// SPECIAL commands, DRAW and FILL among them.
 const SPECIALS: [u8; 9] = [0x0E, 0x0F, 0x11, 0x12, 0x20, 0x26, 0x7F, 0x80, 0xFF];
 
@@ -174,7 +155,7 @@ impl Maker {
 
     /// Adds an op; the model plays along. A dump changes nothing.
     fn play(&mut self, op: Op) {
-        if !matches!(op, Op::Dump | Op::DumpTape | Op::DumpKeys) {
+        if !matches!(op, Op::Dump | Op::DumpTape) {
             self.player.play(&op, &mut Vec::new());
         }
         self.ops.push(op);
@@ -212,16 +193,6 @@ impl Maker {
             let end = self.player.stick.tape.chunks(RECORD).nth(record).map(characters) == Some(Err(END_OF_FILE));
             if self.random.chance(if end { 500 } else { 150 }) {
                 self.meddle_with_record();
-            }
-        }
-        if self.player.stick.holds(usize::from(port), Group::Console) {
-            // Too early for a key; whether one would find a place does not matter.
-            let full = self.player.stick.console.keys.len() == QUEUE;
-            if self.random.chance(if full { 150 } else { 30 }) {
-                self.press();
-            }
-            if self.random.chance(30) {
-                self.play(Op::DumpKeys);
             }
         }
         if let Some((drive, place)) = self.running_on_disk(port) {
@@ -313,7 +284,7 @@ impl Maker {
     /// Something beside the conversations.
     fn noise(&mut self) {
         let port = self.random.below(2) as u8;
-        match self.random.weigh(&[30, 8, 8, 8, 8, 10, 2, 8, 8, 6, 8, 4]) {
+        match self.random.weigh(&[30, 8, 8, 8, 8, 10, 2, 8, 8, 6]) {
             0 => self.press(),
             1 => {
                 let port = self.random.pick(&[2, 3, 127, 128, 255]);
@@ -341,9 +312,7 @@ impl Maker {
             6 => self.fresh(),
             7 => self.dump(),
             8 => self.meddle(),
-            9 => self.doctor(),
-            10 => self.type_keys(),
-            _ => self.play(Op::DumpKeys),
+            _ => self.doctor(),
         }
     }
 
@@ -367,38 +336,6 @@ impl Maker {
         self.play(Op::Press { code });
     }
 
-    /// Keys in a row: a few, as many as find a place, or more.
-    fn type_keys(&mut self) {
-        let free = QUEUE - self.player.stick.console.keys.len();
-        let few = 1 + self.random.below(5);
-        let count = self.random.pick(&[few, few, few, free, free + 1, free + 2, QUEUE + 1]);
-        let hand = self.random.pick(&HANDS);
-        let mut codes: Vec<u8> = (0..count).map(|_| self.key(&hand)).collect();
-        // The last that finds a place ends what a GET passes, or a record.
-        if let (Some(last), true) = (codes.get_mut(free.min(count).saturating_sub(1)), self.random.chance(400)) {
-            *last = self.random.pick(&[LETTERS[1], RETURN, RETURN, END_KEY]);
-        }
-        for code in codes {
-            self.play(Op::Press { code });
-        }
-        if self.random.chance(300) {
-            self.play(Op::DumpKeys);
-        }
-    }
-
-    /// A key of a sort.
-    fn key(&mut self, hand: &[usize]) -> u8 {
-        match self.random.weigh(hand) {
-            0 => self.random.below(0xC0) as u8,
-            1 => self.random.pick(&LETTERS),
-            2 => RETURN,
-            3 => self.random.pick(&LOCKS),
-            4 => self.random.pick(&INVERSE),
-            5 => self.random.pick(&NONE),
-            _ => END_KEY,
-        }
-    }
-
     /// Calls while a buffer is lent cut, then whole again.
     fn cut(&mut self) {
         let place = self.random.below(WHOLE.len());
@@ -414,9 +351,6 @@ impl Maker {
         }
         if self.random.chance(100) {
             self.doctor();
-        }
-        if self.random.chance(100) {
-            self.play(Op::DumpKeys);
         }
         for _ in 0..=self.random.below(5) {
             let port = self.random.pick(&[0, 1, 0, 1, 0, 1, 2, 255]);
@@ -505,7 +439,6 @@ impl Maker {
         }
         self.play(Op::Dump);
         self.play(Op::DumpTape);
-        self.play(Op::DumpKeys);
         // Another op, or one that is cut, ends the run.
         if self.random.chance(30) {
             let tails: [&[u8]; 12] = [
@@ -1604,7 +1537,7 @@ impl Maker {
         let at = entry_at(drive, entry);
         let any = self.random.below(65_536);
         let count = self.random.pick(&[0, 9, 10, 99, 100, 255, 256, 719, 999, 1_000, 1_001, 65_535, any]);
-        match self.random.weigh(&[40, 30, 30, 10, 15, 5]) {
+        match self.random.weigh(&[40, 15, 30, 10, 15, 5]) {
             0 => self.reflag(drive, entry),
             1 => self.write_images(at + SECTOR_COUNT_AT, &low_high(count)),
             2 => {
@@ -1816,42 +1749,17 @@ impl Maker {
         vec![self.call(iocb, CLOSE, 0, 0), load(address, b"S:"), open]
     }
 
-    /// Keys typed, if few wait, and then read: a record or about it, as many as
-    /// wait or about, or a few.
-    fn read_keys(&mut self, iocb: u8) -> Vec<Vec<u8>> {
-        if self.player.stick.console.keys.len() < 2 || self.random.chance(400) {
-            self.type_keys();
-        }
-        let keys = &self.player.stick.console.keys;
-        let wait = keys.len();
-        let record = keys.iter().position(|code| *code == RETURN).map_or(wait, |place| place + 1);
-        let mut messages = Vec::new();
-        for _ in 0..1 + self.random.below(3) {
-            let command = self.random.pick(&[GET_RECORD, GET_CHARACTERS]);
-            let few = self.random.below(4);
-            let n = match command {
-                GET_RECORD => self.random.pick(&[1, few, few, record, record, record.saturating_sub(1), record + 1]),
-                _ => self.random.pick(&[1, few, few, wait, wait.saturating_sub(1), wait + 1, QUEUE]),
-            };
-            let address = self.inside(n);
-            messages.push(self.call(iocb, command, address, n));
-            if n > 0 && self.random.chance(600) {
-                messages.push(fetch(address, n));
-            }
-        }
-        messages
-    }
-
     fn read_errand(&mut self, iocb: u8, file: File) -> Vec<Vec<u8>> {
-        if file.device == Device::K {
-            return self.read_keys(iocb);
-        }
         let mut messages = Vec::new();
         let mode = self.player.stick.console.mode;
         // Back to what was written: some rows up, mostly one.
         if file.device == Device::E && file.aux1 & W != 0 && self.random.chance(700) {
             let rows = self.random.pick(&[1, 1, 1, 1, 2, 3, 12]);
             messages.extend(self.put(iocb, PUT_CHARACTERS, &vec![0x1C; rows]));
+        }
+        // A key first, unless one is still there.
+        if file.device == Device::K && (self.player.stick.console.key == NO_KEY || self.random.chance(300)) {
+            self.press();
         }
         let mut command = self.random.pick(&[GET_RECORD, GET_RECORD, GET_CHARACTERS]);
         // S has no EOL: a record is read through the last row, up to 61,441 ticks.
@@ -1864,6 +1772,7 @@ impl Maker {
                 let (columns, rows, _) = shape(mode);
                 self.random.pick(&[columns, columns * rows - 1, columns * rows, columns * rows + 1]).min(AREA)
             }
+            (Device::K, _) => self.random.pick(&[1, 1, 1, 2, 10]),
             // Each empty row is a character of E: many of them scroll all away.
             (Device::E, _) if command == GET_CHARACTERS && self.random.chance(900) => 1 + self.random.below(8),
             _ => {

@@ -15,7 +15,6 @@
 //! write tape 132 55 55     W: these bytes into the buffer from there on
 //! dump                     D
 //! dump tape                C
-//! dump keys                Q
 //! doctor 0                 R: the doctor on that image, 0 that of D1
 //! raw 54 00                bytes as they are (no op, or one that is cut)
 //! ```
@@ -59,7 +58,6 @@ pub enum Op {
     },
     Dump,
     DumpTape,
-    DumpKeys,
     /// The doctor on an image of the lent ones, 0 the first.
     Doctor {
         image: u8,
@@ -72,8 +70,8 @@ pub enum Op {
 pub const BUFFERS: [(u8, &str); 6] =
     [(0, "area"), (1, "screen"), (2, "paper"), (3, "state"), (4, "tape"), (6, "images")];
 
-/// What the answers 0 to 9 mean.
-pub const ANSWERS: [&str; 10] = [
+/// What the answers 0 to 8 mean.
+pub const ANSWERS: [&str; 9] = [
     "done",
     "port above 1",
     "a lent buffer has another length",
@@ -83,7 +81,6 @@ pub const ANSWERS: [&str; 10] = [
     "key pressed while a request holds the console",
     "tick, nothing ready or running",
     "tick, ready, group held by the other port",
-    "queue full",
 ];
 
 /// The numbers of a dump after area, screen and paper, in order: name, bytes.
@@ -103,16 +100,9 @@ const NUMBERS: [(&str, usize); 10] = [
 /// The bytes of a dump.
 pub const DUMP: usize = 2 * AREA + SCREEN + PAPER + 12 + 2 * 8 * 4 + 2;
 
-/// The key byte of a dump where no key waits.
-pub const NO_KEY: u8 = 0xFF;
-
 /// The bytes of a dump of the tape: its bytes, mark, record, place or number
 /// pending, and the pending characters with zeros behind them.
 pub const TAPE_DUMP: usize = TAPE + 1 + 2 + 1 + DATA;
-
-/// The bytes of a dump of the keys: how many wait, and their codes, oldest
-/// first, with zeros behind them.
-pub const KEYS_DUMP: usize = 1 + QUEUE;
 
 impl Op {
     /// The op as bytes of a script.
@@ -135,7 +125,6 @@ impl Op {
             }
             Op::Dump => vec![b'D'],
             Op::DumpTape => vec![b'C'],
-            Op::DumpKeys => vec![b'Q'],
             Op::Doctor { image } => vec![b'R', *image],
             Op::Raw(bytes) => bytes.clone(),
         }
@@ -151,7 +140,6 @@ impl Op {
             Op::Lend { .. } | Op::Write { .. } | Op::Raw(_) => 0,
             Op::Dump => DUMP,
             Op::DumpTape => TAPE_DUMP,
-            Op::DumpKeys => KEYS_DUMP,
             Op::Doctor { .. } => match *written {
                 [_, low, high, ..] => 3 + CHANGE * usize::from(u16::from_le_bytes([low, high])),
                 _ => 3,
@@ -195,7 +183,6 @@ pub fn ops_of(script: &[u8]) -> Vec<Op> {
             }
             [b'D', ..] => (Op::Dump, 1),
             [b'C', ..] => (Op::DumpTape, 1),
-            [b'Q', ..] => (Op::DumpKeys, 1),
             [b'R', image, ..] => (Op::Doctor { image }, 2),
             _ => (Op::Raw(rest.to_vec()), rest.len()),
         };
@@ -212,7 +199,7 @@ pub struct Figures {
     pub calls: u64,
     pub ticks: u64,
     /// Calls by answer.
-    pub answers: [u64; 10],
+    pub answers: [u64; 9],
     /// Replies made, by tag and status.
     pub replies: BTreeMap<(u8, u8), u64>,
     /// Replies of CALLs about C, by status.
@@ -222,9 +209,6 @@ pub struct Figures {
     /// The same of CALLs about D, by their specification's letter where it is not good.
     pub disk: BTreeMap<u8, u64>,
     pub disk_waits: u64,
-    /// The same of CALLs about K.
-    pub keys: BTreeMap<u8, u64>,
-    pub key_waits: u64,
     /// How often the doctor was asked, and what the images had for it.
     pub doctors: u64,
     pub kinds: BTreeMap<&'static str, u64>,
@@ -263,10 +247,6 @@ pub const DISK_STATUSES: [u8; 14] = [
     PAST_AREA,
 ];
 
-/// The statuses that a CALL about K can have.
-pub const KEY_STATUSES: [u8; 8] =
-    [SUCCESS, ALREADY_OPEN, NOT_READABLE, BAD_COMMAND, NOT_WRITABLE, END_OF_FILE, RECORD_CUT, PAST_AREA];
-
 impl Figures {
     pub fn add(&mut self, other: &Figures) {
         self.scripts += other.scripts;
@@ -286,10 +266,6 @@ impl Figures {
             *self.disk.entry(*status).or_default() += count;
         }
         self.disk_waits += other.disk_waits;
-        for (status, count) in &other.keys {
-            *self.keys.entry(*status).or_default() += count;
-        }
-        self.key_waits += other.key_waits;
         self.doctors += other.doctors;
         for (kind, count) in &other.kinds {
             *self.kinds.entry(kind).or_default() += count;
@@ -352,7 +328,6 @@ impl Player {
             Op::Write { buffer, at, ref bytes } => self.write(buffer, at as usize, bytes),
             Op::Dump => dump(&self.stick, output),
             Op::DumpTape => dump_tape(&self.stick, output),
-            Op::DumpKeys => dump_keys(&self.stick, output),
             Op::Doctor { image } => self.doctor(usize::from(image), output),
             Op::Raw(_) => return false,
         }
@@ -399,8 +374,7 @@ impl Player {
     }
 
     fn tick(&mut self, port: u8) -> u8 {
-        let device = if port < 2 { self.stick.device(usize::from(port)) } else { None };
-        let (tape, keys) = (device == Some(Device::C), device == Some(Device::K));
+        let tape = port < 2 && self.stick.device(usize::from(port)) == Some(Device::C);
         let disk = port < 2 && self.stick.letter(usize::from(port)) == Some(Device::D.letter());
         let answer = self.stick.tick(port);
         self.figures.ticks += 1;
@@ -413,14 +387,10 @@ impl Player {
                 if disk {
                     *self.figures.disk.entry(reply[3]).or_default() += 1;
                 }
-                if keys {
-                    *self.figures.keys.entry(reply[3]).or_default() += 1;
-                }
             }
         }
         self.figures.tape_waits += u64::from(tape && answer == GROUP_HELD);
         self.figures.disk_waits += u64::from(disk && answer == GROUP_HELD);
-        self.figures.key_waits += u64::from(keys && answer == GROUP_HELD);
         self.called(answer)
     }
 
@@ -454,8 +424,7 @@ pub fn dump(stick: &Stick, output: &mut Vec<u8>) {
     output.extend((console.column as u16).to_le_bytes());
     output.extend([console.last, u8::from(console.escape)]);
     output.push(console.read_column.map_or(255, |column| column as u8));
-    let oldest = console.keys.front().copied().unwrap_or(NO_KEY);
-    output.extend([oldest, console.lock, console.inverse]);
+    output.extend([console.key, console.lock, console.inverse]);
     for port in &stick.ports {
         for block in &port.blocks {
             output.extend(match block {
@@ -477,14 +446,6 @@ pub fn dump_tape(stick: &Stick, output: &mut Vec<u8>) {
     output.push(place as u8);
     output.extend(&cassette.pending);
     output.extend(vec![0; DATA - cassette.pending.len()]);
-}
-
-/// Writes a dump of the keys.
-pub fn dump_keys(stick: &Stick, output: &mut Vec<u8>) {
-    let keys = &stick.console.keys;
-    output.push(keys.len() as u8);
-    output.extend(keys);
-    output.extend(vec![0; QUEUE - keys.len()]);
 }
 
 /// The name of the place in a dump of the tape.
@@ -577,7 +538,6 @@ pub fn to_text(ops: &[Op]) -> String {
             Op::Write { buffer, at, bytes } => format!("write {} {at}{}", buffer_name(*buffer), hexadecimal(bytes)),
             Op::Dump => "dump".to_string(),
             Op::DumpTape => "dump tape".to_string(),
-            Op::DumpKeys => "dump keys".to_string(),
             Op::Doctor { image } => format!("doctor {image}"),
             Op::Raw(bytes) => format!("raw{}", hexadecimal(bytes)),
         };
@@ -632,7 +592,6 @@ fn line_bytes(words: &[&str]) -> Option<Vec<u8>> {
         }
         ["dump"] => vec![Op::Dump],
         ["dump", "tape"] => vec![Op::DumpTape],
-        ["dump", "keys"] => vec![Op::DumpKeys],
         ["doctor", image] => vec![Op::Doctor { image: image.parse().ok()? }],
         ["raw", ref bytes @ ..] if !bytes.is_empty() => {
             vec![Op::Raw(bytes.iter().map(|word| byte(word)).collect::<Option<Vec<u8>>>()?)]
@@ -665,7 +624,6 @@ pub fn describe(op: &Op, output: &[u8]) -> String {
         Op::Lend { .. } | Op::Write { .. } | Op::Raw(_) => "nothing".to_string(),
         Op::Dump => describe_dump(output),
         Op::DumpTape => describe_tape(output),
-        Op::DumpKeys => describe_keys(output),
         Op::Doctor { .. } => describe_doctor(output, 0),
     }
 }
@@ -695,16 +653,6 @@ fn describe_tape(output: &[u8]) -> String {
     let mark = marks.get(usize::from(output[TAPE])).unwrap_or(&"in no way open");
     let record = u16::from_le_bytes([output[TAPE + 1], output[TAPE + 2]]);
     format!("tape {mark}, record {record}, place or number pending {}", output[TAPE + 3])
-}
-
-/// How many keys wait, and their codes; what is behind them, where it is not all zeros.
-fn describe_keys(output: &[u8]) -> String {
-    let (codes, behind) = output[1..].split_at(usize::from(output[0]).min(QUEUE));
-    let mut text = format!("keys {}:{}", output[0], hexadecimal(codes));
-    if behind.iter().any(|byte| *byte != 0) {
-        text.push_str(&format!(", behind them{}", hexadecimal(behind)));
-    }
-    text
 }
 
 /// A dump's numbers and open blocks on one line; its buffers are left out.

@@ -1,12 +1,10 @@
 //! The stick as document 01 tells it: two ports, a console, a printer; and of
-//! document 02 the tape of Ask 1, with Ask 7's warning before its end, the
-//! diskettes of Ask 12 and the sixteen keys of Ask 6.
+//! document 02 the tape of Ask 1, with Ask 7's warning before its end, and the
+//! diskettes of Ask 12.
 //!
 //! Clear before fast: messages are kept whole, and each rule stands where the
 //! paper has it. States handed in damaged are not modelled (answer 3 never
 //! comes): every run begins with a fresh start.
-
-use std::collections::VecDeque;
 
 /// One port's area.
 pub const AREA: usize = 16_384;
@@ -15,7 +13,7 @@ pub const SCREEN: usize = 61_440;
 /// The paper's bytes.
 pub const PAPER: usize = 4_096;
 /// The bytes of the lent state. What they mean is the stick's own: here only their number counts.
-pub const STATE: usize = 990;
+pub const STATE: usize = 973;
 /// The tape's bytes, and those of a record: $55, $55, a control byte, 128 data bytes, a checksum.
 pub const TAPE: usize = 33_000;
 pub const RECORD: usize = 132;
@@ -69,8 +67,8 @@ pub const LISTING_END: usize = ENTRIES + 1;
 
 /// The end of a record.
 pub const EOL: u8 = 0x9B;
-/// The keys that can wait: "a queue of sixteen".
-pub const QUEUE: usize = 16;
+/// The key place with no key in it.
+pub const NO_KEY: u8 = 0xFF;
 
 /// Answers of the calls.
 pub const DONE: u8 = 0;
@@ -81,7 +79,6 @@ pub const NO_REPLY: u8 = 5;
 pub const CONSOLE_HELD: u8 = 6;
 pub const NOTHING_TO_DO: u8 = 7;
 pub const GROUP_HELD: u8 = 8;
-pub const QUEUE_FULL: u8 = 9;
 
 /// Statuses of the replies.
 pub const SUCCESS: u8 = 0x01;
@@ -357,8 +354,7 @@ pub struct Console {
     pub last: u8,
     pub escape: bool,
     pub read_column: Option<usize>,
-    /// The codes of the keys that wait, oldest first.
-    pub keys: VecDeque<u8>,
+    pub key: u8,
     pub lock: u8,
     pub inverse: u8,
 }
@@ -552,7 +548,7 @@ impl Stick {
                 last: 0,
                 escape: false,
                 read_column: None,
-                keys: VecDeque::new(),
+                key: NO_KEY,
                 lock: 1,
                 inverse: 0,
             },
@@ -577,7 +573,7 @@ impl Stick {
         self.used = 0;
         self.open_editor();
         self.console.last = 0;
-        self.console.keys.clear();
+        self.console.key = NO_KEY;
         self.console.lock = 1;
         self.console.inverse = 0;
         self.cassette = Cassette::at_the_beginning(Mark::Closed);
@@ -639,8 +635,7 @@ impl Stick {
         (DONE, byte)
     }
 
-    /// Press a key: "a seventeenth press answers a new number 9, queue full, and
-    /// changes nothing; number 6 is checked first". Every code takes a place.
+    /// Press a key.
     pub fn press(&mut self, code: u8) -> u8 {
         if self.lent != WHOLE {
             return LENT_LENGTH;
@@ -648,10 +643,7 @@ impl Stick {
         if self.holds(0, Group::Console) || self.holds(1, Group::Console) {
             return CONSOLE_HELD;
         }
-        if self.console.keys.len() == QUEUE {
-            return QUEUE_FULL;
-        }
-        self.console.keys.push_back(code);
+        self.console.key = code;
         DONE
     }
 
@@ -1140,22 +1132,16 @@ impl Stick {
 
     // K
 
-    /// "A GET on K skips keys that make no character but obeys their lock or
-    /// inverse effect, and gives $88 at end of file or empty queue." Each key is
-    /// read under the locks that were passed before it; what is behind the end of
-    /// file stays.
     fn key_get(&mut self) -> Got {
-        while let Some(code) = self.console.keys.pop_front() {
-            let (lock, inverse) = (u32::from(self.console.lock), u32::from(self.console.inverse));
-            match translate(u32::from(code), lock, inverse) {
-                character @ 0..=255 => return Got::Character(character as u8),
-                257 => self.console.inverse = 1 - self.console.inverse,
-                258 => self.console.lock = 0,
-                259 => self.console.lock = 1,
-                260 => self.console.lock = 2,
-                261 => return Got::Refusal(END_OF_FILE),
-                _ => {}
-            }
+        let code = std::mem::replace(&mut self.console.key, NO_KEY);
+        let lock = u32::from(self.console.lock);
+        match translate(u32::from(code), lock, u32::from(self.console.inverse)) {
+            character @ 0..=255 => return Got::Character(character as u8),
+            257 => self.console.inverse = 1 - self.console.inverse,
+            258 => self.console.lock = 0,
+            259 => self.console.lock = 1,
+            260 => self.console.lock = 2,
+            _ => {}
         }
         Got::Refusal(END_OF_FILE)
     }

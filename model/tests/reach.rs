@@ -3,7 +3,7 @@
 
 use model::diskette::{is_reserved, link, sector_at, Diskette};
 use model::random::{call, conversation, fetch, field, load};
-use model::script::{Figures, Op, Player, DISK_STATUSES, KEY_STATUSES, TAPE_STATUSES};
+use model::script::{Figures, Op, Player, DISK_STATUSES, TAPE_STATUSES};
 use model::stick::*;
 use std::collections::{BTreeMap, BTreeSet};
 
@@ -131,7 +131,6 @@ fn boundaries() -> Vec<String> {
     all.extend(disk_boundaries());
     all.extend(file_boundaries());
     all.extend(doctor_boundaries());
-    all.extend(key_boundaries());
     all
 }
 
@@ -484,114 +483,6 @@ fn doctor_boundaries() -> Vec<String> {
     all
 }
 
-/// Keys that make no character and do not end a GET; the locks among them by the lock's number.
-const PASSED: [&str; 7] = ["none", "above BF", "FF", "inverse", "unlock", "shift lock", "control lock"];
-const LOCKS: [&str; 3] = ["unlock", "shift lock", "control lock"];
-/// What a GET on K comes to.
-const GOT: [&str; 3] = ["a character", "the end of file", "an empty queue"];
-
-/// The names of the boundaries of the keys: presses, GETs of one tick and of a request, and what leaves the keys.
-fn key_boundaries() -> Vec<String> {
-    let mut all = Vec::new();
-    let mut add = |name: String| all.push(name);
-    for waiting in [0, 1, 14, 15] {
-        add(format!("K, a key taken, {waiting} waiting"));
-    }
-    for number in [16, 17, 32, 33] {
-        add(format!("K, key {number} taken"));
-    }
-    for place in 0..QUEUE {
-        add(format!("K, queue full, {place} keys read modulo 16"));
-    }
-    for kind in PASSED.iter().chain(&GOT[..2]) {
-        add(format!("K, a key taken, {kind}"));
-        add(format!("K, press 9, {kind}"));
-    }
-    for waiting in [0, 15, 16] {
-        add(format!("K, press 6, {waiting} waiting"));
-    }
-    for device in ["E", "S", "K"] {
-        add(format!("K, press 6, queue full, {device} running"));
-    }
-    add("K, press 2, queue full".to_string());
-    for way in WAYS {
-        add(format!("K, {way}, then no key"));
-        add(format!("K, {way}, then a key"));
-    }
-    for got in GOT {
-        add(format!("K, nothing passed, then {got}"));
-        for kind in PASSED {
-            add(format!("K, {kind} passed, then {got}"));
-        }
-    }
-    for what in ["15 keys passed, then a character", "15 keys passed, then the end of file", "16 keys passed"] {
-        add(format!("K, {what}"));
-    }
-    for lock in LOCKS {
-        add(format!("K, a letter under {lock} passed in its tick"));
-        add(format!("K, a letter under {lock} passed before"));
-        add(format!("K, a letter, {lock} behind it"));
-    }
-    for inverse in ["on", "off"] {
-        for takes in ["a character that takes it", "a character that does not take it"] {
-            add(format!("K, inverse passed {inverse}, then {takes}"));
-        }
-    }
-    for waiting in [0, 1, 15] {
-        add(format!("K, the end of file, {waiting} keys behind it"));
-    }
-    for what in [
-        "two locks passed in one tick",
-        "inverse passed twice in one tick",
-        "a character, inverse behind it",
-        "the end of file, a character before it in one request",
-        "the end of file while a record is dropped",
-        "an empty queue while a record is dropped",
-        "a character behind the end of file",
-        "16 characters in one request",
-        "a record cut, keys behind it",
-        "read by one port, then by the other",
-        "fresh start, keys waiting",
-        "fresh start, queue full",
-    ] {
-        add(format!("K, {what}"));
-    }
-    for what in ["OPEN", "CLOSE", "GET STATUS", "SPECIAL"] {
-        add(format!("K, {what}, keys waiting"));
-    }
-    for device in ["E", "S"] {
-        add(format!("{device}, OPEN, keys waiting"));
-    }
-    for waiting in [0, 1, 15, 16] {
-        add(format!("Q of {waiting} keys"));
-    }
-    for what in ["of FF and others", "while K is read", "while a buffer is lent cut"] {
-        add(format!("Q {what}"));
-    }
-    for what in ["no key", "several keys", "a lock", "FF the oldest"] {
-        add(format!("a dump, {what} waiting"));
-    }
-    all
-}
-
-/// What a key is, in the words of the boundaries.
-fn what_key(code: u8) -> &'static str {
-    match translate(u32::from(code), 0, 0) {
-        0..=255 => "a character",
-        256 if code == 0xFF => "FF",
-        256 if code > 0xBF => "above BF",
-        256 => "none",
-        257 => "inverse",
-        261 => "the end of file",
-        answer => LOCKS[answer as usize - 258],
-    }
-}
-
-/// Whether a lock says how the key is read.
-fn is_letter(code: u8) -> bool {
-    code < 64 && (0x61..=0x7A).contains(&translate(u32::from(code), 0, 0))
-}
-
 /// What a record of the tape is, in the words of the boundaries.
 fn what_is(tape: &[u8], record: usize) -> &'static str {
     let Some(bytes) = tape.chunks(RECORD).nth(record) else { return "nothing" };
@@ -625,11 +516,6 @@ struct Watch<'a> {
     last_read: BTreeMap<(usize, u8), (Place, bool)>,
     /// By drive: the sectors whose link the doctor was the last to change.
     cut: BTreeSet<(usize, usize)>,
-    /// The keys taken since the fresh start.
-    typed: usize,
-    /// The port that read a key last, if none was pressed since; and whether that was an end of file with keys behind it.
-    reader: Option<usize>,
-    ended: bool,
 }
 
 /// The name of a command that opens a closed block.
@@ -669,11 +555,7 @@ impl Watch<'_> {
                 self.asked_doctor(usize::from(image));
                 true
             }
-            Op::Dump | Op::DumpTape | Op::DumpKeys => true,
-            Op::Press { code } => {
-                self.press(code);
-                true
-            }
+            Op::Dump | Op::DumpTape => true,
             Op::Tick { port } => {
                 self.tick(port);
                 true
@@ -724,7 +606,6 @@ impl Watch<'_> {
         {
             self.note(format!("D, {what}"));
         }
-        self.beside_keys(op);
         match op {
             Op::Fresh if whole => {
                 self.note(format!("C, fresh start, {mark:?}"));
@@ -757,83 +638,6 @@ impl Watch<'_> {
                 }
             }
             _ => {}
-        }
-    }
-
-    /// The same of the keys that wait.
-    fn beside_keys(&mut self, op: &Op) {
-        let stick = &self.player.stick;
-        let (keys, whole) = (&stick.console.keys, stick.lent == WHOLE);
-        let (waiting, oldest) = (keys.len(), keys.front().copied());
-        let lock = keys.iter().any(|code| LOCKS.contains(&what_key(*code)));
-        let reads = |port: &Port| matches!(&port.phase, Phase::Running(run) if run.file.device == Device::K);
-        let names = match op {
-            Op::Fresh if whole => vec![
-                (waiting > 0, "K, fresh start, keys waiting".to_string()),
-                (waiting == QUEUE, "K, fresh start, queue full".to_string()),
-            ],
-            Op::DumpKeys => vec![
-                (true, format!("Q of {waiting} keys")),
-                (waiting > 1 && keys.contains(&0xFF), "Q of FF and others".to_string()),
-                (stick.ports.iter().any(reads), "Q while K is read".to_string()),
-                (!whole, "Q while a buffer is lent cut".to_string()),
-            ],
-            Op::Dump => vec![
-                (waiting == 0, "a dump, no key waiting".to_string()),
-                (waiting > 1, "a dump, several keys waiting".to_string()),
-                (lock, "a dump, a lock waiting".to_string()),
-                (oldest == Some(0xFF), "a dump, FF the oldest waiting".to_string()),
-            ],
-            _ => return,
-        };
-        if matches!(op, Op::Fresh) {
-            (self.typed, self.reader, self.ended) = (0, None, false);
-        }
-        for (_, what) in names.into_iter().filter(|(met, _)| *met) {
-            self.note(what);
-        }
-    }
-
-    /// A press, and that its answer is the first of 2, 6, 9 that is due.
-    fn press(&mut self, code: u8) {
-        let stick = &self.player.stick;
-        let (waiting, whole) = (stick.console.keys.len(), stick.lent == WHOLE);
-        let holder = stick.ports.iter().find_map(|port| match &port.phase {
-            Phase::Running(run) if run.file.device.group() == Group::Console => Some(run.file.device),
-            _ => None,
-        });
-        let mut answer = Vec::new();
-        self.player.play(&Op::Press { code }, &mut answer);
-        let (kind, full) = (what_key(code), waiting == QUEUE);
-        match (whole, holder) {
-            (false, _) => {
-                assert_eq!(answer, [LENT_LENGTH]);
-                if full {
-                    self.note("K, press 2, queue full".to_string());
-                }
-            }
-            (_, Some(device)) => {
-                assert_eq!(answer, [CONSOLE_HELD]);
-                self.note(format!("K, press 6, {waiting} waiting"));
-                if full {
-                    self.note(format!("K, press 6, queue full, {device:?} running"));
-                }
-            }
-            _ if full => {
-                assert_eq!(answer, [QUEUE_FULL]);
-                self.note(format!("K, press 9, {kind}"));
-            }
-            _ => {
-                assert_eq!(answer, [DONE]);
-                self.typed += 1;
-                self.reader = None;
-                self.note(format!("K, a key taken, {waiting} waiting"));
-                self.note(format!("K, a key taken, {kind}"));
-                self.note(format!("K, key {} taken", self.typed));
-                if waiting + 1 == QUEUE {
-                    self.note(format!("K, queue full, {} keys read modulo 16", (self.typed - QUEUE) % QUEUE));
-                }
-            }
         }
     }
 
@@ -870,7 +674,6 @@ impl Watch<'_> {
                     if letter == Some(b'D') {
                         self.started_on_disk(place, &message[3..], &blocks, &places);
                     }
-                    self.started_beside_keys(place, &message, device, &console);
                 }
                 Some(Phase::Running(run)) if run.file.device == Device::C => {
                     self.moved(place, &run, &console, used);
@@ -1622,108 +1425,6 @@ impl Watch<'_> {
         self.warned = last.then_some((record, status.is_none()));
     }
 
-    /// The start tick of a CALL about the console while keys wait; it leaves them, whatever it is.
-    fn started_beside_keys(&mut self, port: usize, message: &[u8], device: Option<Device>, before: &Console) {
-        assert_eq!(self.player.stick.console.keys, before.keys);
-        if before.keys.is_empty() || self.status(port).is_none_or(|status| status != SUCCESS && status != BAD_COMMAND) {
-            return;
-        }
-        match (device, message.get(4)) {
-            (Some(Device::K), Some(&CLOSE)) => self.note("K, CLOSE, keys waiting".to_string()),
-            (Some(Device::K), Some(&command)) => self.note(format!("K, {}, keys waiting", command_name(command))),
-            (Some(device @ (Device::E | Device::S)), Some(&OPEN)) => {
-                self.note(format!("{device:?}, OPEN, keys waiting"));
-            }
-            _ => {}
-        }
-    }
-
-    /// A read of K; the console as it was before. The keys that are gone are gone through anew, one by one.
-    fn read_keys(&mut self, port: usize, run: &Run, before: &Console) {
-        let (status, n) = (self.status(port), run.call.length);
-        let dropped = n > 0 && run.count == n;
-        let (mut lock, mut inverse) = (u32::from(before.lock), u32::from(before.inverse));
-        let (mut passed, mut got, mut made) = (Vec::new(), "an empty queue", None);
-        for &code in &before.keys {
-            let kind = what_key(code);
-            match kind {
-                "a character" | "the end of file" => {
-                    got = kind;
-                    let character = translate(u32::from(code), lock, inverse);
-                    made = (character < 256).then_some((code, character));
-                    break;
-                }
-                "inverse" => inverse = 1 - inverse,
-                _ => lock = LOCKS.iter().position(|lock| *lock == kind).map_or(lock, |place| place as u32),
-            }
-            passed.push(kind);
-        }
-        let empty = got == "an empty queue";
-        let gone = passed.len() + usize::from(!empty);
-        let after = &self.player.stick.console;
-        assert!(before.keys.iter().skip(gone).eq(&after.keys));
-        assert_eq!((u32::from(after.lock), u32::from(after.inverse)), (lock, inverse));
-        assert_eq!(status == Some(END_OF_FILE), made.is_none());
-        let waiting = after.keys.len();
-        let behind = |kind: &str| before.keys.iter().skip(gone).any(|code| what_key(*code) == kind);
-        let mut names = Vec::new();
-        match passed.is_empty() {
-            true => names.push((true, format!("nothing passed, then {got}"))),
-            false => names.extend(PASSED.map(|kind| (passed.contains(&kind), format!("{kind} passed, then {got}")))),
-        }
-        names.extend([
-            (passed.len() == 15, format!("15 keys passed, then {got}")),
-            (passed.len() == 16, "16 keys passed".to_string()),
-            (passed.iter().filter(|kind| LOCKS.contains(kind)).count() > 1, "two locks passed in one tick".to_string()),
-            (
-                passed.iter().filter(|kind| **kind == "inverse").count() > 1,
-                "inverse passed twice in one tick".to_string(),
-            ),
-            (empty && run.count > 0, "a character, and then none".to_string()),
-            (empty && dropped, "an empty queue while a record is dropped".to_string()),
-        ]);
-        if got == "the end of file" {
-            names.extend([
-                (true, format!("the end of file, {waiting} keys behind it")),
-                (run.count > 0, "the end of file, a character before it in one request".to_string()),
-                (dropped, "the end of file while a record is dropped".to_string()),
-            ]);
-        }
-        if let Some((code, character)) = made {
-            let place = port * AREA + run.call.address + run.count;
-            let stored = match (n, &self.player.stick.ports[port].phase) {
-                (0, Phase::Replying(reply, _)) => u32::from(reply[6]),
-                _ if dropped => character,
-                _ => u32::from(self.player.stick.area[place]),
-            };
-            assert_eq!(stored, character);
-            let way = self.way(run, status);
-            let own = LOCKS[lock as usize];
-            let here = passed.contains(&own) && u32::from(before.lock) != lock;
-            let turned = u32::from(before.inverse) != inverse;
-            let takes = translate(u32::from(code), lock, 0) != translate(u32::from(code), lock, 1);
-            let (inverse, takes) = (["off", "on"][inverse as usize], if takes { "takes" } else { "does not take" });
-            names.extend([
-                (true, format!("{way}, then {}", if waiting == 0 { "no key" } else { "a key" })),
-                (is_letter(code) && here, format!("a letter under {own} passed in its tick")),
-                (is_letter(code) && passed.is_empty(), format!("a letter under {own} passed before")),
-                (turned, format!("inverse passed {inverse}, then a character that {takes} it")),
-                (behind("inverse"), "a character, inverse behind it".to_string()),
-                (self.ended, "a character behind the end of file".to_string()),
-                (run.count == 15, "16 characters in one request".to_string()),
-                (status == Some(RECORD_CUT) && waiting > 0, "a record cut, keys behind it".to_string()),
-                (self.reader == Some(1 - port), "read by one port, then by the other".to_string()),
-            ]);
-            names.extend(LOCKS.map(|other| {
-                (is_letter(code) && other != own && behind(other), format!("a letter, {other} behind it"))
-            }));
-        }
-        (self.reader, self.ended) = (Some(port), got == "the end of file" && waiting > 0);
-        for (_, what) in names.into_iter().filter(|(met, _)| *met) {
-            self.note(format!("K, {what}"));
-        }
-    }
-
     /// The status in the reply, once it is made.
     fn status(&self, port: usize) -> Option<u8> {
         match &self.player.stick.ports[port].phase {
@@ -1814,7 +1515,9 @@ impl Watch<'_> {
                 };
                 self.note(format!("P, {way} at {used}"));
             }
-            Device::K => self.read_keys(port, run, before),
+            Device::K if status == Some(END_OF_FILE) && run.count > 0 => {
+                self.note("K, a character, and then none".to_string());
+            }
             Device::S => self.on_screen(before, reads, added, byte),
             Device::E if reads => self.read_editor(run, before, status),
             Device::E => self.wrote_editor(port, run, before, added, byte),
@@ -1910,9 +1613,6 @@ fn watch(script: &[Op], reached: &mut BTreeMap<String, u64>) -> Figures {
         refused: BTreeMap::new(),
         last_read: BTreeMap::new(),
         cut: BTreeSet::new(),
-        typed: 0,
-        reader: None,
-        ended: false,
     };
     for op in script {
         if !watch.play(op) {
@@ -1947,9 +1647,6 @@ fn each_boundary_is_reached() {
     // So of D.
     assert_eq!(figures.disk.keys().copied().collect::<Vec<u8>>(), DISK_STATUSES);
     assert!(figures.disk_waits > 0);
-    // And of K.
-    assert_eq!(figures.keys.keys().copied().collect::<Vec<u8>>(), KEY_STATUSES);
-    assert!(figures.key_waits > 0);
     // Other devices never give $03.
     let last = figures.tape[&LAST_CHARACTER] + figures.disk[&LAST_CHARACTER];
     assert_eq!(figures.replies[&(0x90, LAST_CHARACTER)], last);
@@ -2086,65 +1783,6 @@ fn what_is_reached_by_the_doctor() {
             false => vec!["R on image 0", "R leaves what is open on the image"],
         };
         assert_eq!(of_doctor, expected);
-    }
-}
-
-/// The same of the keys: the sixteenth press and those about it, and what one GET passes.
-#[test]
-fn what_is_reached_by_keys() {
-    let of_keys = |codes: &[u8], behind: &[Op], all: &[&str]| -> Vec<String> {
-        let presses: Vec<Op> = codes.iter().map(|&code| Op::Press { code }).collect();
-        let mut reached = BTreeMap::new();
-        watch(&[&presses, behind].concat(), &mut reached);
-        let met = |name: &&&str| reached.contains_key(&format!("K, {name}"));
-        all.iter().filter(met).map(|name| name.to_string()).collect()
-    };
-    for (presses, met) in [(15, 1), (16, 4), (17, 5)] {
-        let all = [
-            "a key taken, 14 waiting",
-            "a key taken, 15 waiting",
-            "key 16 taken",
-            "queue full, 0 keys read modulo 16",
-            "press 9, none",
-        ];
-        assert_eq!(of_keys(&[0x03; 17][..presses], &[], &all), all[..met], "{presses} presses");
-    }
-    let mut get = Vec::new();
-    for message in [load(0, b"K:"), call(0, OPEN, 0, 0, [R, 0, 0]), call(0, GET_CHARACTERS, 0, 0, [0; 3])] {
-        get.extend(message.iter().map(|&byte| Op::Take { port: 0, byte }));
-        get.extend([vec![Op::Ticks { port: 0, count: 9 }], vec![Op::Give { port: 0 }; 7]].concat());
-    }
-    let all = [
-        "nothing passed, then a character",
-        "nothing passed, then an empty queue",
-        "none passed, then an empty queue",
-        "unlock passed, then a character",
-        "inverse passed, then the end of file",
-        "15 keys passed, then a character",
-        "16 keys passed",
-        "a letter under shift lock passed before",
-        "a letter under unlock passed in its tick",
-        "a letter, unlock behind it",
-        "the end of file, 0 keys behind it",
-        "the end of file, 1 keys behind it",
-        "GET CHARACTERS of 0, then no key",
-        "GET CHARACTERS of 0, then a key",
-    ];
-    let fifteen = [&[0x03; 15][..], &[0x3F]].concat();
-    for (codes, expected) in [
-        (&[][..], &[1][..]),
-        (&[0x3F], &[0, 7, 12]),
-        (&[0x3F, 0x3C], &[0, 7, 9, 13]),
-        (&[0x3C, 0x3F, 0x3C], &[3, 8, 13]),
-        (&[0x27, 0x9A], &[4, 10]),
-        (&[0x27, 0x9A, 0x3F], &[4, 11]),
-        (&[0x03; 15], &[2]),
-        (&[0x03; 16], &[2, 6]),
-        (&fifteen, &[5, 12]),
-        (&fifteen[1..], &[12]),
-    ] {
-        let expected: Vec<&str> = expected.iter().map(|&place| all[place]).collect();
-        assert_eq!(of_keys(codes, &get, &all), expected, "{codes:02X?}");
     }
 }
 

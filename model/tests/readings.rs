@@ -89,7 +89,7 @@ fn reading_08_10_keys_while_ready_and_after_the_last_tick() {
     assert_eq!(bench.stick.press(0x3F), DONE);
     assert_eq!(bench.stick.tick(0), DONE);
     assert_eq!(bench.stick.press(0x3E), CONSOLE_HELD);
-    assert_eq!(bench.stick.console.keys, [0x3F]);
+    assert_eq!(bench.stick.console.key, 0x3F);
     assert_eq!(bench.stick.tick(0), DONE);
     assert_eq!(bench.stick.press(0x3E), DONE);
 }
@@ -632,22 +632,30 @@ fn keyboard() -> Bench {
 }
 
 #[test]
-fn reading_70_a_key_read_is_not_the_last_character() {
+fn reading_70_71_a_key_read() {
     let mut bench = keyboard();
     assert_eq!(key(&mut bench, 0x3F), Ok(0x41));
-    assert_eq!(bench.stick.console.last, 0);
+    assert_eq!((bench.stick.console.last, bench.stick.console.key), (0, NO_KEY));
+    assert_eq!(key(&mut bench, 0xC0), Err(END_OF_FILE));
+    assert_eq!(bench.stick.console.key, NO_KEY);
 }
 
 #[test]
-fn reading_74_end_of_file() {
+fn reading_72_press_ff_loses_the_key() {
+    let mut bench = keyboard();
+    assert_eq!(bench.stick.press(0x3F), DONE);
+    assert_eq!(key(&mut bench, 0xFF), Err(END_OF_FILE));
+}
+
+#[test]
+fn reading_74_75_end_of_file_and_records() {
     let mut bench = keyboard();
     for _ in 0..2 {
         let (reply, _) = bench.get(GET_CHARACTERS, 1);
         assert_eq!((reply.status, reply.ticks), (END_OF_FILE, 2));
     }
     assert_eq!(key(&mut bench, 0x9A), Err(END_OF_FILE));
-    assert_eq!((bench.stick.console.lock, bench.stick.console.keys.len()), (1, 0));
-    // A record whose RETURN is not there.
+    assert_eq!(bench.stick.console.lock, 1);
     for (code, n, status) in [(0x3F, 1, END_OF_FILE), (0x3F, 5, END_OF_FILE), (0x0C, 1, SUCCESS), (0x0C, 5, SUCCESS)] {
         bench.stick.press(code);
         let (reply, _) = bench.get(GET_RECORD, n);

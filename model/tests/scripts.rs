@@ -28,13 +28,12 @@ write images 45952 02
 write 9 16777215
 dump
 dump tape
-dump keys
 doctor 3
 raw 54 00
 ";
 const BYTES: &str = "46 540011 540005 540000 540000 540000 540045 54003A 54009B 4B00 4700 4700 4700 4700 4700 \
     540110 54FFFF 58012C01 503F 4C00640000 4C035A0200 4C07701101 4C04E88000 4C0600A005 57048400000300 5555FA \
-    570680B300010002 5709FFFFFF0000 44 43 51 5203 5400";
+    570680B300010002 5709FFFFFF0000 44 43 5203 5400";
 
 fn bytes(text: &str) -> Vec<u8> {
     let digits: String = text.split_whitespace().collect();
@@ -70,7 +69,6 @@ fn comments_and_faults() {
         "write tape 16777216",
         "write tape 0 100",
         "dump paper",
-        "dump keys 3F",
         "doctor",
         "doctor 256",
         "doctor 0 x 2",
@@ -97,8 +95,6 @@ fn what_is_written() {
     assert_eq!(play(b"FT\0"), [0]);
     assert_eq!(play(b"FW\x04\0\0\0\x02\0F"), [0]);
     assert_eq!(play(b"FR"), [0]);
-    // A key that finds no place.
-    assert_eq!(written(&"press FF\n".repeat(17)), [[0; 16].to_vec(), vec![9]].concat());
     // The doctor: as many bytes as it has changes.
     assert_eq!(written("doctor 4\ndoctor 255\nfresh"), [1, 0, 0, 1, 0, 0, 0]);
     assert_eq!(written("doctor 3\ndoctor 3\nfresh").len(), 3 + 5 * 91 + 3 + 1);
@@ -133,34 +129,6 @@ fn the_dump() {
     assert_eq!(dump_place(numbers + 4), "column");
     assert_eq!(dump_place(DUMP - 1), "phase of port 1");
     assert_eq!(dump_place(AREA), "area of port 1, address 0");
-}
-
-/// How many keys wait, their codes, zeros; and of a dump the oldest.
-#[test]
-fn the_dump_of_the_keys() {
-    let written = |text: &str| play(&bytes_of(&from_text(text).unwrap()));
-    assert_eq!(KEYS_DUMP, 17);
-    let key_at = 2 * AREA + SCREEN + PAPER + 9;
-    assert_eq!(dump_place(key_at), "key");
-    for (codes, expected, words) in [
-        (&[][..], [0; 17], "keys 0:"),
-        (&[0x3F], [1, 0x3F, 0, 0, 0, 0, 0, 0, 0, 0, 0, 0, 0, 0, 0, 0, 0], "keys 1: 3F"),
-        (&[0xFF, 0x00], [2, 0xFF, 0, 0, 0, 0, 0, 0, 0, 0, 0, 0, 0, 0, 0, 0, 0], "keys 2: FF 00"),
-    ] {
-        let presses: String = codes.iter().map(|code| format!("press {code:02X}\n")).collect();
-        let output = written(&format!("{presses}dump keys\ndump\n"));
-        let (keys, dump) = output[codes.len()..].split_at(KEYS_DUMP);
-        assert_eq!(keys, expected);
-        assert_eq!(describe(&Op::DumpKeys, keys), words);
-        assert_eq!(dump[key_at], codes.first().copied().unwrap_or(NO_KEY));
-    }
-    assert_eq!(describe(&Op::DumpKeys, &[1, 2, 3]), "the output ends after 01 02 03");
-    // What another `play` may write.
-    let mut wrong = [0; 17];
-    (wrong[0], wrong[1], wrong[16]) = (1, 0x3F, 7);
-    assert_eq!(describe(&Op::DumpKeys, &wrong), format!("keys 1: 3F, behind them{} 07", " 00".repeat(14)));
-    wrong[0] = 200;
-    assert_eq!(describe(&Op::DumpKeys, &wrong), format!("keys 200: 3F{} 07", " 00".repeat(14)));
 }
 
 /// The script that the gate plays, and what must be written for it.

@@ -5,7 +5,7 @@ use Rattle.base.specs.Decides.{Decides, Allows}
 use Rattle.handler.specs.declared.Got.{Got}
 use Rattle.handler.specs.declared.Done.{Done}
 use Rattle.handler.specs.Answer.{Answer}
-use Rattle.console.specs.Group.{ConsoleGroup, Display}
+use Rattle.console.specs.Group.{ConsoleGroup}
 use Rattle.console.specs.declared.ConsoleGot.{ConsoleGot}
 use Rattle.console.specs.declared.ConsoleDone.{ConsoleDone}
 use Rattle.acts.proofs.fresh.Kinds as fresh_kinds
@@ -20,31 +20,31 @@ use Rattle.acts.proofs.write.Kinds as write_kinds
 use Rattle.acts.proofs.write.Reads as write_reads
 
 pub fresh_decides : Decides fresh_kinds.ps fresh_kinds.r fresh_reads.Pre fresh_reads.Learnt
-fresh_decides κs a z z' ws ws' p e e' = let q = e ∙ sym e' in (ap (λ (w : Display). w.console) q, ap (λ (w : Display). (w.screen, tt)) q)
+fresh_decides κs a z z' ws ws' p e e' = let q = e ∙ sym e' in (ap (λ (w : ConsoleGroup). w.console) q, ap (λ (w : ConsoleGroup). (w.screen, tt)) q)
 
 pub fresh_allows : Allows fresh_kinds.ps fresh_kinds.r fresh_reads.Pre fresh_reads.Learnt
 fresh_allows κs a p = (_, (_, refl))
 
 pub open_decides : Decides open_kinds.ps open_kinds.r open_reads.Pre open_reads.Learnt
-open_decides κs a z z' ws ws' p e e' = let q = e ∙ sym e' in (ap (λ (w : Answer Done Display). record { console = w.leaves.console; done = w.says }) q, ap (λ (w : Answer Done Display). (tt, (tt, (w.leaves.screen, (tt, (tt, tt)))))) q)
+open_decides κs a z z' ws ws' p e e' = let q = e ∙ sym e' in (ap (λ (w : Answer Done ConsoleGroup). record { console = w.leaves.console; done = w.says }) q, ap (λ (w : Answer Done ConsoleGroup). (tt, (tt, (w.leaves.screen, (tt, (tt, tt)))))) q)
 
 pub open_allows : Allows open_kinds.ps open_kinds.r open_reads.Pre open_reads.Learnt
 open_allows κs a p = (_, (_, refl))
 
 pub prepare_decides : Decides prepare_kinds.ps prepare_kinds.r prepare_reads.Pre prepare_reads.Learnt
-prepare_decides κs a z z' ws ws' p e e' = let q = e ∙ sym e' in (ap (λ (w : Answer Done Display). record { console = w.leaves.console; done = w.says }) q, ap (λ (w : Answer Done Display). (tt, (tt, (w.leaves.screen, tt)))) q)
+prepare_decides κs a z z' ws ws' p e e' = let q = e ∙ sym e' in (ap (λ (w : Answer Done ConsoleGroup). record { console = w.leaves.console; done = w.says }) q, ap (λ (w : Answer Done ConsoleGroup). (tt, (tt, (w.leaves.screen, tt)))) q)
 
 pub prepare_allows : Allows prepare_kinds.ps prepare_kinds.r prepare_reads.Pre prepare_reads.Learnt
 prepare_allows κs a p = (_, (_, refl))
 
 pub read_decides : Decides read_kinds.ps read_kinds.r read_reads.Pre read_reads.Learnt
-read_decides κs a z z' ws ws' p e e' = let q = e ∙ sym e' in (ap (λ (w : Answer Got ConsoleGroup). record { console = w.leaves.console; got = w.says }) q, ap (λ (w : Answer Got ConsoleGroup). (tt, (tt, (w.leaves.ring, (w.leaves.screen, tt))))) q)
+read_decides κs a z z' ws ws' p e e' = let q = e ∙ sym e' in (ap (λ (w : Answer Got ConsoleGroup). record { console = w.leaves.console; got = w.says }) q, ap (λ (w : Answer Got ConsoleGroup). (tt, (tt, (w.leaves.screen, tt)))) q)
 
 pub read_allows : Allows read_kinds.ps read_kinds.r read_reads.Pre read_reads.Learnt
 read_allows κs a p = (_, (_, refl))
 
 pub write_decides : Decides write_kinds.ps write_kinds.r write_reads.Pre write_reads.Learnt
-write_decides κs a z z' ws ws' p e e' = let q = e ∙ sym e' in (ap (λ (w : Answer Done Display). record { console = w.leaves.console; done = w.says }) q, ap (λ (w : Answer Done Display). (tt, (tt, (w.leaves.screen, (tt, tt))))) q)
+write_decides κs a z z' ws ws' p e e' = let q = e ∙ sym e' in (ap (λ (w : Answer Done ConsoleGroup). record { console = w.leaves.console; done = w.says }) q, ap (λ (w : Answer Done ConsoleGroup). (tt, (tt, (w.leaves.screen, (tt, tt))))) q)
 
 pub write_allows : Allows write_kinds.ps write_kinds.r write_reads.Pre write_reads.Learnt
 write_allows κs a p = (_, (_, refl))

@@ -2,8 +2,8 @@
 ghost use Rattle.std.specs.Prelude.{◌≡◌};
 ghost use Rattle.handler.specs.Answer.{answer};
 ghost use Rattle.cells.specs.Cells.{Whole};
-ghost use Rattle.console.specs.Group.{group, display, display_of, fresh_group};
-ghost use Rattle.console.specs.Handlers.{open_on, prepare_on, read_of, write_on};
+ghost use Rattle.console.specs.Group.{group, fresh_group};
+ghost use Rattle.console.specs.Handlers.{open_of, prepare_of, read_of, write_of};
 
 use console::state::Console;
 use console::{ConsoleDone, ConsoleGot, Handler};
@@ -12,7 +12,7 @@ use handler::Done;
 // The fresh console, over whatever the screen held.
 pub fn fresh(screen: &mut [u8]) -> Console
     requires { Whole screen.old }
-    ensures { display result screen.new ≡ display_of fresh_group }
+    ensures { group result screen.new ≡ fresh_group }
 {
     cells::fill(screen, 8, 0);
     cells::fill(screen, 0, 0x20);
@@ -27,7 +27,7 @@ pub fn open(
     aux2: u8,
 ) -> ConsoleDone
     requires { Whole screen.old }
-    ensures { answer result.done (display result.console screen.new) ≡ open_on handler aux1 aux2 (display console screen.old) }
+    ensures { answer result.done (group result.console screen.new) ≡ open_of handler aux1 aux2 (group console screen.old) }
 {
     match handler {
         Handler::E => {
@@ -48,7 +48,7 @@ pub fn open(
 // Before the first character of a transfer: in another mode E is opened anew, in mode 0 S is refused.
 pub fn prepare(handler: Handler, console: Console, screen: &mut [u8]) -> ConsoleDone
     requires { Whole screen.old }
-    ensures { answer result.done (display result.console screen.new) ≡ prepare_on handler (display console screen.old) }
+    ensures { answer result.done (group result.console screen.new) ≡ prepare_of handler (group console screen.old) }
 {
     let mode = console.mode;
     match handler {
@@ -86,20 +86,20 @@ pub fn prepare(handler: Handler, console: Console, screen: &mut [u8]) -> Console
     }
 }
 
-pub fn read(handler: Handler, console: Console, ring: &mut [u8], screen: &mut [u8]) -> ConsoleGot
+pub fn read(handler: Handler, console: Console, screen: &mut [u8]) -> ConsoleGot
     requires { Whole screen.old }
-    ensures { answer result.got (group result.console ring.new screen.new) ≡ read_of handler (group console ring.old screen.old) }
+    ensures { answer result.got (group result.console screen.new) ≡ read_of handler (group console screen.old) }
 {
     match handler {
         Handler::E => console::each::read_editor(console, screen),
         Handler::S => console::each::read_screen(console, screen),
-        Handler::K => console::each::read_keyboard(console, ring),
+        Handler::K => console::each::read_keyboard(console),
     }
 }
 
 pub fn write(handler: Handler, console: Console, screen: &mut [u8], byte: u8) -> ConsoleDone
     requires { Whole screen.old }
-    ensures { answer result.done (display result.console screen.new) ≡ write_on handler byte (display console screen.old) }
+    ensures { answer result.done (group result.console screen.new) ≡ write_of handler byte (group console screen.old) }
 {
     match handler {
         Handler::E => console::each::write_editor(console, screen, byte),

@@ -23,7 +23,7 @@ use Rattle.graphics.specs.Picture.{onward, with_last, placed}
 use Rattle.graphics.specs.Picture as graphics
 use Rattle.console.specs.declared.Handler.TheVariants as console
 use Rattle.console.specs.Group.{ConsoleGroup, graphics_of, fresh_group}
-use Rattle.console.specs.Handlers.{open_s, open_on, open_of, prepare_s, prepare_on, prepare_of, read_s, read_of}
+use Rattle.console.specs.Handlers.{open_s, open_of, prepare_s, prepare_of, read_s, read_of}
 use Rattle.console.proofs.Keeps.{open_fit, fresh_group_lem}
 use Rattle.blocks.specs.declared.Device.TheVariants.{S}
 use Rattle.blocks.specs.declared.Kind.TheVariants.{Get}
@@ -166,15 +166,15 @@ abbrev pub mode8 : ConsoleGroup
 mode8 = (open_of console.S 0x04 8 fresh_group).leaves
 
 is_8 : mode8.console.mode ≡ 8
-unfolding open_of open_on open_s graphics.open_of
+unfolding open_of open_s graphics.open_of
 is_8 = refl
 
 pub mode8_fit : FitOwn (owner.Console console.S) mode8
-unfolding open_of open_on open_s graphics.open_of
+unfolding open_of open_s graphics.open_of
 mode8_fit = (open_fit fresh_group fresh_group_lem console.S 0x04 8, refl)
 
 left_8 : left mode8 ≡ 61440
-unfolding open_of open_on open_s graphics.open_of console_left left_s shape_of row_of modes
+unfolding open_of open_s graphics.open_of console_left left_s shape_of row_of modes
 left_8 = refl
 
 pub case_12 : (place a : ℕ) (area : List ℕ) → Line 61440 1 a (get_record H left a 1 place 0 area mode8)
@@ -193,7 +193,7 @@ module _ (c : Call) (l : Local) (n : c.length ≡ 1) where
   alone12 = alone_job screen left (record_of_one_lem c) l mode8
 
   pub alone_12 : (length alone12.course ≡ 61441) × (alone12.reply ≡ call_reply 0x8D 1 c.a)
-  unfolding alone_work alone_transfer prepare_of prepare_on prepare_s open_of open_on open_s graphics.open_of
+  unfolding alone_work alone_transfer prepare_of prepare_s open_of open_s graphics.open_of
   alone_12 = (course_12.course, rw (course_12.status, course_12.counted, course_12.same))
 
   pub case_12_moves : (d : Point ConsoleGroup) → c.address + 1 ≤ area_length

@@ -6,8 +6,7 @@ use Prim.Native.Nat.{ℕ}
 use lib.ListN.{get_or, replicate}
 use Rattle.keys.specs.Table as keys
 use Rattle.keys.specs.Translation as keys_to
-use Rattle.keyboard.specs.Queue as queue
-use Rattle.keyboard.specs.Keyboard as keyboard
+use Rattle.keys.specs.Keyboard as keyboard
 use Rattle.cells.specs.Modes.{modes, row_of, shape_of, count_of}
 use Rattle.cells.specs.Cells.{cell_of, with_cell, filled, reduced, scrolled}
 use Rattle.controls.specs.Decide as controls_acts
@@ -19,8 +18,8 @@ use Rattle.records.specs.Records.{tape_length}
 use Rattle.cassette.specs.Cassette.{cassette_group, fresh_cassette}
 use Rattle.disk.specs.Disk.{disk_group, fresh_places}
 use Rattle.printer.specs.Printer.{paper_length, printer_group}
-use Rattle.console.specs.Group.{keyed_of, with_keyed, fresh_group, pressed_of}
-use Rattle.console.specs.Handlers.{open_e, open_s, open_on, open_of, prepare_e, prepare_s, prepare_on, prepare_of, read_e, read_s, read_k, read_of, write_e, write_s, write_on, write_of}
+use Rattle.console.specs.Group.{group, fresh_group, pressed_of}
+use Rattle.console.specs.Handlers.{open_e, open_s, open_of, prepare_e, prepare_s, prepare_of, read_e, read_s, read_k, read_of, write_e, write_s, write_of}
 use Rattle.blocks.specs.Blocks.{closed_table}
 use Rattle.blocks.specs.Opening.{device_of, number_of, named_of, specification_of, offers_of, area_length}
 use Rattle.replies.specs.Replies.{bytes_at, fetch_status, fetch_reply}
@@ -53,7 +52,7 @@ abbrev hear : List ℕ → Heard → Heard
 hear reply h = record { replies = reply ∷ h.replies; cursor = h.cursor; cells = h.cells }
 
 abbrev pressed : ℕ → Groups → Groups
-pressed code d = record { console = with_keyed d.console (pressed_of code (keyed_of d.console)); printer = d.printer; cassette = d.cassette; disk = d.disk }
+pressed code d = record { console = group (pressed_of code d.console.console) d.console.screen; printer = d.printer; cassette = d.cassette; disk = d.disk }
 
 abbrev pub run : List Step → Local → Groups → Heard
 run [] l d = seen_at d
@@ -121,5 +120,5 @@ pub cases : map fresh scripts ≡
     heard (opened ++ (calls 0x01 0 0x41 ∷ calls 0x88 0 0 ∷ calls 0x01 0 0x61 ∷ [])) (0 ∷ 2 ∷ []) blank ∷
     heard (opened ++ (calls 0x01 0 0x01 ∷ calls 0x88 0 0 ∷ [])) (0 ∷ 2 ∷ []) blank ∷
     heard (opened ++ (calls 0x01 0 5 ∷ [])) (0 ∷ 1 ∷ []) (1 ∷ 0 ∷ 0 ∷ []) ∷ []
-unfolding modes row_of shape_of count_of cell_of with_cell filled reduced scrolled keys.keys keys_to.entry_of keys_to.key_answer keys_to.translate_of keyboard.obeyed keyboard.struck_of queue.codes_from queue.place_behind queue.cleared queue.press_of keyboard.get_of controls_acts.plain_of controls_acts.act_of editor.new_row editor.open_of controls.less_of controls.more_of controls.clear_of controls.back_of controls.onward controls.data_of controls.doing controls.put_of editor_get.cells_held editor_get.end_of editor_get.get_at editor_get.get_of graphics.onward graphics.cells_opened graphics.open_of graphics.get_of graphics.clear_of graphics.data_of graphics.put_of open_e open_s open_on open_of prepare_e prepare_s prepare_on prepare_of read_e read_s read_k read_of write_e write_s write_on write_of device_of number_of named_of specification_of offers_of bytes_at fetch_status fetch_reply command_of way_of area_plan transfer_plan block_plan name_of named_for call_plan plan_in plan_of load_status get_one put_one get_characters drop_line get_record put_characters put_record getting putting transferred left_e left_s left_k console_left then_of opened_of alone_opening alone_transfer alone_work loaded alone_errand alone_plan alone_of
+unfolding modes row_of shape_of count_of cell_of with_cell filled reduced scrolled keys.keys keys_to.entry_of keys_to.key_answer keys_to.translate_of keyboard.obeyed keyboard.struck_by keyboard.get_of controls_acts.plain_of controls_acts.act_of editor.new_row editor.open_of controls.less_of controls.more_of controls.clear_of controls.back_of controls.onward controls.data_of controls.doing controls.put_of editor_get.cells_held editor_get.end_of editor_get.get_at editor_get.get_of graphics.onward graphics.cells_opened graphics.open_of graphics.get_of graphics.clear_of graphics.data_of graphics.put_of open_e open_s open_of prepare_e prepare_s prepare_of read_e read_s read_k read_of write_e write_s write_of device_of number_of named_of specification_of offers_of bytes_at fetch_status fetch_reply command_of way_of area_plan transfer_plan block_plan name_of named_for call_plan plan_in plan_of load_status get_one put_one get_characters drop_line get_record put_characters put_record getting putting transferred left_e left_s left_k console_left then_of opened_of alone_opening alone_transfer alone_work loaded alone_errand alone_plan alone_of
 cases = refl

@@ -21,12 +21,10 @@ use Rattle.handler.specs.declared.Got.TheVariants as got
 use Rattle.handler.specs.Answer.{Answer, Gives, plain, warns, got_high}
 use Rattle.handler.proofs.Giving.{gives_refused, gives_byte}
 use Rattle.handler.specs.Acts.{Acts, asks_on}
-use Rattle.keyboard.specs.declared.Keyboard.{Keyboard}
-use Rattle.keyboard.specs.Queue.{Queue}
-use Rattle.keyboard.specs.Fit.{FitKeys}
-use Rattle.keyboard.specs.Keyboard as keys
-use Rattle.keyboard.proofs.Keeps as keys_keeps
-use Rattle.keyboard.proofs.Keeps.{character, none}
+use Rattle.keys.specs.declared.keyboard.Keyboard.{Keyboard}
+use Rattle.keys.specs.Translation.{translate_of}
+use Rattle.keys.specs.Keyboard as keys
+use Rattle.keys.proofs.Keeps as keys_keeps
 use Rattle.cells.specs.Modes.{shape_of}
 use Rattle.cells.proofs.Shapes.{shape_good}
 use Rattle.editor.specs.Text.{Text, cell_at}
@@ -49,8 +47,8 @@ use Rattle.disk.proofs.Keeps as disk_keeps
 use Rattle.console.specs.declared.Handler.{Handler}
 use Rattle.console.specs.declared.Handler.TheVariants.{E, S, K}
 use Rattle.console.specs.declared.state.Console.{Console}
-use Rattle.console.specs.Group.{ConsoleGroup, display_of, keyed_of, queue_of, graphics_of}
-use Rattle.console.specs.Handlers.{text_of, open_s, open_on, open_of, read_e, read_s, read_k}
+use Rattle.console.specs.Group.{ConsoleGroup, graphics_of}
+use Rattle.console.specs.Handlers.{text_of, open_s, open_of, read_e, read_s, read_k}
 use Rattle.console.specs.Handlers as console_acts_lem
 use Rattle.console.specs.Fit.{cursor_fits, FitGroup, InUse}
 use Rattle.console.proofs.Keeps.{fits_of, open_fit, prepare_fit, prepare_use, read_fit, read_use, write_fit, write_use}
@@ -139,7 +137,40 @@ column_in mode row column z e =
     let f : and (leb row (shape_of mode).rows) (ltb column (shape_of mode).columns) ≡ true = rw (ne_eqb mode 0 (nonzero mode z)) at e in
     ltb-true column (shape_of mode).columns (and_right (leb row (shape_of mode).rows) _ f)
 
--- ---- K, C and D: reads one after the other
+-- ---- K
+few_k : (c : Console) → left_k c < most_moves
+unfolding left_k
+few_k c = pick_eq (λ (n : ℕ). n < most_moves) c.keyboard.code 0xFF 0 1 (λ e. omega arith) (λ e. omega arith)
+
+-- a character comes only from a stored key
+stored : (k : Keyboard) (status byte : ℕ) → Gives (keys.get_of k).says status byte → k.code ≡ 0xFF → ⊥
+stored k status byte e z =
+    let same : k ≡ keys.emptied k = ap (λ (code : ℕ). keys.press_of code k) z in
+    gives_refused 0x88 e (ap (λ (y : Answer Got Keyboard). y.says) (ap keys.get_of same ∙ keys_keeps.get_empty k))
+
+keys_falls : (c : Console) (status byte : ℕ) → Gives (read_k c).says status byte → left_k c ≡ left_k (read_k c).leaves + 1
+unfolding read_k left_k
+keys_falls c status byte e =
+    let k = c.keyboard in
+    rw (ne_eqb k.code 0xFF (stored k status byte e), eq-eqb (keys.get_of k).leaves.code 0xFF (keys_keeps.get_empties k))
+
+console_falls : (h : Handler) (g : ConsoleGroup) (status byte : ℕ) → FitGroup g → InUse h g.console → Gives (console_acts_lem.read_of h g).says status byte → (byte ≡ eol → ⊥)
+    → console_left h g ≡ console_left h (console_acts_lem.read_of h g).leaves + 1
+unfolding console_left console_acts_lem.read_of read_e read_s left_e left_s
+console_falls E g status byte f u e n = text_falls (text_of g) status byte e n
+console_falls S g status byte f u e n =
+    let c = g.console in
+    let fits = fits_of c f.fit in
+    picture_falls g.screen (graphics_of c) (column_in c.mode c.row c.column u fits.cursor) status byte e n
+console_falls K g status byte f u e n = keys_falls g.console status byte e
+
+console_few : (h : Handler) (g : ConsoleGroup) → console_left h g < most_moves
+unfolding console_left
+console_few E g = few_e g
+console_few S g = few_s g.console
+console_few K g = few_k g.console
+
+-- ---- C
 more_given : (says : Got) (status byte n : ℕ) → Gives says status byte → one_more says n ≡ suc n
 more_given says status byte n (plain e z) = rw e
 more_given says status byte n (warns e z) = rw e
@@ -182,37 +213,6 @@ module _ {D : Type 0} (reads : D → Answer Got D) where
         ∙ sym (ap suc (enough n (reads x).leaves (keeps x f) (omega (arith, fewer x f status byte e))))
         ∙ sym (add-one (reads_of reads (suc n) (reads x).leaves))
 
--- ---- K
-few_k : (g : ConsoleGroup) → left_k g < most_moves
-unfolding left_k
-few_k g = omega (arith, few_reads keys.get_of 16 (queue_of (keyed_of g)))
-
--- with each character fewer wait
-keys_fewer : (q : Queue) → FitKeys q → (status byte : ℕ) → Gives (keys.get_of q).says status byte → (keys.get_of q).leaves.keyboard.waiting < q.keyboard.waiting
-keys_fewer q f status byte (plain e z) = keys_keeps.get_falls q byte e
-keys_fewer q f status byte (warns e z) = absurd (keys_keeps.get_never_last q byte e)
-
-keys_falls : (g : ConsoleGroup) (status byte : ℕ) → FitGroup g → Gives (console_acts_lem.read_of K g).says status byte → left_k g ≡ left_k (console_acts_lem.read_of K g).leaves + 1
-unfolding console_acts_lem.read_of read_k left_k
-keys_falls g status byte f e = one_fewer keys.get_of FitKeys (λ (q : Queue). q.keyboard.waiting) keys_keeps.get_fit keys_fewer 15 (queue_of (keyed_of g)) status byte f.keys f.keys.waiting e
-
-console_falls : (h : Handler) (g : ConsoleGroup) (status byte : ℕ) → FitGroup g → InUse h g.console → Gives (console_acts_lem.read_of h g).says status byte → (byte ≡ eol → ⊥)
-    → console_left h g ≡ console_left h (console_acts_lem.read_of h g).leaves + 1
-unfolding console_left console_acts_lem.read_of read_e read_s left_e left_s
-console_falls E g status byte f u e n = text_falls (text_of (display_of g)) status byte e n
-console_falls S g status byte f u e n =
-    let c = g.console in
-    let fits = fits_of c f.fit in
-    picture_falls g.screen (graphics_of c) (column_in c.mode c.row c.column u fits.cursor) status byte e n
-console_falls K g status byte f u e n = keys_falls g status byte f e
-
-console_few : (h : Handler) (g : ConsoleGroup) → console_left h g < most_moves
-unfolding console_left
-console_few E g = few_e g
-console_few S g = few_s g.console
-console_few K g = few_k g
-
--- ---- C
 tape_falls : (g : CassetteGroup) (status byte : ℕ) → FitCassette g → Gives (read_of g).says status byte → left_c g ≡ left_c (read_of g).leaves + 1
 unfolding left_c
 tape_falls g status byte f e =
@@ -257,12 +257,8 @@ tape_read_high g =
     (λ m. reads_high g (read_of g) (read_always g m))
     (λ m. rw (← read_closed g.cassette g.tape m) (omega arith))
 
-strike_high : {k : Keyboard} {a : Answer Got Keyboard} → keys_keeps.Strikes k a → got_high a.says
-strike_high (character n b e l) = rw e tt
-strike_high (none e) = rw e (omega arith)
-
 pub read_high : (o : Owner) (asked : Asked) (x : Part (group_in o)) → got_high ((own_acts o asked).reads x).says
-unfolding console_acts_lem.read_of read_e read_s read_k editor.get_of get_at graphics.get_of keys.get_of
+unfolding console_acts_lem.read_of read_e read_s read_k editor.get_of get_at graphics.get_of keys.get_of keys.struck_by
 read_high (owner.Console E) asked x =
     by_test (ltb (column_of x.console.reading) (end_of x.console.row x.screen))
     (λ t. rw t tt)
@@ -271,7 +267,11 @@ read_high (owner.Console S) asked x =
     by_test (leb (shape_of x.console.mode).rows x.console.row)
     (λ t. rw t (omega arith))
     (λ t. rw t tt)
-read_high (owner.Console K) asked x = strike_high (keys_keeps.get_strikes (queue_of (keyed_of x)))
+read_high (owner.Console K) asked x =
+    let k = x.console.keyboard in
+    by_test (ltb (translate_of k.code k.lock k.inverse) 256)
+    (λ t. rw t tt)
+    (λ t. rw t (omega arith))
 read_high owner.Printer asked x = omega arith
 read_high owner.Cassette asked x = tape_read_high x
 read_high owner.Disk asked x = disk_keeps.read_high (place_at asked.port asked.iocb x.places) x.images
@@ -317,7 +317,7 @@ or_left false b e = refl
 
 -- "AUX1 bit 4 is $91"
 screen_unsplit : (asked : Asked) (g : ConsoleGroup) → (open_of S asked.aux1 asked.aux2 g).says ≡ Success → bit 16 asked.aux1 ≡ false
-unfolding open_of open_on open_s graphics.open_of
+unfolding open_of open_s graphics.open_of
 screen_unsplit asked g =
     choose_go (λ (y : Answer Done graphics.Picture). y.says ≡ Success → bit 16 asked.aux1 ≡ false) (or (bit 16 asked.aux1) (not (within 3 8 asked.aux2))) _ _
     (λ t e. refused_success 0x91 e) (λ t e. or_left (bit 16 asked.aux1) (not (within 3 8 asked.aux2)) t)

@@ -1,6 +1,5 @@
--- For each device, the characters that its record has, where the device stands, before its EOL or a refusal. Of tape, diskettes and keyboard all
--- that come before a refusal are counted, an EOL too: tape and diskettes know none, and a keyboard's record ends before them; of a diskette at
--- each block's own place.
+-- For each device, the characters that its record has, where the device stands, before its EOL or a refusal; tape and diskettes know
+-- no EOL, and have what comes before a refusal, a diskette at each block's own place.
 -- Assumes nothing.
 use Rattle.std.specs.Prelude.{ℕ, zero, suc, ◌-◌, ◌*◌, eqb}
 use Rattle.base.specs.Choice.{pick}
@@ -16,8 +15,7 @@ use Rattle.disk.specs.Disk.{DiskGroup, disk_acts}
 use Rattle.console.specs.declared.Handler.{Handler}
 use Rattle.console.specs.declared.Handler.TheVariants.{E, S, K}
 use Rattle.console.specs.declared.state.Console.{Console}
-use Rattle.keyboard.specs.Keyboard.{get_of}
-use Rattle.console.specs.Group.{ConsoleGroup, keyed_of, queue_of}
+use Rattle.console.specs.Group.{ConsoleGroup}
 use Rattle.blocks.specs.declared.Device.{Device}
 use Rattle.devices.specs.declared.Owner.{Owner}
 use Rattle.devices.specs.declared.Owner.TheVariants as owner
@@ -31,7 +29,20 @@ left_e g = end_of g.console.row g.screen - column_of g.console.reading
 unfoldable pub left_s : Console → ℕ
 left_s c = ((shape_of c.mode).rows - c.row) * (shape_of c.mode).columns - c.column
 
--- K, C and D: the characters that can be read one after the other before a refusal
+-- K: one where a key is stored; "$FF is empty"
+unfoldable pub left_k : Console → ℕ
+left_k c = pick (eqb c.keyboard.code 0xFF) 0 1
+
+unfoldable pub console_left : Handler → ConsoleGroup → ℕ
+console_left E g = left_e g
+console_left S g = left_s g.console
+console_left K g = left_k g.console
+
+-- P: it has nothing to read
+unfoldable pub printer_left : PrinterGroup → ℕ
+printer_left g = 0
+
+-- C and D: the characters that can be read one after the other before a refusal
 abbrev pub one_more : Got → ℕ → ℕ
 one_more (got.Character byte) n = suc n
 one_more (got.Last byte) n = suc n
@@ -40,19 +51,6 @@ one_more (got.Refused status) n = 0
 unfoldable pub reads_of : {D : Type 0} → (D → Answer Got D) → (most : ℕ) → D → ℕ
 reads_of reads zero x = 0
 reads_of reads (suc n) x = one_more (reads x).says (reads_of reads n (reads x).leaves)
-
--- a keyboard has 16 at most
-unfoldable pub left_k : ConsoleGroup → ℕ
-left_k g = reads_of get_of 16 (queue_of (keyed_of g))
-
-unfoldable pub console_left : Handler → ConsoleGroup → ℕ
-console_left E g = left_e g
-console_left S g = left_s g.console
-console_left K g = left_k g
-
--- P: it has nothing to read
-unfoldable pub printer_left : PrinterGroup → ℕ
-printer_left g = 0
 
 -- a tape has 250 times 128 at most
 unfoldable pub left_c : CassetteGroup → ℕ

@@ -57,7 +57,7 @@ abbrev pub on_done : {R : Type 0} → Done → (Unit {0} → R) → (ℕ → R) 
 on_done done.Success success refusal = success tt
 on_done (done.Refused status) success refusal = refusal status
 
--- H the handler, asked for this block; left as many characters as the record has, where the device stands, before its EOL or a refusal, or more; a the request's A.
+-- H the handler, asked for this block; left the characters that the record has, where the device stands, before its EOL or a refusal; a the request's A.
 -- n characters are to go, from this place of the area on, and so many are counted before.
 module _ {D : Type 0} (H : Acts D) (left : D → ℕ) (a : ℕ) where
   -- "n = 0: one character by A, no record rule, area not looked at." "The reply's A is the request's except after a successful

@@ -30,8 +30,7 @@ use Rattle.cio.specs.Start.{job_begun, start_of}
 use Rattle.cio.proofs.Kept.{job_keeps, job_images}
 use Rattle.calls.specs.Port.{Reach, Ticked, ticked, start_plan, move_run, ready_tick, tick_port}
 use Rattle.calls.specs.Stick.{Outcome, reach_at, lengths_fit}
-use Rattle.calls.specs.Calls.{fresh_call, guarded, take_at, take_call, tick_at, tick_call, give_at, give_call, press_at, press_call}
-use Rattle.calls.proofs.Pressing.{press_either}
+use Rattle.calls.specs.Calls.{fresh_call, guarded, take_at, take_call, tick_at, tick_call, give_at, give_call, press_at, press_call, console_held}
 use Rattle.calls.specs.Stick as stick
 use Rattle.calls.specs.Bytes.{Buffers, buffers, Left, left, left_of, stick_by, lent_by}
 use Rattle.calls.specs.Parts.{half_in, numbers_in, block_on, advance_on, errand_on, job_on, start_on}
@@ -112,9 +111,9 @@ unfolding give_call give_at
 give_call_images s l port = guarded_images (stick.refusal_of s l port) s l (λ u. give_at port s l) refl
 
 pub press_call_images : (s : Stick) (l : Lent) (code : ℕ) → (press_call s l code).lent.images ≡ l.images
-unfolding press_call
+unfolding press_call press_at
 press_call_images s l code =
-    guarded_images (stick.refusal_of s l 0) s l (λ u. press_at s l code) (press_either (λ (o : Outcome). o.lent.images ≡ l.images) s l code (λ t. refl) (λ t u. refl) (λ t u. refl))
+    guarded_images (stick.refusal_of s l 0) s l (λ u. press_at s l code) (choose_go (λ (o : Outcome). o.lent.images ≡ l.images) (console_held s) _ _ (λ t. refl) (λ t. refl))
 
 -- a move of the lent bytes
 pub advance_on_images : (port : ℕ) (run : Run) (b : Buffers) → (advance_on port run b).images ≡ b.images

@@ -1,4 +1,3 @@
-pub mod Pressing
 pub mod Written
 pub mod Kept
 pub mod Stores

@@ -34,7 +34,7 @@ use Rattle.layout.specs.Places.{phase_place, table_place, devices_place, devices
 use Rattle.layout.specs.Stick.{Devices, Stick, port_at, other_at, with_port, with_phase, with_table, part_at, with_part}
 use Rattle.layout.specs.Layout.{head_of, phase_in, devices_in, stick_in}
 use Rattle.layout.proofs.Lengths.{head_length, devices_length_lem}
-use Rattle.layout.proofs.Ports.{by_port, own_phase, own_block, own_count, own_devices, own_ring, own_pending, own_places_lem, part_devices, head_devices, part_of, with_part_lem, part_back}
+use Rattle.layout.proofs.Ports.{by_port, own_phase, own_block, own_count, own_devices, own_pending, own_places_lem, part_devices, head_devices, part_of, with_part_lem, part_back}
 use Rattle.layout.proofs.WriteRead.{state_back}
 use Rattle.devices.specs.declared.Group.{Group}
 use Rattle.devices.specs.declared.Owner.{Owner}
@@ -58,8 +58,7 @@ use Rattle.moves.proofs.Through.{seen_went, advance_through}
 use Rattle.cio.specs.Start.{Begun, begun, Freed, errand_of, job_begun, start_of}
 use Rattle.cio.proofs.Through.{seen_begun, Starting, work_through}
 use Rattle.damage.specs.Fits.{stick_fits}
-use Rattle.keyboard.proofs.Keeps.{keys_of}
-use Rattle.damage.proofs.Fitting.{console_fits, keys_fit_lem, printer_fits, cassette_fits}
+use Rattle.damage.proofs.Fitting.{console_fits, printer_fits, cassette_fits}
 use Rattle.calls.specs.Port.{Reach, reach, port_with, start_plan, move_run}
 use Rattle.calls.specs.Stick.{Outcome, outcome, area_at, room_at, groups_at, with_groups, reach_at, with_reach, lent_reach}
 use Rattle.calls.specs.Bytes.{Buffers, buffers, Left, left, left_of, stick_by, lent_by}
@@ -118,14 +117,14 @@ module _ (port : ℕ) (b : Buffers) (c : Called port b) where
 
   reads_as : (o : Owner) → get_lent (group_in o) held ≡ get_group (group_in o) all
   unfolding devices_in
-  reads_as (owner.Console h) = ap (λ (d : Devices). group d.console d.ring b.screen) (own_devices b.state long)
+  reads_as (owner.Console h) = ap (λ (d : Devices). group d.console b.screen) (own_devices b.state long)
   reads_as owner.Printer = ap (λ (d : Devices). printer_group d.printer.used b.paper) (own_devices b.state long)
   reads_as owner.Cassette = ap (λ (d : Devices). cassette_group d.cassette d.pending b.tape) (own_devices b.state long)
   reads_as owner.Disk = ap (λ (d : Devices). disk_group d.places b.images) (own_devices b.state long)
 
   fit : FitGroups all
   fit = record {
-    console = record { fit = console_fits s (lent_by b) c.fits; keys = keys_of s.devices.console.keyboard s.devices.ring (own_ring b.state long) (keys_fit_lem s (lent_by b) c.fits); whole = c.whole };
+    console = record { fit = console_fits s (lent_by b) c.fits; whole = c.whole };
     printer = record { used = printer_fits s (lent_by b) c.fits; paper = c.sheet };
     cassette = record { fits = cassette_fits s (lent_by b) c.fits; pending = own_pending b.state long; tape = c.reel };
     disk = record { places = own_places_lem b.state long; images = c.four };

@@ -5,14 +5,13 @@ use mathlib.Core.Bool.{Bool, true, false}
 use mathlib.Core.List.{List, ◌++◌}
 use Prim.Native.Nat.{ℕ, ◌+◌, ◌-◌, ◌*◌, ◌<◌, ◌≤◌}
 use native.Mathlib.Omega.{arith}
-use lib.ListN.{length, take, drop, length-append}
-use lib.Seq.{sets, length-sets}
+use lib.ListN.{length, take, drop}
+use lib.Seq.{sets}
 use Rattle.base.specs.Choice.{or, choose}
 use Rattle.base.specs.Parts.{part}
-use Rattle.base.proofs.Choices.{choose_go, by_test}
-use Rattle.base.proofs.Parts.{lent_part, lent_length, lent_back, back, back_into, part_length}
-use Rattle.keyboard.specs.Queue.{ring_length, full_of}
-use Rattle.console.specs.Group.{keyed, pressed_of}
+use Rattle.base.proofs.Parts.{lent_part, lent_length, lent_back, back_into, part_length}
+use Rattle.console.specs.declared.state.Console.{Console}
+use Rattle.console.specs.Group.{pressed_of}
 use Rattle.blocks.specs.declared.Gather.{Gather}
 use Rattle.blocks.specs.declared.Header.{Header}
 use Rattle.blocks.specs.declared.Run.{Run}
@@ -23,21 +22,19 @@ use Rattle.wire.specs.declared.Given.{Given}
 use Rattle.wire.specs.Messages.{Gathered, gathered, room_length}
 use Rattle.wire.specs.Messages as messages
 use Rattle.wire.specs.Giving as giving
-use Rattle.layout.specs.Places.{phase_place, devices_place, devices_length, console_place, console_length, room_place, rooms_place}
+use Rattle.layout.specs.Places.{phase_place, devices_place, devices_length, console_place, room_place, rooms_place}
 use Rattle.layout.specs.Stick.{Devices, Stick, Lent, lent, port_at, with_port, with_phase, with_console, with_part}
-use Rattle.layout.specs.Layout.{head_of, phase_bytes, console_bytes, array_bytes, phase_in, console_in, devices_in}
-use Rattle.layout.proofs.Lengths.{console_length_lem, array_length}
-use Rattle.layout.proofs.Arrays.{sets_part}
+use Rattle.layout.specs.Layout.{head_of, phase_bytes, console_bytes, phase_in, console_in, devices_in}
+use Rattle.layout.proofs.Lengths.{console_length_lem}
 use Rattle.layout.proofs.Ports.{own_phase, own_devices, head_console, port_back, part_back}
 use Rattle.devices.specs.declared.Group.{Group}
 use Rattle.devices.specs.declared.Group.TheVariants as group
 use Rattle.devices.specs.Groups.{held_of, clash}
-use Rattle.devices.specs.Lent.{PressLeft, press_left, press_in}
 use Rattle.calls.specs.Port.{Served, served, take_port, give_port}
 use Rattle.calls.specs.Stick.{Outcome, outcome, refused, room_at, with_room}
 use Rattle.calls.specs.Calls.{take_at, give_at, console_held, with_key, press_at}
 use Rattle.calls.specs.Bytes.{Buffers, buffers, Left, left, left_alone, left_of, stick_by, lent_by}
-use Rattle.calls.specs.Parts.{Called, Rooms, room_in, numbers_in, phase_on, with_in_port, console_held_on, KeyLeft, key_left, key_on}
+use Rattle.calls.specs.Parts.{Called, Rooms, room_in, numbers_in, phase_on, with_in_port, console_held_on, key_on}
 use Rattle.transfer.specs.Transfer.{InPort, in_port}
 use Rattle.calls.proofs.Written.{Written, written_devices, written_phase, room_read, landed_there, stored}
 use Rattle.calls.proofs.Links.{written}
@@ -146,11 +143,7 @@ module _ (state area screen paper tape images : List ℕ) (c : Called 0 (buffers
   unfolding console_held_on
   held_1 = ap (λ (x : Phase). clash group.Console (held_of x)) (sym (own_phase 1 (omega arith) state))
 
-  -- what comes of it, by whether the console is held
-  abbrev taken : Outcome
-  taken = choose (full_of stick.devices.console.keyboard) (λ v. refused 9 stick (lent_by lent_all)) (λ v. outcome 0 0 (with_key code stick) (lent_by lent_all))
-
-  press_by : (u : Bool) → u ≡ console_held stick → choose u (λ v. refused 6 stick (lent_by lent_all)) (λ v. taken) ≡ press_at stick (lent_by lent_all) code
+  press_by : (u : Bool) → u ≡ console_held stick → choose u (λ v. refused 6 stick (lent_by lent_all)) (λ v. outcome 0 0 (with_key code stick) (lent_by lent_all)) ≡ press_at stick (lent_by lent_all) code
   unfolding press_at
   press_by u e = rw e
 
@@ -169,50 +162,21 @@ module _ (state area screen paper tape images : List ℕ) (c : Called 0 (buffers
     pub press_held_too : u ≡ true → left_alone 6 lent_all ≡ left_of (press_at stick (lent_by lent_all) code)
     press_held_too f = as_it_was 0 lent_all c 6 0 ∙ ap left_of (press_by true (sym f ∙ second))
 
-    -- by the devices that the numbers stand for: the state with the key, and as it was where the queue is full
-    abbrev new_of : Devices → List ℕ
-    new_of d = let y = pressed_of code (keyed d.console d.ring) in console_bytes y.console ++ array_bytes ring_length y.ring
+    pub press_free : (state' : List ℕ) → u ≡ false → state' ≡ key_on code state → left 0 0 (buffers state' area screen paper tape images) ≡ left_of (press_at stick (lent_by lent_all) code)
+    unfolding key_on devices_in
+    press_free state' f k =
+        let next = pressed_of code (console_in (drop console_place (numbers_in state))) in
+        let is : next ≡ pressed_of code stick.devices.console = ap (λ (d : Devices). pressed_of code d.console) (own_devices state (omega (arith, c.long))) in
+        let kept = stored state stick (drop rooms_place state) (written 0 lent_all c) (devices_place + console_place) (console_bytes next) (with_console next stick) (omega (arith, console_length_lem next)) (head_console stick next) in
+        ap (λ (x : List ℕ). left 0 0 (buffers x area screen paper tape images)) (k ∙ kept.is)
+        ∙ ap (λ (x : Console). left_of (outcome 0 0 (with_console x stick) (lent_by lent_all))) is
+        ∙ ap left_of (press_by false (sym f ∙ second))
 
-    abbrev key_by : Devices → Left
-    key_by d =
-        let p = choose (full_of d.console.keyboard) (λ v. press_left 9 (numbers_in state)) (λ v. press_left 0 (sets (numbers_in state) console_place (new_of d))) in
-        left p.answer 0 (buffers (sets state devices_place p.numbers) area screen paper tape images)
-
-    key_is : left (key_on code state).answer 0 (buffers (key_on code state).state area screen paper tape images) ≡ left_of taken
-    unfolding key_on press_in devices_in
-    key_is =
-        let d = stick.devices in
-        let full = full_of d.console.keyboard in
-        let y = pressed_of code (keyed d.console d.ring) in
-        let long = c.long in
-        let fits : devices_place + devices_length ≤ length state = omega (arith, long) in
-        let l : length (new_of d) ≡ console_length + ring_length = simp length-append (rw (console_length_lem y.console, array_length ring_length y.ring)) in
-        let many : length (sets (numbers_in state) console_place (new_of d)) ≡ devices_length = simp length-sets (part_length devices_place devices_length state fits) in
-        let kept = stored state stick (drop rooms_place state) (written 0 lent_all c) (devices_place + console_place) (new_of d) (with_console y.console y.ring stick) (omega (arith, l)) (head_console stick y.console y.ring) in
-        ap key_by (own_devices state (omega (arith, long)))
-        ∙ by_test full
-        (λ e. rw e (ap (λ (x : List ℕ). left 9 0 (buffers x area screen paper tape images)) (sets_part devices_place devices_length state fits) ∙ as_it_was 0 lent_all c 9 0))
-        (λ e. rw e (ap (λ (x : List ℕ). left 0 0 (buffers x area screen paper tape images))
-        (sym (back devices_place devices_length (sets (numbers_in state) console_place (new_of d)) state many fits)
-        ∙ back_into devices_place devices_length console_place (new_of d) state (omega (arith, l)) ∙ kept.is)))
-
-    pub press_free : (answer : ℕ) (state' : List ℕ) → u ≡ false → key_left answer state' ≡ key_on code state → left answer 0 (buffers state' area screen paper tape images) ≡ left_of (press_at stick (lent_by lent_all) code)
-    press_free answer state' f k =
-        ap (λ (x : KeyLeft). left x.answer 0 (buffers x.state area screen paper tape images)) k ∙ key_is ∙ ap left_of (press_by false (sym f ∙ second))
-
--- a press keeps how many numbers there are
-press_long : (code : ℕ) (numbers : List ℕ) → length (press_in code numbers).numbers ≡ length numbers
-unfolding press_in
-press_long code numbers =
-    choose_go (λ (x : PressLeft). length x.numbers ≡ length numbers) (full_of (console_in (drop console_place numbers)).keyboard) _ _
-    (λ t. refl) (λ t. simp length-sets)
-
--- `store_key`, by what is lent on of the state
-pub key_law : (state : List ℕ) → Rooms 0 state → (code answer : ℕ) (numbers : List ℕ) → press_left answer numbers ≡ press_in code (part devices_place devices_length state)
-    → key_left answer (take devices_place state ++ (numbers ++ drop devices_length (drop devices_place state))) ≡ key_on code state
+pub key_law : (state : List ℕ) → Rooms 0 state → (code : ℕ) (console next : Console) (numbers : List ℕ) → console ≡ console_in (drop console_place (part devices_place devices_length state)) → next ≡ pressed_of code console
+    → numbers ≡ sets (part devices_place devices_length state) console_place (console_bytes next)
+    → take devices_place state ++ (numbers ++ drop devices_length (drop devices_place state)) ≡ key_on code state
 unfolding key_on
-key_law state r code answer numbers k =
-    let fits : devices_place + devices_length ≤ length state = omega (arith, r.long) in
-    let p = press_in code (part devices_place devices_length state) in
-    let l : length numbers ≡ devices_length = ap (λ (x : PressLeft). length x.numbers) k ∙ press_long code (part devices_place devices_length state) ∙ part_length devices_place devices_length state fits in
-    ap (key_left answer) (back devices_place devices_length numbers state l fits) ∙ ap (λ (x : PressLeft). key_left x.answer (sets state devices_place x.numbers)) k
+key_law state r code console next numbers i n k =
+    ap (λ (x : List ℕ). take devices_place state ++ (x ++ drop devices_length (drop devices_place state))) k
+    ∙ back_into devices_place devices_length console_place (console_bytes next) state (omega (arith, console_length_lem next))
+    ∙ ap (λ (x : Console). sets state (devices_place + console_place) (console_bytes x)) (n ∙ ap (pressed_of code) i)

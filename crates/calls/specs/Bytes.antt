@@ -36,7 +36,7 @@ pub record Left : Type 0 where
 abbrev pub left : ℕ → ℕ → Buffers → Left
 left answer byte b = record { answer = answer; byte = byte; buffers = b }
 
--- "Numbers 1 to 8 change nothing", and 9; "A byte beside a refusal is 0."
+-- "Numbers 1 to 8 change nothing"; "A byte beside a refusal is 0."
 abbrev pub left_alone : ℕ → Buffers → Left
 left_alone answer b = left answer 0 b
 

@@ -2,8 +2,7 @@
 -- Assumes nothing.
 use Rattle.std.specs.Prelude.{Bool, ℕ, ◌*◌, eqb, replicate}
 use Rattle.base.specs.Choice.{choose, or}
-use Rattle.keyboard.specs.Queue.{full_of}
-use Rattle.console.specs.Group.{fresh_group, keyed, pressed_of}
+use Rattle.console.specs.Group.{fresh_group, pressed_of}
 use Rattle.blocks.specs.Opening.{area_length}
 use Rattle.wire.specs.Messages.{room_length}
 use Rattle.layout.specs.Stick.{Stick, fresh_stick, Lent, lent, port_at, other_at, with_port, with_console}
@@ -53,15 +52,11 @@ abbrev pub console_held : Stick → Bool
 console_held s = or (clash group.Console (held_of s.port0.phase)) (clash group.Console (held_of s.port1.phase))
 
 abbrev pub with_key : ℕ → Stick → Stick
-with_key code s = let x = pressed_of code (keyed s.devices.console s.devices.ring) in with_console x.console x.ring s
+with_key code s = with_console (pressed_of code s.devices.console) s
 
--- "6 key pressed while a request holds the console"; "A seventeenth press answers a new number 9, queue full, and changes nothing; number 6
--- is checked first."
+-- "6 key pressed while a request holds the console"
 unfoldable pub press_at : Stick → Lent → (code : ℕ) → Outcome
-press_at s l code =
-    choose (console_held s)
-    (λ u. refused 6 s l)
-    (λ u. choose (full_of s.devices.console.keyboard) (λ v. refused 9 s l) (λ v. outcome 0 0 (with_key code s) l))
+press_at s l code = choose (console_held s) (λ u. refused 6 s l) (λ u. outcome 0 0 (with_key code s) l)
 
 unfoldable pub press_call : Stick → Lent → (code : ℕ) → Outcome
 press_call s l code = guarded (refusal_of s l 0) s l (λ u. press_at s l code)

@@ -9,6 +9,7 @@ use Rattle.cells.specs.Cells.{Whole}
 use Rattle.printer.specs.Printer.{paper_length}
 use Rattle.records.specs.Records.{tape_length}
 use Rattle.image.specs.Image.{images_length}
+use Rattle.console.specs.Group.{pressed_of}
 use Rattle.blocks.specs.declared.ControlBlock.{ControlBlock}
 use Rattle.blocks.specs.declared.Header.{Header}
 use Rattle.blocks.specs.declared.Run.{Run}
@@ -17,12 +18,12 @@ use Rattle.blocks.specs.Blocks.{block_at, fresh_port}
 use Rattle.blocks.specs.Opening.{area_length}
 use Rattle.wire.specs.Messages.{message_of, room_length}
 use Rattle.layout.specs.Places.{port_place, phase_place, table_place, block_place, devices_place, devices_length, console_place, printer_place, rooms_place, room_place, area_place, state_length}
-use Rattle.layout.specs.Layout.{phase_bytes, block_bytes, port_bytes, phase_in, table_in}
+use Rattle.layout.specs.Layout.{phase_bytes, block_bytes, port_bytes, console_bytes, phase_in, table_in, console_in}
 use Rattle.layout.specs.Stands.{stands}
 use Rattle.layout.specs.InBytes.{Bytes}
 use Rattle.devices.specs.declared.Group.TheVariants as group
 use Rattle.devices.specs.Groups.{held_of, clash}
-use Rattle.devices.specs.Lent.{DevicesLent, devices_lent, press_in, lent_acts, lent_of, fresh_groups}
+use Rattle.devices.specs.Lent.{DevicesLent, devices_lent, lent_acts, lent_of, fresh_groups}
 use Rattle.plan.specs.declared.Errand.{Errand}
 use Rattle.plan.specs.declared.Job.{Job}
 use Rattle.plan.specs.declared.Plan.{Plan}
@@ -136,16 +137,9 @@ start_on port (plan.On job) b = job_on port job b
 unfoldable pub console_held_on : (port : ℕ) → List ℕ → Bool
 console_held_on port state = clash group.Console (held_of (phase_on port state))
 
--- a key that the console may take: its answer, and the state
-pub record KeyLeft : Type 0 where
-  pub answer : ℕ
-  pub state : List ℕ
-
-abbrev pub key_left : ℕ → List ℕ → KeyLeft
-key_left answer state = record { answer = answer; state = state }
-
-unfoldable pub key_on : (code : ℕ) → List ℕ → KeyLeft
-key_on code state = let p = press_in code (numbers_in state) in key_left p.answer (sets state devices_place p.numbers)
+-- "A press stores the code over an older one"
+unfoldable pub key_on : (code : ℕ) → List ℕ → List ℕ
+key_on code state = sets state (devices_place + console_place) (console_bytes (pressed_of code (console_in (drop console_place (numbers_in state)))))
 
 -- a ready port's tick: "8 tick, ready, group held by the other port"
 unfoldable pub ready_on : (port : ℕ) → Header → Buffers → Left

@@ -24,7 +24,7 @@ pub record Outcome : Type 0 where
 abbrev pub outcome : ℕ → ℕ → Stick → Lent → Outcome
 outcome answer byte stick l = record { answer = answer; byte = byte; stick = stick; lent = l }
 
--- "Numbers 1 to 8 change nothing", and 9; "A byte beside a refusal is 0."
+-- "Numbers 1 to 8 change nothing"; "A byte beside a refusal is 0."
 abbrev pub refused : ℕ → Stick → Lent → Outcome
 refused answer stick l = outcome answer 0 stick l
 

@@ -7,7 +7,7 @@ use Rattle.base.specs.Decides.{Decides, Allows}
 use Rattle.handler.specs.declared.Got.{Got}
 use Rattle.handler.specs.declared.Done.{Done}
 use Rattle.handler.specs.Answer.{Answer}
-use Rattle.console.specs.Group.{Display, Keyed}
+use Rattle.console.specs.Group.{ConsoleGroup}
 use Rattle.console.specs.declared.state.Console.{Console}
 use Rattle.console.specs.declared.ConsoleGot.{ConsoleGot}
 use Rattle.console.specs.declared.ConsoleDone.{ConsoleDone}
@@ -69,25 +69,25 @@ pub with_graphics_allows : Allows with_graphics_kinds.ps with_graphics_kinds.r w
 with_graphics_allows κs a p = (_, (_, refl))
 
 pub press_decides : Decides press_kinds.ps press_kinds.r press_reads.Pre press_reads.Learnt
-press_decides κs a z z' ws ws' p e e' = let q = e ∙ sym e' in (ap (λ (w : Keyed). w.console) q, ap (λ (w : Keyed). (tt, (w.ring, (tt, tt)))) q)
+press_decides κs a z z' ws ws' p e e' = (e ∙ sym e', refl)
 
 pub press_allows : Allows press_kinds.ps press_kinds.r press_reads.Pre press_reads.Learnt
 press_allows κs a p = (_, (_, refl))
 
 pub open_editor_decides : Decides open_editor_kinds.ps open_editor_kinds.r open_editor_reads.Pre open_editor_reads.Learnt
-open_editor_decides κs a z z' ws ws' p e e' = let q = e ∙ sym e' in (ap (λ (w : Display). w.console) q, ap (λ (w : Display). (tt, (w.screen, tt))) q)
+open_editor_decides κs a z z' ws ws' p e e' = let q = e ∙ sym e' in (ap (λ (w : ConsoleGroup). w.console) q, ap (λ (w : ConsoleGroup). (tt, (w.screen, tt))) q)
 
 pub open_editor_allows : Allows open_editor_kinds.ps open_editor_kinds.r open_editor_reads.Pre open_editor_reads.Learnt
 open_editor_allows κs a p = (_, (_, refl))
 
 pub open_screen_decides : Decides open_screen_kinds.ps open_screen_kinds.r open_screen_reads.Pre open_screen_reads.Learnt
-open_screen_decides κs a z z' ws ws' p e e' = let q = e ∙ sym e' in (ap (λ (w : Answer Done Display). record { console = w.leaves.console; done = w.says }) q, ap (λ (w : Answer Done Display). (tt, (w.leaves.screen, (tt, (tt, tt))))) q)
+open_screen_decides κs a z z' ws ws' p e e' = let q = e ∙ sym e' in (ap (λ (w : Answer Done ConsoleGroup). record { console = w.leaves.console; done = w.says }) q, ap (λ (w : Answer Done ConsoleGroup). (tt, (w.leaves.screen, (tt, (tt, tt))))) q)
 
 pub open_screen_allows : Allows open_screen_kinds.ps open_screen_kinds.r open_screen_reads.Pre open_screen_reads.Learnt
 open_screen_allows κs a p = (_, (_, refl))
 
 pub read_editor_decides : Decides read_editor_kinds.ps read_editor_kinds.r read_editor_reads.Pre read_editor_reads.Learnt
-read_editor_decides κs a z z' ws ws' p e e' = let q = e ∙ sym e' in (ap (λ (w : Answer Got Display). record { console = w.leaves.console; got = w.says }) q, ap (λ (w : Answer Got Display). (tt, (w.leaves.screen, tt))) q)
+read_editor_decides κs a z z' ws ws' p e e' = let q = e ∙ sym e' in (ap (λ (w : Answer Got ConsoleGroup). record { console = w.leaves.console; got = w.says }) q, ap (λ (w : Answer Got ConsoleGroup). (tt, (w.leaves.screen, tt))) q)
 
 pub read_editor_allows : Allows read_editor_kinds.ps read_editor_kinds.r read_editor_reads.Pre read_editor_reads.Learnt
 read_editor_allows κs a p = (_, (_, refl))
@@ -99,19 +99,19 @@ pub read_screen_allows : Allows read_screen_kinds.ps read_screen_kinds.r read_sc
 read_screen_allows κs a p = (_, (_, refl))
 
 pub read_keyboard_decides : Decides read_keyboard_kinds.ps read_keyboard_kinds.r read_keyboard_reads.Pre read_keyboard_reads.Learnt
-read_keyboard_decides κs a z z' ws ws' p e e' = let q = e ∙ sym e' in (ap (λ (w : Answer Got Keyed). record { console = w.leaves.console; got = w.says }) q, ap (λ (w : Answer Got Keyed). (tt, (w.leaves.ring, tt))) q)
+read_keyboard_decides κs a z z' ws ws' p e e' = let q = e ∙ sym e' in (ap (λ (w : Answer Got Console). record { console = w.leaves; got = w.says }) q, refl)
 
 pub read_keyboard_allows : Allows read_keyboard_kinds.ps read_keyboard_kinds.r read_keyboard_reads.Pre read_keyboard_reads.Learnt
 read_keyboard_allows κs a p = (_, (_, refl))
 
 pub write_editor_decides : Decides write_editor_kinds.ps write_editor_kinds.r write_editor_reads.Pre write_editor_reads.Learnt
-write_editor_decides κs a z z' ws ws' p e e' = let q = e ∙ sym e' in (ap (λ (w : Answer Done Display). record { console = w.leaves.console; done = w.says }) q, ap (λ (w : Answer Done Display). (tt, (w.leaves.screen, (tt, tt)))) q)
+write_editor_decides κs a z z' ws ws' p e e' = let q = e ∙ sym e' in (ap (λ (w : Answer Done ConsoleGroup). record { console = w.leaves.console; done = w.says }) q, ap (λ (w : Answer Done ConsoleGroup). (tt, (w.leaves.screen, (tt, tt)))) q)
 
 pub write_editor_allows : Allows write_editor_kinds.ps write_editor_kinds.r write_editor_reads.Pre write_editor_reads.Learnt
 write_editor_allows κs a p = (_, (_, refl))
 
 pub write_screen_decides : Decides write_screen_kinds.ps write_screen_kinds.r write_screen_reads.Pre write_screen_reads.Learnt
-write_screen_decides κs a z z' ws ws' p e e' = let q = e ∙ sym e' in (ap (λ (w : Answer Done Display). record { console = w.leaves.console; done = w.says }) q, ap (λ (w : Answer Done Display). (tt, (w.leaves.screen, (tt, tt)))) q)
+write_screen_decides κs a z z' ws ws' p e e' = let q = e ∙ sym e' in (ap (λ (w : Answer Done ConsoleGroup). record { console = w.leaves.console; done = w.says }) q, ap (λ (w : Answer Done ConsoleGroup). (tt, (w.leaves.screen, (tt, tt)))) q)
 
 pub write_screen_allows : Allows write_screen_kinds.ps write_screen_kinds.r write_screen_reads.Pre write_screen_reads.Learnt
 write_screen_allows κs a p = (_, (_, refl))

@@ -14,10 +14,10 @@ use Rattle.handler.specs.declared.Done.{Done}
 use Rattle.handler.specs.declared.Done.TheVariants.{Success, Refused}
 use Rattle.handler.specs.Answer.{Answer, NeverLast}
 use Rattle.cells.specs.Modes.{shape_of, is_mode}
-use Rattle.keyboard.specs.Queue.{press_of}
-use Rattle.keyboard.specs.Keyboard as keys
-use Rattle.keyboard.specs.declared.Keyboard.{Keyboard}
-use Rattle.keyboard.proofs.Keeps as keys_keeps
+use Rattle.keys.specs.Fit.{FitKeys}
+use Rattle.keys.specs.Keyboard as keys
+use Rattle.keys.specs.declared.keyboard.Keyboard.{Keyboard}
+use Rattle.keys.proofs.Keeps as keys_keeps
 use Rattle.editor.specs.Text as editor
 use Rattle.controls.specs.Put as controls
 use Rattle.editor.specs.Get as editor_get
@@ -34,15 +34,16 @@ use Rattle.graphics.proofs.Keeps as graphics_keeps
 use Rattle.console.specs.declared.state.Console.{Console}
 use Rattle.console.specs.declared.Handler.{Handler}
 use Rattle.console.specs.declared.Handler.TheVariants.{E, S, K}
-use Rattle.console.specs.Group.{ConsoleGroup, Display, display_of, with_display, keyed_of, with_keyed, queue_of, fresh_console, fresh_group, editor_of, with_editor, with_mode, graphics_of, with_graphics, with_keyboard, pressed_of}
-use Rattle.console.specs.Handlers.{text_of, with_text, picture_of, with_picture, open_e, open_s, open_on, open_of, prepare_e, prepare_s, prepare_on, prepare_of, read_e, read_s, read_k, read_of, write_e, write_s, write_on, write_of}
-use Rattle.console.specs.Fit.{cursor_fits, reading_fits, fit_of, Fit, FitGroup, InUse}
+use Rattle.console.specs.Group.{ConsoleGroup, group, fresh_console, fresh_group, editor_of, with_editor, with_mode, graphics_of, with_graphics, with_keyboard, pressed_of}
+use Rattle.console.specs.Handlers.{text_of, picture_of, open_e, open_s, open_of, prepare_e, prepare_s, prepare_of, read_e, read_s, read_k, read_of, write_e, write_s, write_of}
+use Rattle.console.specs.Fit.{cursor_fits, reading_fits, keys_fit, fit_of, Fit, FitGroup, InUse}
 
 -- fit, word by word
 pub record Fits (c : Console) : Type 0 where
   pub mode : is_mode c.mode ≡ true
   pub cursor : cursor_fits c.mode c.row c.column ≡ true
   pub reading : FitReading c.reading
+  pub keys : FitKeys c.keyboard
 
 both_true : (a b : Bool) → a ≡ true → b ≡ true → and a b ≡ true
 both_true a b p q = rw (p, q)
@@ -57,6 +58,14 @@ unfolding reading_fits
 of_reading Dropped f = refl
 of_reading (At column) f = both_true (leb 2 column) (leb column 40) (le-leb 2 column f.0) (le-leb column 40 f.1)
 
+keys_of : (k : Keyboard) → keys_fit k ≡ true → FitKeys k
+unfolding keys_fit
+keys_of k e = record { lock = leb-true k.lock 2 (and_left (leb k.lock 2) (leb k.inverse 1) e); inverse = leb-true k.inverse 1 (and_right (leb k.lock 2) (leb k.inverse 1) e) }
+
+of_keys : (k : Keyboard) → FitKeys k → keys_fit k ≡ true
+unfolding keys_fit
+of_keys k f = both_true (leb k.lock 2) (leb k.inverse 1) (le-leb k.lock 2 f.lock) (le-leb k.inverse 1 f.inverse)
+
 module _ (c : Console) where
   pub fits_of : Fit c → Fits c
   unfolding fit_of
@@ -64,18 +73,22 @@ module _ (c : Console) where
       let m = is_mode c.mode in
       let n = cursor_fits c.mode c.row c.column in
       let o = reading_fits c.reading in
-      let e1 = and_right m (and n o) e in
+      let p = keys_fit c.keyboard in
+      let e1 = and_right m (and n (and o p)) e in
+      let e2 = and_right n (and o p) e1 in
       record {
-        mode = and_left m (and n o) e;
-        cursor = and_left n o e1;
-        reading = reading_of c.reading (and_right n o e1);
+        mode = and_left m (and n (and o p)) e;
+        cursor = and_left n (and o p) e1;
+        reading = reading_of c.reading (and_left o p e2);
+        keys = keys_of c.keyboard (and_right o p e2);
       }
 
   pub of_fits : Fits c → Fit c
   unfolding fit_of
   of_fits f =
       both_true (is_mode c.mode) _ f.mode
-      (both_true (cursor_fits c.mode c.row c.column) _ f.cursor (of_reading c.reading f.reading))
+      (both_true (cursor_fits c.mode c.row c.column) _ f.cursor
+      (both_true (reading_fits c.reading) _ (of_reading c.reading f.reading) (of_keys c.keyboard f.keys)))
 
 refused_success : (s : ℕ) → Success ≡ Refused s → ⊥
 refused_success s e = let z : ◌≡◌ {A = ℕ} 0 1 = cc in omega arith
@@ -124,7 +137,7 @@ module _ (c : Console) (f : Fits c) where
       record { row = g.0; low = g.1.0; high = g.1.1; reading = f.reading }
 
   with_editor_lem : (e : Editor) → c.mode ≡ 0 → FitEditor e → Fits (with_editor e c)
-  with_editor_lem e z g = record { mode = f.mode; cursor = text_cursor c.mode e.row e.column z g.row g.low g.high; reading = g.reading }
+  with_editor_lem e z g = record { mode = f.mode; cursor = text_cursor c.mode e.row e.column z g.row g.low g.high; reading = g.reading; keys = f.keys }
 
   graphics_fit : within 3 8 c.mode ≡ true → FitGraphics (graphics_of c)
   graphics_fit z =
@@ -132,96 +145,94 @@ module _ (c : Console) (f : Fits c) where
       record { mode = z; row = g.0; column = g.1 }
 
   with_graphics_lem : (x : Graphics) → FitGraphics x → Fits (with_graphics x c)
-  with_graphics_lem x g = record { mode = mode_picture x.mode g.mode; cursor = picture_cursor x.mode x.row x.column g.mode g.row g.column; reading = f.reading }
+  with_graphics_lem x g = record { mode = mode_picture x.mode g.mode; cursor = picture_cursor x.mode x.row x.column g.mode g.row g.column; reading = f.reading; keys = f.keys }
 
-pub with_keyboard_lem : (k : Keyboard) (c : Console) → Fit c → Fit (with_keyboard k c)
-unfolding fit_of
-with_keyboard_lem k c f = f
+  with_keyboard_lem : (k : Keyboard) → FitKeys k → Fits (with_keyboard k c)
+  with_keyboard_lem k g = record { mode = f.mode; cursor = f.cursor; reading = f.reading; keys = g }
+
+  pub press_fits : (code : ℕ) → Fits (pressed_of code c)
+  press_fits code = with_keyboard_lem (keys.press_of code c.keyboard) (keys_keeps.press_fit code c.keyboard f.keys)
+
+pub press_fit : (code : ℕ) (c : Console) → Fit c → Fit (pressed_of code c)
+press_fit code c f = of_fits (pressed_of code c) (press_fits c (fits_of c f) code)
 
 fresh_fit : Fit fresh_console
-unfolding fit_of cursor_fits reading_fits
+unfolding fit_of cursor_fits reading_fits keys_fit
 fresh_fit = refl
 
 fresh_length : (some all : ℕ) (a b : ℕ) → length (replicate some a ++ replicate all b) ≡ some + all
 fresh_length some all a b = simp (length-append, length-replicate)
 
 pub fresh_group_lem : FitGroup fresh_group
-fresh_group_lem = record { fit = fresh_fit; keys = keys_keeps.fresh_fit; whole = record { all = fresh_length 960 60480 0x20 0 } }
-
--- a key pressed
-pub press_fit : (code : ℕ) (g : ConsoleGroup) → FitGroup g → FitGroup (with_keyed g (pressed_of code (keyed_of g)))
-press_fit code g f =
-    record { fit = with_keyboard_lem (press_of code (queue_of (keyed_of g))).keyboard g.console f.fit; keys = keys_keeps.press_fit code (queue_of (keyed_of g)) f.keys; whole = f.whole }
+fresh_group_lem = record { fit = fresh_fit; whole = record { all = fresh_length 960 60480 0x20 0 } }
 
 module _ (g : ConsoleGroup) (f : FitGroup g) where
-  abbrev d : Display
-  d = display_of g
-
   fits : Fits g.console
   fits = fits_of g.console f.fit
 
-  pub text_fits : g.console.mode ≡ 0 → FitText (text_of d)
+  pub text_fits : g.console.mode ≡ 0 → FitText (text_of g)
   text_fits z = record { editor = editor_fit g.console fits z; whole = f.whole }
 
-  pub open_e_fit : FitGroup (with_display g (open_e d))
+  pub open_e_fit : FitGroup (open_e g)
   unfolding open_e
   open_e_fit =
-      let t = editor_keeps.open_fit (text_of d) f.whole in
+      let t = editor_keeps.open_fit (text_of g) f.whole in
       record {
-        fit = of_fits (with_mode 0 (with_editor (editor.open_of (text_of d)).editor g.console)) (record {
+        fit = of_fits (with_mode 0 (with_editor (editor.open_of (text_of g)).editor g.console)) (record {
           mode = refl;
           cursor = text_cursor 0 _ _ refl t.editor.row t.editor.low t.editor.high;
           reading = t.editor.reading;
+          keys = fits.keys;
         });
-        keys = f.keys;
         whole = t.whole;
       }
 
   -- S's part changed, in range
-  picture_fit : (p : graphics.Picture) → FitPicture p → FitGroup (with_display g (with_picture d p))
-  picture_fit p h = record { fit = of_fits _ (with_graphics_lem g.console fits p.graphics h.graphics); keys = f.keys; whole = h.whole }
+  picture_fit : (p : graphics.Picture) → FitPicture p → FitGroup (group (with_graphics p.graphics g.console) p.cells)
+  picture_fit p h = record { fit = of_fits _ (with_graphics_lem g.console fits p.graphics h.graphics); whole = h.whole }
 
   -- an opening of S is in range where it succeeds, and changes nothing where it is refused
-  open_s_fit : (aux1 aux2 : ℕ) → FitGroup (with_display g (open_s aux1 aux2 d).leaves)
+  open_s_fit : (aux1 aux2 : ℕ) → FitGroup (open_s aux1 aux2 g).leaves
   unfolding open_s
   open_s_fit aux1 aux2 =
-      graphics_keeps.open_either aux1 aux2 (picture_of d) (λ (x : Answer Done graphics.Picture). FitGroup (with_display g (with_picture d x.leaves))) f
-      (λ m. picture_fit _ (graphics_keeps.opened_fit aux1 aux2 (picture_of d) m f.whole))
+      graphics_keeps.open_either aux1 aux2 (picture_of g) (λ (x : Answer Done graphics.Picture). FitGroup (group (with_graphics x.leaves.graphics g.console) x.leaves.cells)) f
+      (λ m. picture_fit _ (graphics_keeps.opened_fit aux1 aux2 (picture_of g) m f.whole))
 
   pub open_fit : (h : Handler) (aux1 aux2 : ℕ) → FitGroup (open_of h aux1 aux2 g).leaves
-  unfolding open_of open_on
+  unfolding open_of
   open_fit E aux1 aux2 = open_e_fit
   open_fit S aux1 aux2 = open_s_fit aux1 aux2
   open_fit K aux1 aux2 = f
 
   pub prepare_fit : (h : Handler) → FitGroup (prepare_of h g).leaves
-  unfolding prepare_of prepare_on prepare_e
-  prepare_fit E = choose_eq (λ (x : Display). FitGroup (with_display g x)) g.console.mode 0 (λ u. d) (λ u. open_e d) (λ e. f) (λ e. open_e_fit)
+  unfolding prepare_of prepare_e
+  prepare_fit E = choose_eq FitGroup g.console.mode 0 (λ u. g) (λ u. open_e g) (λ e. f) (λ e. open_e_fit)
   prepare_fit S = f
   prepare_fit K = f
 
   -- a transfer that is not refused at its start runs on a group in use
   pub prepare_use : (h : Handler) → (prepare_of h g).says ≡ Success → InUse h (prepare_of h g).leaves.console
-  unfolding prepare_of prepare_on prepare_e prepare_s open_e
-  prepare_use E e = choose_eq (λ (x : Display). x.console.mode ≡ 0) g.console.mode 0 (λ u. d) (λ u. open_e d) (λ z. z) (λ n. refl)
+  unfolding prepare_of prepare_e prepare_s open_e
+  prepare_use E e = choose_eq (λ (x : ConsoleGroup). x.console.mode ≡ 0) g.console.mode 0 (λ u. g) (λ u. open_e g) (λ z. z) (λ n. refl)
   prepare_use S e = by_eq g.console.mode 0 (λ z. absurd (refused_success (0x91) (sym (rw (eq-eqb g.console.mode 0 z) at e)))) (picture_mode g.console.mode fits.mode)
   prepare_use K e = tt
 
-  text_fit : (t : editor.Text) → g.console.mode ≡ 0 → FitText t → FitGroup (with_display g (with_text d t))
-  text_fit t z h = record { fit = of_fits _ (with_editor_lem g.console fits t.editor z h.editor); keys = f.keys; whole = h.whole }
+  text_fit : (t : editor.Text) → g.console.mode ≡ 0 → FitText t → FitGroup (group (with_editor t.editor g.console) t.cells)
+  text_fit t z h = record { fit = of_fits _ (with_editor_lem g.console fits t.editor z h.editor); whole = h.whole }
+
+  keys_fit_lem : (k : Keyboard) → FitKeys k → FitGroup (group (with_keyboard k g.console) g.screen)
+  keys_fit_lem k h = record { fit = of_fits _ (with_keyboard_lem g.console fits k h); whole = f.whole }
 
   pub read_fit : (h : Handler) → InUse h g.console → FitGroup (read_of h g).leaves
   unfolding read_of read_e read_s read_k
-  read_fit E z = text_fit (editor_get.get_of (text_of d)).leaves z (editor_keeps.get_fit (text_of d) (text_fits z))
+  read_fit E z = text_fit (editor_get.get_of (text_of g)).leaves z (editor_keeps.get_fit (text_of g) (text_fits z))
   read_fit S z = picture_fit (graphics.picture _ g.screen) (record { graphics = graphics_keeps.get_fit g.screen (graphics_of g.console) (graphics_fit g.console fits z); whole = f.whole })
-  read_fit K z =
-      let q = queue_of (keyed_of g) in
-      record { fit = with_keyboard_lem (keys.get_of q).leaves.keyboard g.console f.fit; keys = keys_keeps.get_fit q f.keys; whole = f.whole }
+  read_fit K z = keys_fit_lem (keys.get_of g.console.keyboard).leaves (keys_keeps.get_fit g.console.keyboard fits.keys)
 
   pub write_fit : (h : Handler) (byte : ℕ) → InUse h g.console → FitGroup (write_of h byte g).leaves
-  unfolding write_of write_on write_e write_s
-  write_fit E byte z = text_fit (controls.put_of byte (text_of d)).leaves z (controls_keeps.put_fit byte (text_of d) (text_fits z))
-  write_fit S byte z = picture_fit (graphics.put_of byte (picture_of d)).leaves (graphics_keeps.put_fit (picture_of d) (record { graphics = graphics_fit g.console fits z; whole = f.whole }) byte)
+  unfolding write_of write_e write_s
+  write_fit E byte z = text_fit (controls.put_of byte (text_of g)).leaves z (controls_keeps.put_fit byte (text_of g) (text_fits z))
+  write_fit S byte z = picture_fit (graphics.put_of byte (picture_of g)).leaves (graphics_keeps.put_fit (picture_of g) (record { graphics = graphics_fit g.console fits z; whole = f.whole }) byte)
   write_fit K byte z = f
 
   -- a character moved leaves the group in use
@@ -232,21 +243,14 @@ module _ (g : ConsoleGroup) (f : FitGroup g) where
   read_use K z = tt
 
   pub write_use : (h : Handler) (byte : ℕ) → InUse h g.console → InUse h (write_of h byte g).leaves.console
-  unfolding write_of write_on write_e write_s
+  unfolding write_of write_e write_s
   write_use E byte z = z
-  write_use S byte z = (graphics_keeps.put_fit (picture_of d) (record { graphics = graphics_fit g.console fits z; whole = f.whole }) byte).graphics.mode
+  write_use S byte z = (graphics_keeps.put_fit (picture_of g) (record { graphics = graphics_fit g.console fits z; whole = f.whole }) byte).graphics.mode
   write_use K byte z = z
-
--- a character read keeps the number of the keys' places
-pub read_places : (h : Handler) (g : ConsoleGroup) → length (read_of h g).leaves.ring ≡ length g.ring
-unfolding read_of read_k keys.get_of
-read_places E g = refl
-read_places S g = refl
-read_places K g = keys_keeps.cleared_length _ _ g.ring
 
 -- "other devices never give it"
 pub read_never_last : (h : Handler) (g : ConsoleGroup) → NeverLast (read_of h g).says
 unfolding read_of read_e read_s read_k
-read_never_last E g = editor_keeps.get_never_last (text_of (display_of g))
+read_never_last E g = editor_keeps.get_never_last (text_of g)
 read_never_last S g = graphics_keeps.get_never_last g.screen (graphics_of g.console)
-read_never_last K g = keys_keeps.get_never_last (queue_of (keyed_of g))
+read_never_last K g = keys_keeps.get_never_last g.console.keyboard

@@ -1,16 +1,16 @@
--- Document 01, Damaged: the console is fit where none of that sentence's words on it hold. A fit group also has a fit keyboard and its whole screen.
+-- Document 01, Damaged: the console is fit where none of that sentence's words on it hold. A fit group also has its whole screen.
 -- Assumes nothing.
 use Rattle.std.specs.Prelude.{ℕ, ◌≡◌, Bool, true, eqb, leb, ltb}
 use Rattle.base.specs.Choice.{choose, and, within}
 use Rattle.cells.specs.Modes.{shape_of, is_mode}
 use Rattle.cells.specs.Cells.{Whole}
-use Rattle.keyboard.specs.Fit.{FitKeys}
+use Rattle.keys.specs.declared.keyboard.Keyboard.{Keyboard}
 use Rattle.editor.specs.declared.ReadColumn.{ReadColumn}
 use Rattle.editor.specs.declared.ReadColumn.TheVariants.{Dropped, At}
 use Rattle.console.specs.declared.Handler.{Handler}
 use Rattle.console.specs.declared.Handler.TheVariants.{E, S, K}
 use Rattle.console.specs.declared.state.Console.{Console}
-use Rattle.console.specs.Group.{ConsoleGroup, keyed_of, queue_of}
+use Rattle.console.specs.Group.{ConsoleGroup}
 
 -- "a mode 0 cursor off rows 0 to 23 or columns 2 to 39"; in another mode a row is at most the mode's rows
 unfoldable pub cursor_fits : (mode row column : ℕ) → Bool
@@ -24,18 +24,22 @@ unfoldable pub reading_fits : ReadColumn → Bool
 reading_fits Dropped = true
 reading_fits (At column) = within 2 40 column
 
--- "a stored number outside its range here" is damage; the keyboard's are judged with its places
+-- "lock (0 none, 1 shift, 2 control) and inverse (0, 1)"
+unfoldable pub keys_fit : Keyboard → Bool
+keys_fit k = and (leb k.lock 2) (leb k.inverse 1)
+
+-- "a stored number outside its range here" is damage
 unfoldable pub fit_of : Console → Bool
 fit_of c =
     and (is_mode c.mode)
-    (and (cursor_fits c.mode c.row c.column) (reading_fits c.reading))
+    (and (cursor_fits c.mode c.row c.column)
+    (and (reading_fits c.reading) (keys_fit c.keyboard)))
 
 abbrev pub Fit : Console → Type 0
 Fit c = fit_of c ≡ true
 
 pub record FitGroup (g : ConsoleGroup) : Type 0 where
   pub fit : Fit g.console
-  pub keys : FitKeys (queue_of (keyed_of g))
   pub whole : Whole g.screen
 
 -- "a running request whose .. mode .. does not fit it": E runs in mode 0, S in modes 3 to 8, K in any

@@ -8,7 +8,8 @@ use Rattle.handler.specs.declared.Done.{Done}
 use Rattle.handler.specs.declared.Done.TheVariants.{Success, Refused}
 use Rattle.handler.specs.Answer.{Answer, answer, seen}
 use Rattle.handler.specs.Acts.{Acts}
-use Rattle.keyboard.specs.Keyboard as keys
+use Rattle.keys.specs.Keyboard as keys
+use Rattle.keys.specs.declared.keyboard.Keyboard.{Keyboard}
 use Rattle.editor.specs.Text.{Text, text}
 use Rattle.editor.specs.Text as editor
 use Rattle.controls.specs.Put as controls
@@ -19,83 +20,73 @@ use Rattle.graphics.specs.declared.Graphics.{Graphics}
 use Rattle.console.specs.declared.state.Console.{Console}
 use Rattle.console.specs.declared.Handler.{Handler}
 use Rattle.console.specs.declared.Handler.TheVariants.{E, S, K}
-use Rattle.console.specs.Group.{ConsoleGroup, group, Display, display, display_of, with_display, Keyed, keyed_of, with_keyed, editor_of, with_editor, with_mode, graphics_of, with_graphics, queue_of, with_queue}
+use Rattle.console.specs.Group.{ConsoleGroup, group, editor_of, with_editor, with_mode, graphics_of, with_graphics, with_keyboard}
 
--- the display as E sees it, and with what E left
-abbrev pub text_of : Display → Text
+-- the group as E sees it, and with what E left
+abbrev pub text_of : ConsoleGroup → Text
 text_of g = text (editor_of g.console) g.screen
 
-abbrev pub with_text : Display → Text → Display
-with_text g t = display (with_editor t.editor g.console) t.cells
+abbrev pub with_text : ConsoleGroup → Text → ConsoleGroup
+with_text g t = group (with_editor t.editor g.console) t.cells
 
 -- as S sees it, and with what S left
-abbrev pub picture_of : Display → Picture
+abbrev pub picture_of : ConsoleGroup → Picture
 picture_of g = picture (graphics_of g.console) g.screen
 
-abbrev pub with_picture : Display → Picture → Display
-with_picture g p = display (with_graphics p.graphics g.console) p.cells
+abbrev pub with_picture : ConsoleGroup → Picture → ConsoleGroup
+with_picture g p = group (with_graphics p.graphics g.console) p.cells
 
 -- "OPEN: mode 0, .."
-unfoldable pub open_e : Display → Display
-open_e g = let h = with_text g (editor.open_of (text_of g)) in display (with_mode 0 h.console) h.screen
+unfoldable pub open_e : ConsoleGroup → ConsoleGroup
+open_e g = let h = with_text g (editor.open_of (text_of g)) in group (with_mode 0 h.console) h.screen
 
-unfoldable pub open_s : (aux1 aux2 : ℕ) → Display → Answer Done Display
+unfoldable pub open_s : (aux1 aux2 : ℕ) → ConsoleGroup → Answer Done ConsoleGroup
 open_s aux1 aux2 g = seen (with_picture g) (graphics.open_of aux1 aux2 (picture_of g))
 
 -- "Opening K or P changes no device."
-unfoldable pub open_on : Handler → (aux1 aux2 : ℕ) → Display → Answer Done Display
-open_on E aux1 aux2 g = answer Success (open_e g)
-open_on S aux1 aux2 g = open_s aux1 aux2 g
-open_on K aux1 aux2 g = answer Success g
+unfoldable pub open_of : Handler → (aux1 aux2 : ℕ) → ConsoleGroup → Answer Done ConsoleGroup
+open_of E aux1 aux2 g = answer Success (open_e g)
+open_of S aux1 aux2 g = open_s aux1 aux2 g
+open_of K aux1 aux2 g = answer Success g
 
 -- "An E transfer in another mode does this [OPEN] in its start tick."
-unfoldable pub prepare_e : Display → Display
+unfoldable pub prepare_e : ConsoleGroup → ConsoleGroup
 prepare_e g = choose (eqb g.console.mode 0) (λ u. g) (λ u. open_e g)
 
 -- "A transfer in mode 0 is $91 at the start."
 unfoldable pub prepare_s : Console → Done
 prepare_s c = pick (eqb c.mode 0) (Refused 0x91) Success
 
-unfoldable pub prepare_on : Handler → Display → Answer Done Display
-prepare_on E g = answer Success (prepare_e g)
-prepare_on S g = answer (prepare_s g.console) g
-prepare_on K g = answer Success g
+unfoldable pub prepare_of : Handler → ConsoleGroup → Answer Done ConsoleGroup
+prepare_of E g = answer Success (prepare_e g)
+prepare_of S g = answer (prepare_s g.console) g
+prepare_of K g = answer Success g
 
-unfoldable pub read_e : Display → Answer Got Display
+unfoldable pub read_e : ConsoleGroup → Answer Got ConsoleGroup
 read_e g = seen (with_text g) (editor_get.get_of (text_of g))
 
 unfoldable pub read_s : List ℕ → Console → Answer Got Console
 read_s screen c = seen (λ (x : Graphics). with_graphics x c) (graphics.get_of screen (graphics_of c))
 
-unfoldable pub read_k : Keyed → Answer Got Keyed
-read_k x = seen (with_queue x) (keys.get_of (queue_of x))
+unfoldable pub read_k : Console → Answer Got Console
+read_k c = seen (λ (k : Keyboard). with_keyboard k c) (keys.get_of c.keyboard)
 
-unfoldable pub write_e : ℕ → Display → Answer Done Display
+unfoldable pub read_of : Handler → ConsoleGroup → Answer Got ConsoleGroup
+read_of E g = read_e g
+read_of S g = seen (λ (c : Console). group c g.screen) (read_s g.screen g.console)
+read_of K g = seen (λ (c : Console). group c g.screen) (read_k g.console)
+
+unfoldable pub write_e : ℕ → ConsoleGroup → Answer Done ConsoleGroup
 write_e byte g = seen (with_text g) (controls.put_of byte (text_of g))
 
-unfoldable pub write_s : ℕ → Display → Answer Done Display
+unfoldable pub write_s : ℕ → ConsoleGroup → Answer Done ConsoleGroup
 write_s byte g = seen (with_picture g) (graphics.put_of byte (picture_of g))
 
 -- A PUT to K never gets here: K offers no W, and "$87 .. writing without W" comes before the group; the same status stands here
-unfoldable pub write_on : Handler → ℕ → Display → Answer Done Display
-write_on E byte g = write_e byte g
-write_on S byte g = write_s byte g
-write_on K byte g = answer (Refused 0x87) g
-
--- each of them over the group: only K's GET touches the places of the keys
-unfoldable pub open_of : Handler → (aux1 aux2 : ℕ) → ConsoleGroup → Answer Done ConsoleGroup
-open_of h aux1 aux2 g = seen (with_display g) (open_on h aux1 aux2 (display_of g))
-
-unfoldable pub prepare_of : Handler → ConsoleGroup → Answer Done ConsoleGroup
-prepare_of h g = seen (with_display g) (prepare_on h (display_of g))
-
-unfoldable pub read_of : Handler → ConsoleGroup → Answer Got ConsoleGroup
-read_of E g = seen (with_display g) (read_e (display_of g))
-read_of S g = seen (λ (c : Console). group c g.ring g.screen) (read_s g.screen g.console)
-read_of K g = seen (with_keyed g) (read_k (keyed_of g))
-
 unfoldable pub write_of : Handler → ℕ → ConsoleGroup → Answer Done ConsoleGroup
-write_of h byte g = seen (with_display g) (write_on h byte (display_of g))
+write_of E byte g = write_e byte g
+write_of S byte g = write_s byte g
+write_of K byte g = answer (Refused 0x87) g
 
 -- the handler as CIO calls it. CLOSE changes nothing; "GET STATUS $0D, SPECIAL above .. On an open one: $01 or $84."
 abbrev pub console_acts : Handler → Asked → Acts ConsoleGroup

@@ -2,7 +2,7 @@
 ghost use Rattle.std.specs.Prelude.{◌≡◌};
 ghost use Rattle.handler.specs.Answer.{answer};
 ghost use Rattle.cells.specs.Cells.{Whole};
-ghost use Rattle.console.specs.Group.{display, keyed};
+ghost use Rattle.console.specs.Group.{group};
 ghost use Rattle.console.specs.Handlers.{open_e, open_s, read_e, read_s, read_k, write_e, write_s};
 
 use crate::state::Console;
@@ -10,7 +10,7 @@ use crate::{ConsoleDone, ConsoleGot};
 
 pub fn open_editor(console: Console, screen: &mut [u8]) -> Console
     requires { Whole screen.old }
-    ensures { display result screen.new ≡ open_e (display console screen.old) }
+    ensures { group result screen.new ≡ open_e (group console screen.old) }
 {
     let next = editor::open(console.editor(), screen);
     let mut text = console.with_editor(next);
@@ -20,7 +20,7 @@ pub fn open_editor(console: Console, screen: &mut [u8]) -> Console
 
 pub fn open_screen(console: Console, screen: &mut [u8], aux1: u8, aux2: u8) -> ConsoleDone
     requires { Whole screen.old }
-    ensures { answer result.done (display result.console screen.new) ≡ open_s aux1 aux2 (display console screen.old) }
+    ensures { answer result.done (group result.console screen.new) ≡ open_s aux1 aux2 (group console screen.old) }
 {
     let w = graphics::open(console.graphics(), screen, aux1, aux2);
     let g = w.graphics;
@@ -34,7 +34,7 @@ pub fn open_screen(console: Console, screen: &mut [u8], aux1: u8, aux2: u8) -> C
 
 pub fn read_editor(console: Console, screen: &mut [u8]) -> ConsoleGot
     requires { Whole screen.old }
-    ensures { answer result.got (display result.console screen.new) ≡ read_e (display console screen.old) }
+    ensures { answer result.got (group result.console screen.new) ≡ read_e (group console screen.old) }
 {
     let r = editor::get(console.editor(), screen);
     let e = r.editor;
@@ -59,11 +59,11 @@ pub fn read_screen(console: Console, screen: &[u8]) -> ConsoleGot
     }
 }
 
-pub fn read_keyboard(console: Console, ring: &mut [u8]) -> ConsoleGot
-    ensures { answer result.got (keyed result.console ring.new) ≡ read_k (keyed console ring.old) }
+pub fn read_keyboard(console: Console) -> ConsoleGot
+    ensures { answer result.got result.console ≡ read_k console }
 {
     let keyboard = console.keyboard;
-    let r = keyboard.get(ring);
+    let r = keyboard.get();
     let k = r.keyboard;
     let got = r.got;
     let mut next = console;
@@ -76,7 +76,7 @@ pub fn read_keyboard(console: Console, ring: &mut [u8]) -> ConsoleGot
 
 pub fn write_editor(console: Console, screen: &mut [u8], byte: u8) -> ConsoleDone
     requires { Whole screen.old }
-    ensures { answer result.done (display result.console screen.new) ≡ write_e byte (display console screen.old) }
+    ensures { answer result.done (group result.console screen.new) ≡ write_e byte (group console screen.old) }
 {
     let w = controls::put(console.editor(), screen, byte);
     let e = w.editor;
@@ -90,7 +90,7 @@ pub fn write_editor(console: Console, screen: &mut [u8], byte: u8) -> ConsoleDon
 
 pub fn write_screen(console: Console, screen: &mut [u8], byte: u8) -> ConsoleDone
     requires { Whole screen.old }
-    ensures { answer result.done (display result.console screen.new) ≡ write_s byte (display console screen.old) }
+    ensures { answer result.done (group result.console screen.new) ≡ write_s byte (group console screen.old) }
 {
     let w = graphics::put(console.graphics(), screen, byte);
     let g = w.graphics;

@@ -1,10 +1,10 @@
 // The console's state by value, and each handler's part of it.
 ghost use Rattle.std.specs.Prelude.{◌≡◌};
-ghost use Rattle.console.specs.Group.{fresh_console, editor_of, with_editor, graphics_of, with_graphics, keyed, pressed_of};
+ghost use Rattle.console.specs.Group.{fresh_console, editor_of, with_editor, graphics_of, with_graphics, pressed_of};
 
 use editor::{Editor, ReadColumn};
 use graphics::Graphics;
-use keyboard::Keyboard;
+use keys::keyboard::Keyboard;
 
 #[derive(Drop)]
 pub struct Console {
@@ -86,11 +86,11 @@ impl Console {
     }
 
     // A key pressed.
-    pub fn press(self, ring: &mut [u8], code: u8) -> Console
-        ensures { keyed result ring.new ≡ pressed_of code (keyed self ring.old) }
+    pub fn press(self, code: u8) -> Console
+        ensures { result ≡ pressed_of code self }
     {
         let keyboard = self.keyboard;
-        let pressed = keyboard.press(ring, code);
+        let pressed = keyboard.press(code);
         let mut next = self;
         next.keyboard = pressed;
         next

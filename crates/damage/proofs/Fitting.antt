@@ -1,4 +1,4 @@
--- What is known of an undamaged stick, part by part: each port, the console, its keys, the printer, the cassette and its mark, the places of
+-- What is known of an undamaged stick, part by part: each port, the console, the printer, the cassette and its mark, the places of
 -- the blocks that have D open, that the ports hold no group both; and of a running request that its numbers span its buffer.
 -- Assumes nothing.
 use mathlib.Core.Path.{◌≡◌, subst}
@@ -16,7 +16,6 @@ use Rattle.blocks.specs.declared.Port.{Port}
 use Rattle.blocks.specs.Blocks.{block_at}
 use Rattle.blocks.specs.Made.{table_made}
 use Rattle.console.specs.declared.state.Console.{Console}
-use Rattle.keyboard.specs.Fit.{keys_fit}
 use Rattle.console.specs.Fit.{fit_of}
 use Rattle.cassette.specs.Fit.{fits_cassette}
 use Rattle.transfer.specs.Spans.{way_in, Spans}
@@ -45,14 +44,8 @@ module _ (s : Stick) (l : Lent) (e : stick_fits s l ≡ true) where
   abbrev behind_printer : Bool
   behind_printer = and fitting (and marked (and placed (ports_apart s)))
 
-  abbrev keyed : Bool
-  keyed = keys_fit s.devices.console.keyboard s.devices.ring
-
-  abbrev behind_keys : Bool
-  behind_keys = and (leb s.devices.printer.used paper_length) behind_printer
-
   abbrev rest : Bool
-  rest = and keyed behind_keys
+  rest = and (leb s.devices.printer.used paper_length) behind_printer
 
   behind_ports : and (fit_of s.devices.console) rest ≡ true
   unfolding stick_fits
@@ -72,17 +65,11 @@ module _ (s : Stick) (l : Lent) (e : stick_fits s l ≡ true) where
   past_console : rest ≡ true
   past_console = and_right (fit_of s.devices.console) rest behind_ports
 
-  pub keys_fit_lem : keys_fit s.devices.console.keyboard s.devices.ring ≡ true
-  keys_fit_lem = and_left keyed behind_keys past_console
-
-  past_keys : behind_keys ≡ true
-  past_keys = and_right keyed behind_keys past_console
-
   pub printer_fits : s.devices.printer.used ≤ paper_length
-  printer_fits = leb-true s.devices.printer.used paper_length (and_left (leb s.devices.printer.used paper_length) behind_printer past_keys)
+  printer_fits = leb-true s.devices.printer.used paper_length (and_left (leb s.devices.printer.used paper_length) behind_printer past_console)
 
   past_printer : behind_printer ≡ true
-  past_printer = and_right (leb s.devices.printer.used paper_length) behind_printer past_keys
+  past_printer = and_right (leb s.devices.printer.used paper_length) behind_printer past_console
 
   pub cassette_fits : fits_cassette s.devices.cassette ≡ true
   cassette_fits = and_left fitting (and marked (and placed (ports_apart s))) past_printer

@@ -14,13 +14,11 @@ use Rattle.base.specs.Choice.{pick, and}
 use Rattle.base.proofs.Choices.{by_eq}
 use Rattle.cells.specs.Modes.{shape_of, is_mode}
 use Rattle.printer.specs.Printer.{paper_length}
-use Rattle.keyboard.specs.Queue.{ring_length}
-use Rattle.keyboard.specs.Fit.{keys_fit}
-use Rattle.console.specs.Fit.{cursor_fits, reading_fits, fit_of}
+use Rattle.console.specs.Fit.{cursor_fits, reading_fits, keys_fit, fit_of}
 use Rattle.cassette.specs.Fit.{fits_cassette}
 use Rattle.disk.specs.Disk.{places_length}
 use Rattle.wire.specs.Messages.{word_at}
-use Rattle.layout.specs.Places.{phase_length, block_length, port_length, devices_place, ring_place, printer_place, cassette_place, disk_place, port_place}
+use Rattle.layout.specs.Places.{phase_length, block_length, port_length, devices_place, printer_place, cassette_place, disk_place, port_place}
 use Rattle.layout.specs.Stick.{Stick, Lent}
 use Rattle.layout.specs.Layout.{byte_at, device_in, block_of, blocks_in, table_in, phase_in, port_in, reading_in, console_in, printer_in, cassette_in, array_in, devices_in, stick_in}
 use Rattle.layout.specs.Stands.{port_stands, console_stands, stands}
@@ -50,10 +48,11 @@ unfolding reading_whole reading_fits
 reading_is n = by_eq n 255 (λ z. rw (eq-eqb n 255 z)) (λ z. rw (ne_eqb n 255 z))
 
 console_is : (c : List ℕ) → console_whole c ≡ and (console_stands c) (fit_of (console_in c))
-unfolding console_whole fit_of console_in
+unfolding console_whole fit_of console_in keys_fit
 console_is c =
-    ands.both (cursor_is (byte_at c 0) (byte_at c 1) (word_at c 2)) (ap (λ (x : Bool). and x (console_stands c)) (reading_is (byte_at c 6)))
-    ∙ ands.console (is_mode (byte_at c 0)) (cursor_fits (byte_at c 0) (byte_at c 1) (word_at c 2)) (reading_fits (reading_in (byte_at c 6))) (console_stands c)
+    let keys = and (leb (byte_at c 8) 2) (leb (byte_at c 9) 1) in
+    ands.both (cursor_is (byte_at c 0) (byte_at c 1) (word_at c 2)) (ap (λ (x : Bool). and x (and (console_stands c) keys)) (reading_is (byte_at c 6)))
+    ∙ ands.console (is_mode (byte_at c 0)) (cursor_fits (byte_at c 0) (byte_at c 1) (word_at c 2)) (reading_fits (reading_in (byte_at c 6))) (console_stands c) keys
 
 -- the number of a device's group
 group_of_lem : (device : ℕ) → group_number (group_of (device_in device)) ≡ group_whole device
@@ -116,10 +115,7 @@ module _ (b : List ℕ) where
   abbrev devices : List ℕ
   devices = drop devices_place b
 
-  abbrev keyed : Bool
-  keyed = keys_fit (console_in devices).keyboard (array_in ring_length (drop ring_place devices))
-
-  devices_are : devices_whole devices ≡ and (and (console_stands devices) (fit_of (console_in devices))) (and keyed (and (leb (printer_in (drop printer_place devices)).used paper_length) (fits_cassette (cassette_in (drop cassette_place devices)))))
+  devices_are : devices_whole devices ≡ and (and (console_stands devices) (fit_of (console_in devices))) (and (leb (printer_in (drop printer_place devices)).used paper_length) (fits_cassette (cassette_in (drop cassette_place devices))))
   unfolding devices_whole
   devices_are = ands.both (console_is devices) (rw (get_or-drop printer_place devices 0 0, get_or-drop printer_place devices 1 0))
 
@@ -203,9 +199,8 @@ module _ (b : List ℕ) where
       let tapes = tapes_whole b in
       let apart = ports_apart (stick_in b) in
       ports_are (and (devices_whole devices) (and tapes (apart_whole b)))
-      ∙ ands.both (port_whole_lem b own_places) (ands.both (port_whole_lem second (own_places + next_places)) (ands.both devices_are (ap (and tapes) apart_is) ∙ ands.and_assoc (and (console_stands devices) (fit_of c)) (and keyed (and used fits)) (and tapes apart)))
-      ∙ ands.head (port_stands b) (and f (and m p)) (port_stands second) (and g (and n q)) (console_stands devices) (fit_of c) (and (and keyed (and used fits)) (and tapes apart))
+      ∙ ands.both (port_whole_lem b own_places) (ands.both (port_whole_lem second (own_places + next_places)) (ands.both devices_are (ap (and tapes) apart_is) ∙ ands.and_assoc (and (console_stands devices) (fit_of c)) (and used fits) (and tapes apart)))
+      ∙ ands.head (port_stands b) (and f (and m p)) (port_stands second) (and g (and n q)) (console_stands devices) (fit_of c) (and (and used fits) (and tapes apart))
       ∙ ap (and (stands b))
-      (ands.behind f m p g n q (fit_of c) keyed (and used fits) tapes apart
-      ∙ ap (λ (x : Bool). and f (and g (and (fit_of c) (and keyed x)))) (ands.and_assoc used fits _)
-      ∙ ap (λ (x : Bool). and f (and g (and (fit_of c) (and keyed (and used (and fits x)))))) (ands.both marked_is (ap (λ (x : Bool). and x apart) placed_is)))
+      (ands.behind f m p g n q (fit_of c) used fits tapes apart
+      ∙ ap (λ (x : Bool). and f (and g (and (fit_of c) (and used (and fits x))))) (ands.both marked_is (ap (λ (x : Bool). and x apart) placed_is)))

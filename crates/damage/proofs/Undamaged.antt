@@ -56,7 +56,6 @@ module _ (s : Stick) (l : Lent) (w : Typed s) (e : stick_fits s l ≡ true) wher
     reading = console_reading s.devices.console (console_fits s l e);
     table0 = w.table0;
     table1 = w.table1;
-    ring = w.ring;
     pending = w.pending;
     places = w.places;
   }

@@ -4,8 +4,7 @@
 -- no other, so that a group held without need has no state. How wide a number is, and that a table has eight blocks, the types
 -- say. Of the tape (document 02, Ask 1): its numbers out of their ranges, two open C blocks, or blocks at odds with its mark. Of the
 -- diskettes (Ask 12): "Damaged: a D block with number above 4 or W; file number above 63, place above 125, ..": of a block that has D
--- open its place does not fit it. Of the keyboard (Ask 6): more than sixteen keys, a first place that is none, or a place that no key uses
--- and that is not 0.
+-- open its place does not fit it.
 -- Assumes nothing.
 use Rattle.std.specs.Prelude.{Bool, true, false, not, ℕ, eqb, leb, ltb}
 use Rattle.base.specs.Choice.{and}
@@ -25,7 +24,6 @@ use Rattle.blocks.specs.Blocks.{block_at}
 use Rattle.blocks.specs.Opening.{letter_of, reads, writes}
 use Rattle.blocks.specs.Made.{table_made}
 use Rattle.console.specs.declared.state.Console.{Console}
-use Rattle.keyboard.specs.Fit.{keys_fit}
 use Rattle.console.specs.Fit.{fit_of}
 use Rattle.cassette.specs.Fit.{fits_cassette}
 use Rattle.wire.specs.Fits.{gather_fits, reply_fits}
@@ -85,8 +83,7 @@ stick_fits s l =
     and (port_fits s.port0 s.devices.console)
     (and (port_fits s.port1 s.devices.console)
     (and (fit_of s.devices.console)
-    (and (keys_fit s.devices.console.keyboard s.devices.ring)
     (and (leb s.devices.printer.used paper_length)
     (and (fits_cassette s.devices.cassette)
     (and (marks_fit s.devices.cassette.mark s.port0.table s.port1.table)
-    (and (places_fit s.devices.places s.port0.table s.port1.table) (ports_apart s))))))))
+    (and (places_fit s.devices.places s.port0.table s.port1.table) (ports_apart s)))))))

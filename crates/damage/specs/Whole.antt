@@ -8,8 +8,6 @@ use Rattle.blocks.specs.Opening.{area_length, reads, writes}
 use Rattle.cells.specs.Modes.{shape_of}
 use Rattle.printer.specs.Printer.{paper_length}
 use Rattle.cassette.specs.Cassette.{mark_of}
-use Rattle.keyboard.specs.Queue.{ring_length}
-use Rattle.keyboard.specs.Fit.{keys_fit}
 use Rattle.cassette.specs.Fit.{fits_cassette}
 use Rattle.disk.specs.Disk.{place_length}
 use Rattle.disk.specs.Fit.{place_fits}
@@ -17,8 +15,8 @@ use Rattle.console.specs.declared.state.Console.{Console}
 use Rattle.console.specs.Group.{fresh_console, with_mode}
 use Rattle.wire.specs.Messages.{word_at}
 use Rattle.wire.specs.Fits.{gather_fits, reply_fits}
-use Rattle.layout.specs.Places.{phase_length, block_length, port_length, devices_place, console_place, ring_place, printer_place, cassette_place, disk_place, port_place}
-use Rattle.layout.specs.Layout.{byte_at, gather_in, reply_in, console_in, cassette_in, array_in}
+use Rattle.layout.specs.Places.{phase_length, block_length, port_length, devices_place, console_place, printer_place, cassette_place, disk_place, port_place}
+use Rattle.layout.specs.Layout.{byte_at, gather_in, reply_in, cassette_in}
 use Rattle.layout.specs.Stands.{unused, rest_unused, run_stands}
 
 -- of a state the console's mode, and the cassette's mark
@@ -146,14 +144,15 @@ reading_whole n = pick (eqb n 255) true (within 2 40 n)
 unfoldable pub console_whole : List ℕ → Bool
 console_whole b =
     and (cursor_whole (byte_at b 0) (byte_at b 1) (word_at b 2))
-    (and (reading_whole (byte_at b 6)) (ltb (byte_at b 5) 2))
+    (and (reading_whole (byte_at b 6))
+    (and (ltb (byte_at b 5) 2)
+    (and (leb (byte_at b 8) 2) (leb (byte_at b 9) 1))))
 
 unfoldable pub devices_whole : List ℕ → Bool
 devices_whole b =
     and (console_whole (drop console_place b))
-    (and (keys_fit (console_in (drop console_place b)).keyboard (array_in ring_length (drop ring_place b)))
     (and (leb (word_at b printer_place) paper_length)
-    (fits_cassette (cassette_in (drop cassette_place b)))))
+    (fits_cassette (cassette_in (drop cassette_place b))))
 
 -- of a port's bytes, how many of the next `count` blocks have C open
 unfoldable pub tapes_from : List ℕ → (place count : ℕ) → ℕ

@@ -115,7 +115,6 @@ always_typed w r =
       length1 = phase_typed w.stick.port1.phase _ _ _ (u.phases port-1);
       table0 = e.0;
       table1 = e.1;
-      ring = (linked.always_shaped w r).ring;
       pending = (linked.always_shaped w r).pending;
       places = (linked.always_shaped w r).places;
     }
@@ -193,7 +192,7 @@ module _ (b : Buffers) (s : AfterFresh b) where
   leaves_is = sym (ap (λ (l : Left). l.buffers) (fresh_fitting s.before fresh_fits ∙ ap left_of done)) ∙ s.leaves
 
   leaves_typed : Typed leaves.stick
-  leaves_typed = record { length0 = omega arith; length1 = omega arith; table0 = refl; table1 = refl; ring = refl; pending = length-replicate {A = ℕ} pending_length 0; places = length-replicate {A = ℕ} places_length 0 }
+  leaves_typed = record { length0 = omega arith; length1 = omega arith; table0 = refl; table1 = refl; pending = length-replicate {A = ℕ} pending_length 0; places = length-replicate {A = ℕ} places_length 0 }
 
   leaves_sound : Sound leaves
   leaves_sound = record {

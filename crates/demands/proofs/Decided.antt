@@ -49,18 +49,13 @@ use Rattle.keys.proofs.table.entry.Kinds as keys_entry_kinds
 use Rattle.keys.proofs.table.entry.Reads as keys_entry_reads
 use Rattle.keys.proofs.translate.Kinds as keys_translate_kinds
 use Rattle.keys.proofs.translate.Reads as keys_translate_reads
-use Rattle.keyboard.proofs.Keyboard.fresh.Kinds as keyboard_fresh_kinds
-use Rattle.keyboard.proofs.Keyboard.fresh.Reads as keyboard_fresh_reads
-use Rattle.keyboard.proofs.Keyboard.full.Kinds as keyboard_full_kinds
-use Rattle.keyboard.proofs.Keyboard.full.Reads as keyboard_full_reads
-use Rattle.keyboard.proofs.Keyboard.press.Kinds as keyboard_press_kinds
-use Rattle.keyboard.proofs.Keyboard.press.Reads as keyboard_press_reads
-use Rattle.keyboard.proofs.Keyboard.get.Kinds as keyboard_get_kinds
-use Rattle.keyboard.proofs.Keyboard.get.Reads as keyboard_get_reads
-use Rattle.keyboard.proofs.Keyboard.fits.Kinds as keyboard_fits_kinds
-use Rattle.keyboard.proofs.Keyboard.fits.Reads as keyboard_fits_reads
+use Rattle.keys.proofs.keyboard.Keyboard.fresh.Kinds as keys_fresh_kinds
+use Rattle.keys.proofs.keyboard.Keyboard.fresh.Reads as keys_fresh_reads
+use Rattle.keys.proofs.keyboard.Keyboard.press.Kinds as keys_press_kinds
+use Rattle.keys.proofs.keyboard.Keyboard.press.Reads as keys_press_reads
+use Rattle.keys.proofs.keyboard.Keyboard.get.Kinds as keys_get_kinds
+use Rattle.keys.proofs.keyboard.Keyboard.get.Reads as keys_get_reads
 use Rattle.keys.proofs.Decided as keys
-use Rattle.keyboard.proofs.Decided as keyboard
 use Rattle.cells.proofs.is_mode.Kinds as cells_is_mode_kinds
 use Rattle.cells.proofs.is_mode.Reads as cells_is_mode_reads
 use Rattle.cells.proofs.shape_of.Kinds as cells_shape_of_kinds
@@ -385,10 +380,6 @@ use Rattle.devices.proofs.fresh.fresh.Kinds as devices_fresh_kinds
 use Rattle.devices.proofs.fresh.fresh.Reads as devices_fresh_reads
 use Rattle.devices.proofs.numbers.console_of.Kinds as devices_console_of_kinds
 use Rattle.devices.proofs.numbers.console_of.Reads as devices_console_of_reads
-use Rattle.devices.proofs.numbers.read.Kinds as devices_read_console_kinds
-use Rattle.devices.proofs.numbers.read.Reads as devices_read_console_reads
-use Rattle.devices.proofs.numbers.press.Kinds as devices_press_kinds
-use Rattle.devices.proofs.numbers.press.Reads as devices_press_reads
 use Rattle.devices.proofs.numbers.set_console.Kinds as devices_set_console_kinds
 use Rattle.devices.proofs.numbers.set_console.Reads as devices_set_console_reads
 use Rattle.devices.proofs.numbers.printer_of.Kinds as devices_printer_of_kinds
@@ -492,15 +483,10 @@ handler_decided =
 pub keys_decided : Promises
 keys_decided =
     promise keys_entry_kinds.ps keys_entry_kinds.r keys_entry_reads.Pre keys_entry_reads.Learnt keys.entry_decides keys.entry_allows (
-    promise keys_translate_kinds.ps keys_translate_kinds.r keys_translate_reads.Pre keys_translate_reads.Learnt keys.translate_decides keys.translate_allows handler_decided)
-
-pub keyboard_decided : Promises
-keyboard_decided =
-    promise keyboard_fresh_kinds.ps keyboard_fresh_kinds.r keyboard_fresh_reads.Pre keyboard_fresh_reads.Learnt keyboard.fresh_decides keyboard.fresh_allows (
-    promise keyboard_full_kinds.ps keyboard_full_kinds.r keyboard_full_reads.Pre keyboard_full_reads.Learnt keyboard.full_decides keyboard.full_allows (
-    promise keyboard_press_kinds.ps keyboard_press_kinds.r keyboard_press_reads.Pre keyboard_press_reads.Learnt keyboard.press_decides keyboard.press_allows (
-    promise keyboard_get_kinds.ps keyboard_get_kinds.r keyboard_get_reads.Pre keyboard_get_reads.Learnt keyboard.get_decides keyboard.get_allows (
-    promise keyboard_fits_kinds.ps keyboard_fits_kinds.r keyboard_fits_reads.Pre keyboard_fits_reads.Learnt keyboard.fits_decides keyboard.fits_allows keys_decided))))
+    promise keys_translate_kinds.ps keys_translate_kinds.r keys_translate_reads.Pre keys_translate_reads.Learnt keys.translate_decides keys.translate_allows (
+    promise keys_fresh_kinds.ps keys_fresh_kinds.r keys_fresh_reads.Pre keys_fresh_reads.Learnt keys.fresh_decides keys.fresh_allows (
+    promise keys_press_kinds.ps keys_press_kinds.r keys_press_reads.Pre keys_press_reads.Learnt keys.press_decides keys.press_allows (
+    promise keys_get_kinds.ps keys_get_kinds.r keys_get_reads.Pre keys_get_reads.Learnt keys.get_decides keys.get_allows handler_decided))))
 
 pub cells_decided : Promises
 cells_decided =
@@ -516,7 +502,7 @@ cells_decided =
     promise cells_scroll_by_kinds.ps cells_scroll_by_kinds.r cells_scroll_by_reads.Pre cells_scroll_by_reads.Learnt cells.scroll_by_decides cells.scroll_by_allows (
     promise cells_paint_kinds.ps cells_paint_kinds.r cells_paint_reads.Pre cells_paint_reads.Learnt cells.paint_decides cells.paint_allows (
     promise cells_reduce_all_kinds.ps cells_reduce_all_kinds.r cells_reduce_all_reads.Pre cells_reduce_all_reads.Learnt cells.reduce_all_decides cells.reduce_all_allows (
-    promise cells_shift_kinds.ps cells_shift_kinds.r cells_shift_reads.Pre cells_shift_reads.Learnt cells.shift_decides cells.shift_allows keyboard_decided))))))))))))
+    promise cells_shift_kinds.ps cells_shift_kinds.r cells_shift_reads.Pre cells_shift_reads.Learnt cells.shift_decides cells.shift_allows keys_decided))))))))))))
 
 pub editor_decided : Promises
 editor_decided =
@@ -731,11 +717,9 @@ devices_decided =
     promise devices_special_kinds.ps devices_special_kinds.r devices_special_reads.Pre devices_special_reads.Learnt devices.special_decides devices.special_allows (
     promise devices_fresh_kinds.ps devices_fresh_kinds.r devices_fresh_reads.Pre devices_fresh_reads.Learnt devices.fresh_decides devices.fresh_allows (
     promise devices_console_of_kinds.ps devices_console_of_kinds.r devices_console_of_reads.Pre devices_console_of_reads.Learnt devices.console_of_decides devices.console_of_allows (
-    promise devices_read_console_kinds.ps devices_read_console_kinds.r devices_read_console_reads.Pre devices_read_console_reads.Learnt devices.read_console_decides devices.read_console_allows (
-    promise devices_press_kinds.ps devices_press_kinds.r devices_press_reads.Pre devices_press_reads.Learnt devices.press_decides devices.press_allows (
     promise devices_set_console_kinds.ps devices_set_console_kinds.r devices_set_console_reads.Pre devices_set_console_reads.Learnt devices.set_console_decides devices.set_console_allows (
     promise devices_printer_of_kinds.ps devices_printer_of_kinds.r devices_printer_of_reads.Pre devices_printer_of_reads.Learnt devices.printer_of_decides devices.printer_of_allows (
-    promise devices_set_printer_kinds.ps devices_set_printer_kinds.r devices_set_printer_reads.Pre devices_set_printer_reads.Learnt devices.set_printer_decides devices.set_printer_allows drives_decided)))))))))))))))))
+    promise devices_set_printer_kinds.ps devices_set_printer_kinds.r devices_set_printer_reads.Pre devices_set_printer_reads.Learnt devices.set_printer_decides devices.set_printer_allows drives_decided)))))))))))))))
 
 pub judge_decided : Promises
 judge_decided =

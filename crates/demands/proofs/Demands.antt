@@ -7,7 +7,6 @@ use Prim.Native.Nat.{ℕ}
 use native.Mathlib.Omega.{arith}
 use lib.ListN.{length, take}
 use Rattle.image.proofs.Chain.{chain_rule}
-use Rattle.console.proofs.Back.{key_rule}
 use Rattle.disk.proofs.Opens.{open_rule}
 use Rattle.disk.proofs.Reading.{read_warns}
 use Rattle.disk.proofs.Chains.{file_gives}
@@ -76,7 +75,6 @@ demands = record {
   undamaged = always_undamaged;
   never_3 = never_3;
   kept = kept;
-  keys_in_order = key_rule;
   disk_warns = λ place images l. read_warns place images l;
   opens = λ asked place images l. open_rule asked place images l;
   chains = λ images unit file first. chain_rule images unit file 719 first;

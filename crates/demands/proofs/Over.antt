@@ -16,7 +16,7 @@ use Rattle.layout.specs.Stick.{Stick, fresh_stick, Lent, lent}
 use Rattle.layout.specs.Layout.{head_of}
 use Rattle.layout.specs.Stands.{stands}
 use Rattle.layout.proofs.Lengths.{head_length}
-use Rattle.layout.proofs.Ports.{own_count, own_ring, own_pending, own_places_lem}
+use Rattle.layout.proofs.Ports.{own_count, own_pending, own_places_lem}
 use Rattle.damage.specs.Fits.{stick_fits}
 use Rattle.calls.specs.Stick.{Outcome, refused}
 use Rattle.calls.specs.Calls.{fresh_call, take_call, tick_call, give_call, press_call}
@@ -35,7 +35,7 @@ use Rattle.demands.proofs.Bytes.{lengths_true, over_done, over_stray, over_short
 
 -- what the definitions come to, of one call of a stick; Ok is what it asks of the numbers that it is given
 pub record Ruled (call : Stick → Lent → Outcome) (Answers : Stick → Lent → ℕ → Type 0) (Ok : Type 0) : Type 0 where
-  pub most : (s : Stick) (l : Lent) → (call s l).answer ≤ 9
+  pub most : (s : Stick) (l : Lent) → (call s l).answer ≤ 8
   pub answers : (s : Stick) (l : Lent) → Answers s l (call s l).answer
   pub two : (s : Stick) (l : Lent) → (call s l).answer ≡ 2 → OtherLength l
   pub three : (s : Stick) (l : Lent) → ((call s l).answer ≡ 3) ↔ Damaged s l
@@ -94,7 +94,7 @@ ComesBack b = Lengths b → stands b.state ≡ true → head_of (stick_by b) ++ 
 -- and so of what is left over bytes: "Numbers 1 to 8 change nothing", and a call that is done leaves what an undamaged stick is
 -- written as; no call changes an image
 pub record LeftRuled (b : Buffers) (Ok : Type 0) (l : Left) : Type 0 where
-  pub low : l.answer ≤ 9
+  pub low : l.answer ≤ 8
   pub stays : ComesBack b → (l.answer ≡ 0 → ⊥) → l ≡ left_alone l.answer b
   pub kept : Ok → l.answer ≡ 0 → UndamagedState l.buffers
   pub images : l.buffers.images ≡ b.images
@@ -109,7 +109,7 @@ left_undamaged o e =
       written = sym (ap (λ (xs : List ℕ). head_of o.stick ++ xs) r);
     }
 
-refused_ruled : (b : Buffers) (Ok : Type 0) (n : ℕ) → 1 ≤ n → n ≤ 9 → LeftRuled b Ok (left_alone n b)
+refused_ruled : (b : Buffers) (Ok : Type 0) (n : ℕ) → 1 ≤ n → n ≤ 8 → LeftRuled b Ok (left_alone n b)
 refused_ruled b Ok n h m =
     record { low = m; stays = λ w z. refl; kept = λ k z. let e : n ≡ 0 = z in absurd (omega (arith, e, h)); images = refl }
 
@@ -117,7 +117,7 @@ refused_ruled b Ok n h m =
 shaped_by : (b : Buffers) → Lengths b → Shaped (stick_by b)
 shaped_by b f =
     let long : rooms_place ≤ length b.state = omega (arith, f.long) in
-    record { table0 = own_count 0 (omega arith) b.state; table1 = own_count 1 (omega arith) b.state; ring = own_ring b.state long; pending = own_pending b.state long; places = own_places_lem b.state long }
+    record { table0 = own_count 0 (omega arith) b.state; table1 = own_count 1 (omega arith) b.state; pending = own_pending b.state long; places = own_places_lem b.state long }
 
 -- by the two tests
 module _ (call : Stick → Lent → Outcome) (b : Buffers) where
@@ -213,9 +213,9 @@ module _ (b : Buffers) where
   unfolding give_bytes
   give_left port = over_left _ b _ _ (give_ruled port)
 
-  pub press_left_lem : (code : ℕ) → LeftRuled b (Unit {0}) (press_bytes b code)
+  pub press_left : (code : ℕ) → LeftRuled b (Unit {0}) (press_bytes b code)
   unfolding press_bytes
-  press_left_lem code = over_left _ b _ _ (press_ruled code)
+  press_left code = over_left _ b _ _ (press_ruled code)
 
   -- fresh start
   fresh_by : (P : Left → Type 0) → ((Lengths b → ⊥) → P (left_alone 2 b))

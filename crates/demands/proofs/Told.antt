@@ -17,7 +17,7 @@ use Rattle.demands.specs.Bytes.{left_by, bytes, UndamagedState}
 use Rattle.demands.specs.Told.{lends, leaves, answer_in, reply_byte_in, GiveCall, port_named, byte_offered, code_pressed, AnyCall, any_fresh, any_take, any_tick, any_give, any_press, CallByC, by_take, by_tick, by_give, by_press, returned_by}
 use Rattle.demands.specs.Demand1.{BytesAnswers, FreshBytesAnswers, Exactly, OffersByte}
 use Rattle.demands.proofs.Bytes.{always_undamaged}
-use Rattle.demands.proofs.Over.{ComesBack, LeftRuled, take_exact, tick_exact, give_exact, press_exact, fresh_exact, take_left, tick_left, give_left, press_left_lem, fresh_left}
+use Rattle.demands.proofs.Over.{ComesBack, LeftRuled, take_exact, tick_exact, give_exact, press_exact, fresh_exact, take_left, tick_left, give_left, press_left, fresh_left}
 
 -- what is left, as it is told of by the number that is returned
 pub record Tells (l : Left) (r : Returned) : Type 0 where
@@ -25,19 +25,19 @@ pub record Tells (l : Left) (r : Returned) : Type 0 where
   pub byte : l.byte ≡ 0 → r.number ≡ answer_in r
   pub buffers : r.buffers ≡ l.buffers
 
-low_is : (n : ℕ) → n ≤ 9 → n % 256 ≡ n
+low_is : (n : ℕ) → n ≤ 8 → n % 256 ≡ n
 low_is n h = omega arith
 
-both_low : (a c : ℕ) → a ≤ 9 → (a + 256 * c) % 256 ≡ a
+both_low : (a c : ℕ) → a ≤ 8 → (a + 256 * c) % 256 ≡ a
 both_low a c h = omega arith
 
-both_high : (a c : ℕ) → a ≤ 9 → (a + 256 * c) / 256 ≡ c
+both_high : (a c : ℕ) → a ≤ 8 → (a + 256 * c) / 256 ≡ c
 both_high a c h = omega arith
 
-one_tells : (l : Left) → l.answer ≤ 9 → Tells l (answer_of l)
+one_tells : (l : Left) → l.answer ≤ 8 → Tells l (answer_of l)
 one_tells l h = record { answer = low_is l.answer h; byte = λ z. sym (low_is l.answer h); buffers = refl }
 
-both_tells : (l : Left) → l.answer ≤ 9 → Tells l (both_of l)
+both_tells : (l : Left) → l.answer ≤ 8 → Tells l (both_of l)
 both_tells l h = record {
   answer = both_low l.answer l.byte h;
   byte = λ z. let e = both_low l.answer l.byte h in omega (arith, z, e);
@@ -61,7 +61,7 @@ left_by_lem (any_fresh o) = of_answer (fresh_left (lends o)) o.told
 left_by_lem (any_take o) = of_answer (take_left (lends o) (port_named o) (byte_offered o)) o.told
 left_by_lem (any_tick o) = of_answer (tick_left (lends o) (port_named o)) o.told
 left_by_lem (any_give o) = of_both (give_left (lends o) (port_named o)) o.told
-left_by_lem (any_press o) = of_answer (press_left_lem (lends o) (code_pressed o)) o.told
+left_by_lem (any_press o) = of_answer (press_left (lends o) (code_pressed o)) o.told
 
 -- "each is given exactly then"
 pub exact : {b : Buffers} {r : Returned} (c : AnyCall b r) → Exactly c
@@ -127,7 +127,7 @@ never_3 {b} r (any_tick o) e =
     ((exact (any_tick o)).damaged.0 (k ∙ e)).unsound (always_undamaged b r)
 never_3 {b} r (any_give o) e = ((exact (any_give o)).damaged.0 e).unsound (always_undamaged b r)
 never_3 {b} r (any_press o) e =
-    let k = alone_low (press_left_lem (lends o) (code_pressed o)) o.told in
+    let k = alone_low (press_left (lends o) (code_pressed o)) o.told in
     ((exact (any_press o)).damaged.0 (k ∙ e)).unsound (always_undamaged b r)
 
 -- 2 is a length's

@@ -43,7 +43,6 @@ use Rattle.firmware.proofs.fixlomand_doctor.Kinds as doctor_kinds
 use Rattle.firmware.proofs.fixlomand_doctor.Reads as doctor_reads
 use Rattle.serial.specs.Core.{CoreCall, number}
 use Rattle.serial.specs.Run.{OkCalls, Begun, Reached, after, begin}
-use Rattle.console.specs.Back.{KeyRule}
 use Rattle.serial.specs.Reading.{OneReading}
 use Rattle.serial.specs.Demand1.{Demand1}
 use Rattle.serial.specs.Demand2.{Demand2}
@@ -74,8 +73,8 @@ pub record Demands : Type 0 where
   pub press_open : Open press_kinds.ps press_kinds.r press_reads.Pre press_reads.Learnt
   pub translate_open : Open translate_kinds.ps translate_kinds.r translate_reads.Pre translate_reads.Learnt
   pub exactly : {b : Buffers} {r : Returned} (c : AnyCall b r) → Exactly c
-  -- "Numbers 1 to 8 change nothing", and 9: "queue full, and changes nothing"; "A byte beside a refusal is 0.": every byte of every buffer
-  -- stays. That a lent state is made of bytes is its type's.
+  -- "Numbers 1 to 8 change nothing"; "A byte beside a refusal is 0.": every byte of every buffer stays. That a lent state is made
+  -- of bytes is its type's.
   pub still : {b : Buffers} {r : Returned} → AnyCall b r → Bytes b.state → (answer_in r ≡ 0 → ⊥) → r ≡ returned (answer_in r) b
   -- the answer and the reply byte can be told apart in the number that C is given
   pub give_says : (o : GiveCall)
@@ -119,9 +118,6 @@ pub record Demands : Type 0 where
   pub fits_in : (s : Stick) (l : Lent) → Typed s → stick_fits s l ≡ true → InBytes s
   pub one_head : (x y : List ℕ) → Bytes x → Bytes y → length x ≡ state_length → length y ≡ state_length
       → stands x ≡ true → stands y ≡ true → stick_in x ≡ stick_in y → take rooms_place x ≡ take rooms_place y
-  -- Document 02, Ask 6: "Replace the single stored key by a queue of sixteen; places are used again after reading.": of K as CIO calls it, first
-  -- in, first out, and each GET by key translation alone
-  pub keys_in_order : KeyRule
   -- Document 02, Ask 12: "$03 and $88 come as from tape.", of each read of D that gives a character
   pub disk_warns : (place images : List ℕ) → length place ≡ place_length → ReadWarns place images
   -- "The first match opens, none is $AA": what an opening answers and leaves at its block's place

@@ -2,7 +2,7 @@
 -- Assumes nothing.
 use mathlib.Core.Path.{◌≡◌, ◌∙◌, refl, sym, ap}
 use mathlib.Core.List.{List, ◌++◌}
-use mathlib.Core.Bool.{Bool, true, false}
+use mathlib.Core.Bool.{false}
 use Prim.Native.Nat.{ℕ, ◌+◌, ◌-◌, ◌≤◌, ◌<◌}
 use native.Mathlib.Nat.{add-zero}
 use native.Mathlib.Omega.{arith}
@@ -10,9 +10,8 @@ use lib.Dec.{eqb}
 use borrow.Author.Tests.{lt-ltb, le-ltb}
 use lib.ListN.{length, take, drop, replicate, length-drop, take-append-drop}
 use lib.Seq.{sets}
-use Rattle.base.specs.Parts.{part}
 use Rattle.base.proofs.Lists.{part_tail, back_tail}
-use Rattle.base.proofs.Parts.{cat, take_before, drop_into, part_length}
+use Rattle.base.proofs.Parts.{cat, take_before, drop_into}
 use Rattle.handler.specs.declared.Asked.{Asked}
 use Rattle.handler.specs.declared.Got.{Got}
 use Rattle.handler.specs.declared.Got.TheVariants as got
@@ -22,34 +21,29 @@ use Rattle.handler.specs.Answer.{Answer, answer, seen}
 use Rattle.blocks.specs.declared.Device.{Device}
 use Rattle.console.specs.declared.Handler.{Handler}
 use Rattle.console.specs.declared.state.Console.{Console}
-use Rattle.keyboard.specs.Queue.{ring_length, full_of, fresh_ring}
-use Rattle.keyboard.proofs.Keeps.{press_places}
-use Rattle.console.specs.Group.{ConsoleGroup, group, Display, display, display_of, with_display, Keyed, keyed, queue_of, pressed_of, fresh_group}
+use Rattle.console.specs.Group.{ConsoleGroup, group, fresh_group}
 use Rattle.console.specs.Handlers as console
-use Rattle.console.proofs.Keeps.{read_places}
 use Rattle.printer.specs.declared.Printer.{Printer}
 use Rattle.printer.specs.Printer.{printer_group, fresh_printer}
 use Rattle.printer.specs.Printer as printer
 use Rattle.cassette.specs.Cassette.{fresh_cassette}
 use Rattle.cassette.specs.Cassette as cassette
-use Rattle.layout.specs.Places.{console_place, ring_place, printer_place, printer_length, pending_length, devices_length, Numbers}
+use Rattle.layout.specs.Places.{console_place, printer_place, printer_length, pending_length, devices_length, Numbers}
 use Rattle.layout.specs.Stick.{devices}
-use Rattle.layout.specs.Layout.{console_bytes, printer_bytes, cassette_bytes, array_bytes, devices_bytes, console_in, printer_in, array_in}
+use Rattle.layout.specs.Layout.{console_bytes, printer_bytes, cassette_bytes, array_bytes, devices_bytes, console_in, printer_in}
 use Rattle.layout.specs.InBytes.{Bytes}
 use Rattle.disk.specs.Disk.{fresh_places}
 use Rattle.disk.specs.Disk as disk
 use Rattle.drives.specs.Drives.{disk_lent, get_disk, put_disk}
 use Rattle.drives.proofs.Laws.{place_still}
 use Rattle.recorder.specs.Recorder.{tape_lent, get_tape, put_tape}
-use Rattle.layout.proofs.Lengths.{console_length_lem}
-use Rattle.layout.proofs.Arrays.{sets_part, numbers_alone, array_first}
-use Rattle.recorder.proofs.Laws.{tape_still}
+use Rattle.recorder.proofs.Laws.{sets_part, tape_still}
 use Rattle.devices.specs.declared.Group.{Group}
 use Rattle.devices.specs.declared.Group.TheVariants as groups
 use Rattle.devices.specs.declared.Owner.{Owner}
 use Rattle.devices.specs.declared.Owner.TheVariants as owner
 use Rattle.devices.specs.Groups.{group_number, clash, owner_of}
-use Rattle.devices.specs.Lent.{DevicesLent, devices_lent, printer_with, ConsoleLent, console_lent, get_console, put_console, press_left, press_in, with_screen, with_tape, with_disk, get_lent, put_lent, lent_acts, lent_of, fresh_groups, Lends, Shows, Freshens}
+use Rattle.devices.specs.Lent.{DevicesLent, devices_lent, printer_with, with_tape, with_disk, get_lent, put_lent, lent_acts, lent_of, fresh_groups, Lends, Freshens}
 use Rattle.layout.proofs.WriteRead.{bytes_drop, printer_back, Known, bytes_of}
 
 -- the numbers of two groups compared
@@ -84,88 +78,34 @@ printer_still b w h =
     let l : printer_length ≤ length (drop printer_place b) = simp length-drop (omega (arith, h.long)) in
     ap (sets b printer_place) (printer_back (drop printer_place b) (bytes_drop printer_place b w) l) ∙ sets_part printer_place printer_length b (omega (arith, h.long))
 
--- the console's numbers are written back, its keys' places as they were or through their part
-module _ (b : List ℕ) (r : Numbers b) where
-  abbrev ring : List ℕ
-  ring = array_in ring_length (drop ring_place b)
-
-  ring_fits : ring_place + ring_length ≤ length b
-  ring_fits = omega (arith, r.long)
-
-  behind : (c : Console) → length (console_bytes c) + console_place ≡ ring_place
-  behind c = ap (λ (k : ℕ). k + console_place) (console_length_lem c)
-
-  put_console_lem : (c : Console) (t : List ℕ) → console_lent (sets b console_place (console_bytes c)) t ≡ put_console b (group c ring t)
-  put_console_lem c t = ap (λ (x : List ℕ). console_lent x t) (sym (numbers_alone b (console_bytes c) console_place ring_place ring_length (behind c) ring_fits))
-
-pub read_law : (b after screen : List ℕ) → Shows b screen → (h : Handler) (c n : Console) (t keys : List ℕ) (x : Got) → c ≡ console_in (drop console_place b)
-    → answer x (group n keys t) ≡ console.read_of h (group c (part ring_place ring_length b) screen)
-    → after ≡ sets (take ring_place b ++ (keys ++ drop ring_length (drop ring_place b))) console_place (console_bytes n)
-    → answer x (console_lent after t) ≡ seen (put_console b) (console.read_of h (get_console b screen))
-read_law b after screen s h c n t keys x in_c q in_n =
-    let l : length keys ≡ ring_length =
-    ap (λ (y : Answer Got ConsoleGroup). length y.leaves.ring) q ∙ read_places h (group c (part ring_place ring_length b) screen) ∙ part_length ring_place ring_length b (ring_fits b s.all) in
-    rw in_n (ap (λ (y : List ℕ). answer x (console_lent y t)) (array_first b (console_bytes n) console_place ring_place ring_length (behind b s.all n) (ring_fits b s.all) keys l))
-    ∙ ap (seen (put_console b)) (q ∙ ap (λ (y : Console). console.read_of h (group y (ring b s.all) screen)) in_c)
-
--- a press
-module _ (code : ℕ) (b : List ℕ) (r : Numbers b) (c : Console) (full : Bool) (in_c : c ≡ console_in (drop console_place b)) (is : full ≡ full_of c.keyboard) where
-  full_is : full ≡ full_of (console_in (drop console_place b)).keyboard
-  full_is = is ∙ ap (λ (x : Console). full_of x.keyboard) in_c
-
-  pub press_refused : full ≡ true → press_left 9 b ≡ press_in code b
-  unfolding press_in
-  press_refused e = rw (← full_is, e)
-
-  pub press_stored : (n : Console) (keys after : List ℕ) → full ≡ false → keyed n keys ≡ pressed_of code (keyed c (part ring_place ring_length b))
-      → after ≡ sets (take ring_place b ++ (keys ++ drop ring_length (drop ring_place b))) console_place (console_bytes n) → press_left 0 after ≡ press_in code b
-  unfolding press_in
-  press_stored n keys after e q in_n =
-      let l : length keys ≡ ring_length =
-      ap (λ (y : Keyed). length y.ring) q ∙ press_places code (queue_of (keyed c (part ring_place ring_length b))) ∙ part_length ring_place ring_length b (ring_fits b r) in
-      rw (← full_is, e)
-      (ap (press_left 0)
-      (in_n ∙ array_first b (console_bytes n) console_place ring_place ring_length (behind b r n) (ring_fits b r) keys l
-      ∙ ap (λ (y : Keyed). sets b console_place (console_bytes y.console ++ array_bytes ring_length y.ring)) (q ∙ ap (λ (y : Console). pressed_of code (keyed y (part ring_place ring_length b))) in_c)))
-
 module _ (d : Device) (asked : Asked) (o : Owner) (own : o ≡ owner_of d) (b after screen paper tape images : List ℕ) where
   abbrev lent : DevicesLent
   lent = devices_lent b screen paper tape images
 
-  module _ (h : Handler) (is : o ≡ owner.Console h) (r : Lends b screen tape) where
-    module _ (c n : Console) (t : List ℕ) (in_c : c ≡ console_in (drop console_place b)) where
-      module _ (in_n : after ≡ sets b console_place (console_bytes n)) where
-        display_arm : (f : Display → Answer Done Display) (x : Done) → answer x (display n t) ≡ f (display c screen)
-            → answer x (devices_lent after t paper tape images) ≡ seen (put_lent groups.Console lent) (seen (with_display (get_lent groups.Console lent)) (f (display_of (get_lent groups.Console lent))))
-        display_arm f x q =
-            rw in_n (ap (λ (y : ConsoleLent). answer x (with_screen lent y)) (put_console_lem b r.all n t))
-            ∙ ap (λ (y : Answer Done Display). seen (put_lent groups.Console lent) (seen (with_display (get_lent groups.Console lent)) y)) (q ∙ ap (λ (y : Console). f (display y screen)) in_c)
+  module _ (h : Handler) (is : o ≡ owner.Console h) (c n : Console) (t : List ℕ) (in_c : c ≡ console_in (drop console_place b)) (in_n : after ≡ sets b console_place (console_bytes n)) where
+    console_arm : {A : Type 0} (f : ConsoleGroup → Answer A ConsoleGroup) (x : A) → answer x (group n t) ≡ f (group c screen)
+        → answer x (devices_lent after t paper tape images) ≡ seen (put_lent groups.Console lent) (f (get_lent groups.Console lent))
+    console_arm f x q = rw in_n (ap (seen (put_lent groups.Console lent)) (q ∙ ap (λ (y : Console). f (group y screen)) in_c))
 
-        pub open_console : (x : Done) → answer x (display n t) ≡ console.open_on h asked.aux1 asked.aux2 (display c screen) → answer x (devices_lent after t paper tape images) ≡ (lent_acts d asked).opens lent
-        unfolding console.open_of
-        open_console x q = rw (← own, is) (display_arm (console.open_on h asked.aux1 asked.aux2) x q)
+    pub open_console : (x : Done) → answer x (group n t) ≡ console.open_of h asked.aux1 asked.aux2 (group c screen) → answer x (devices_lent after t paper tape images) ≡ (lent_acts d asked).opens lent
+    open_console x q = rw (← own, is) (console_arm (console.open_of h asked.aux1 asked.aux2) x q)
 
-        pub prepare_console : (x : Done) → answer x (display n t) ≡ console.prepare_on h (display c screen) → answer x (devices_lent after t paper tape images) ≡ (lent_acts d asked).prepares lent
-        unfolding console.prepare_of
-        prepare_console x q = rw (← own, is) (display_arm (console.prepare_on h) x q)
+    pub prepare_console : (x : Done) → answer x (group n t) ≡ console.prepare_of h (group c screen) → answer x (devices_lent after t paper tape images) ≡ (lent_acts d asked).prepares lent
+    prepare_console x q = rw (← own, is) (console_arm (console.prepare_of h) x q)
 
-        pub write_console : (byte : ℕ) (x : Done) → answer x (display n t) ≡ console.write_on h byte (display c screen) → answer x (devices_lent after t paper tape images) ≡ (lent_acts d asked).writes byte lent
-        unfolding console.write_of
-        write_console byte x q = rw (← own, is) (display_arm (console.write_on h byte) x q)
+    pub read_console : (x : Got) → answer x (group n t) ≡ console.read_of h (group c screen) → answer x (devices_lent after t paper tape images) ≡ (lent_acts d asked).reads lent
+    read_console x q = rw (← own, is) (console_arm (console.read_of h) x q)
 
-    module _ (c : Console) (in_c : c ≡ console_in (drop console_place b)) (in_n : after ≡ sets b console_place (console_bytes c)) where
-      as_it_was : devices_lent after screen paper tape images ≡ put_lent groups.Console lent (get_lent groups.Console lent)
-      as_it_was = rw in_n (ap (with_screen lent) (put_console_lem b r.all c screen)) ∙ ap (λ (y : Console). put_lent groups.Console lent (group y (ring b r.all) screen)) in_c
-
-      pub close_console : devices_lent after screen paper tape images ≡ (lent_acts d asked).closes lent
-      close_console = rw (← own, is) as_it_was
-
-      pub special_console : answer (done.Refused 0x84) (devices_lent after screen paper tape images) ≡ (lent_acts d asked).specials lent
-      special_console = rw (← own, is) (ap (answer (done.Refused 0x84)) as_it_was)
+    pub write_console : (byte : ℕ) (x : Done) → answer x (group n t) ≡ console.write_of h byte (group c screen) → answer x (devices_lent after t paper tape images) ≡ (lent_acts d asked).writes byte lent
+    write_console byte x q = rw (← own, is) (console_arm (console.write_of h byte) x q)
 
   module _ (h : Handler) (is : o ≡ owner.Console h) where
-    pub read_console : (t : List ℕ) (x : Got) → answer x (console_lent after t) ≡ seen (put_console b) (console.read_of h (get_console b screen)) → answer x (devices_lent after t paper tape images) ≡ (lent_acts d asked).reads lent
-    read_console t x q = rw (← own, is) (ap (seen (with_screen lent)) q)
+    module _ (c : Console) (in_c : c ≡ console_in (drop console_place b)) (in_n : after ≡ sets b console_place (console_bytes c)) where
+      pub close_console : devices_lent after screen paper tape images ≡ (lent_acts d asked).closes lent
+      close_console = rw (in_n, in_c, ← own, is)
+
+      pub special_console : answer (done.Refused 0x84) (devices_lent after screen paper tape images) ≡ (lent_acts d asked).specials lent
+      special_console = rw (in_n, in_c, ← own, is)
 
     pub status_console : done.Success ≡ (lent_acts d asked).statuses lent
     status_console = rw (← own, is)
@@ -256,14 +196,14 @@ module _ (numbers screen : List ℕ) (f : Freshens numbers screen) where
   pub freshens_long : Numbers numbers
   freshens_long = record { long = omega (arith, f.exact) }
 
-  -- of the keys' places, a fresh printer and a fresh cassette every byte is 0
-  zeros : (c : Console) → sets (replicate devices_length 0) console_place (console_bytes c) ≡ devices_bytes (devices c fresh_ring fresh_printer fresh_cassette (replicate pending_length 0) fresh_places)
+  -- of a fresh printer and a fresh cassette every byte is 0
+  zeros : (c : Console) → sets (replicate devices_length 0) console_place (console_bytes c) ≡ devices_bytes (devices c fresh_printer fresh_cassette (replicate pending_length 0) fresh_places)
   unfolding devices_bytes console_bytes printer_bytes cassette_bytes array_bytes
   zeros c = refl
 
-  pub fresh_law : (c : Console) (mid after screen' paper tape images : List ℕ) → mid ≡ replicate (length numbers) 0 → display c screen' ≡ display_of fresh_group → after ≡ sets mid console_place (console_bytes c)
+  pub fresh_law : (c : Console) (mid after screen' paper tape images : List ℕ) → mid ≡ replicate (length numbers) 0 → group c screen' ≡ fresh_group → after ≡ sets mid console_place (console_bytes c)
       → devices_lent after screen' paper tape images ≡ lent_of (fresh_groups paper tape images)
   fresh_law c mid after screen' paper tape images m q a =
       ap (λ (x : List ℕ). devices_lent x screen' paper tape images)
       (a ∙ ap (λ (x : List ℕ). sets x console_place (console_bytes c)) (m ∙ ap (λ (k : ℕ). replicate k 0) f.exact) ∙ zeros c)
-      ∙ ap (λ (x : Display). devices_lent (devices_bytes (devices x.console fresh_ring fresh_printer fresh_cassette (replicate pending_length 0) fresh_places)) x.screen paper tape images) q
+      ∙ ap (λ (x : ConsoleGroup). devices_lent (devices_bytes (devices x.console fresh_printer fresh_cassette (replicate pending_length 0) fresh_places)) x.screen paper tape images) q

@@ -7,7 +7,7 @@ use Rattle.base.specs.Decides.{Decides, Allows}
 use Rattle.handler.specs.declared.Got.{Got}
 use Rattle.handler.specs.declared.Done.{Done}
 use Rattle.handler.specs.Answer.{Answer, answer}
-use Rattle.devices.specs.Lent.{DevicesLent, ConsoleLent, PressLeft, devices_lent, lent_acts}
+use Rattle.devices.specs.Lent.{DevicesLent, devices_lent, lent_acts}
 use Rattle.devices.proofs.Images.{images_kept, left_with}
 use Rattle.devices.proofs.owner_of.Kinds as owner_of_kinds
 use Rattle.devices.proofs.owner_of.Reads as owner_of_reads
@@ -37,10 +37,6 @@ use Rattle.devices.proofs.numbers.console_of.Kinds as console_of_kinds
 use Rattle.devices.proofs.numbers.console_of.Reads as console_of_reads
 use Rattle.devices.proofs.numbers.set_console.Kinds as set_console_kinds
 use Rattle.devices.proofs.numbers.set_console.Reads as set_console_reads
-use Rattle.devices.proofs.numbers.read.Kinds as read_console_kinds
-use Rattle.devices.proofs.numbers.read.Reads as read_console_reads
-use Rattle.devices.proofs.numbers.press.Kinds as press_kinds
-use Rattle.devices.proofs.numbers.press.Reads as press_reads
 use Rattle.devices.proofs.numbers.printer_of.Kinds as printer_of_kinds
 use Rattle.devices.proofs.numbers.printer_of.Reads as printer_of_reads
 use Rattle.devices.proofs.numbers.set_printer.Kinds as set_printer_kinds
@@ -147,18 +143,6 @@ set_console_decides κs a z z' ws ws' p e e' = (refl, ap (λ (l : List ℕ). (l,
 
 pub set_console_allows : Allows set_console_kinds.ps set_console_kinds.r set_console_reads.Pre set_console_reads.Learnt
 set_console_allows κs a p = (_, (_, refl))
-
-pub read_console_decides : Decides read_console_kinds.ps read_console_kinds.r read_console_reads.Pre read_console_reads.Learnt
-read_console_decides κs a z z' ws ws' p e e' = let q = e ∙ sym e' in (ap (λ (w : Answer Got ConsoleLent). w.says) q, ap (λ (w : Answer Got ConsoleLent). (tt, (w.leaves.numbers, (w.leaves.screen, tt)))) q)
-
-pub read_console_allows : Allows read_console_kinds.ps read_console_kinds.r read_console_reads.Pre read_console_reads.Learnt
-read_console_allows κs a p = (_, (_, refl))
-
-pub press_decides : Decides press_kinds.ps press_kinds.r press_reads.Pre press_reads.Learnt
-press_decides κs a z z' ws ws' p e e' = let q = e ∙ sym e' in (ap (λ (w : PressLeft). w.answer) q, ap (λ (w : PressLeft). (w.numbers, (tt, tt))) q)
-
-pub press_allows : Allows press_kinds.ps press_kinds.r press_reads.Pre press_reads.Learnt
-press_allows κs a p = (_, (_, refl))
 
 pub printer_of_decides : Decides printer_of_kinds.ps printer_of_kinds.r printer_of_reads.Pre printer_of_reads.Learnt
 printer_of_decides κs a z z' ws ws' p e e' = (e ∙ sym e', refl)

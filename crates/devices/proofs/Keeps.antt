@@ -15,7 +15,7 @@ use Rattle.cells.proofs.Shapes.{shape_good}
 use Rattle.editor.specs.declared.ReadColumn.{ReadColumn}
 use Rattle.editor.specs.declared.ReadColumn.TheVariants.{Dropped, At}
 use Rattle.console.specs.declared.state.Console.{Console}
-use Rattle.console.specs.Fit.{cursor_fits, reading_fits, fit_of, FitGroup}
+use Rattle.console.specs.Fit.{cursor_fits, reading_fits, keys_fit, fit_of, FitGroup}
 use Rattle.layout.specs.InBytes.{ReadingInBytes}
 use Rattle.console.proofs.Keeps.{open_fit}
 use Rattle.cassette.proofs.Keeps as cassette_keeps
@@ -65,7 +65,7 @@ module _ (c : Console) (e : fit_of c ≡ true) where
   console_row =
       let a = is_mode c.mode in
       let b = cursor_fits c.mode c.row c.column in
-      let d = reading_fits c.reading in
+      let d = and (reading_fits c.reading) (keys_fit c.keyboard) in
       row_in c.mode c.row c.column (and_left b d (and_right a (and b d) e))
 
   pub console_reading : ReadingInBytes c.reading
@@ -74,10 +74,11 @@ module _ (c : Console) (e : fit_of c ≡ true) where
       let a = is_mode c.mode in
       let b = cursor_fits c.mode c.row c.column in
       let d = reading_fits c.reading in
-      reading_in_lem c.reading (and_right b d (and_right a (and b d) e))
+      let f = keys_fit c.keyboard in
+      reading_in_lem c.reading (and_left d f (and_right b (and d f) (and_right a (and b (and d f)) e)))
 
 pub goes_in : (o : Owner) (x : Part (group_in o)) → FitPart (group_in o) x → GoesIn (group_in o) x
-goes_in (owner.Console h) x f = (console_row x.console f.fit, (console_reading x.console f.fit, f.keys.places))
+goes_in (owner.Console h) x f = (console_row x.console f.fit, console_reading x.console f.fit)
 goes_in owner.Printer x f = tt
 goes_in owner.Cassette x f = f.pending
 goes_in owner.Disk x f = f.places

@@ -15,19 +15,18 @@ use Rattle.cells.proofs.Shapes.{shape_good}
 use Rattle.editor.specs.declared.ReadColumn.{ReadColumn}
 use Rattle.editor.specs.declared.ReadColumn.TheVariants.{Dropped, At}
 use Rattle.console.specs.declared.state.Console.{Console}
-use Rattle.keyboard.specs.Queue.{ring_length}
+use Rattle.console.specs.Group.{ConsoleGroup, group}
 use Rattle.console.specs.Fit.{FitGroup}
 use Rattle.printer.specs.declared.Printer.{Printer}
 use Rattle.printer.specs.Printer.{PrinterGroup, printer_group}
 use Rattle.cassette.specs.declared.Cassette.{Cassette}
 use Rattle.disk.specs.Disk.{places_length}
-use Rattle.layout.specs.Places.{console_place, ring_place, printer_place, cassette_place, pending_place, pending_length, disk_place}
+use Rattle.layout.specs.Places.{console_place, printer_place, cassette_place, pending_place, pending_length, disk_place}
 use Rattle.layout.specs.Stick.{Devices, devices}
 use Rattle.layout.specs.Layout.{console_bytes, printer_bytes, cassette_bytes, array_bytes, devices_bytes, console_in, printer_in, cassette_in, array_in}
 use Rattle.layout.specs.InBytes.{ReadingInBytes}
 use Rattle.layout.proofs.Lengths.{console_length_lem, printer_length_lem, cassette_length_lem, array_length}
-use Rattle.layout.proofs.Ports.{keyed_parts}
-use Rattle.layout.proofs.ReadWrite.{console_in_lem, ring_in, printer_in_lem, cassette_in_lem, pending_in, places_in_lem}
+use Rattle.layout.proofs.ReadWrite.{console_in_lem, printer_in_lem, cassette_in_lem, pending_in, places_in_lem}
 use Rattle.devices.specs.declared.Group.{Group}
 use Rattle.devices.specs.declared.Group.TheVariants as groups
 use Rattle.devices.specs.declared.Owner.{Owner}
@@ -42,9 +41,6 @@ module _ (d : Devices) where
   abbrev c0 : List ℕ
   c0 = console_bytes d.console
 
-  abbrev k0 : List ℕ
-  k0 = array_bytes ring_length d.ring
-
   abbrev u0 : List ℕ
   u0 = printer_bytes d.printer
 
@@ -57,56 +53,41 @@ module _ (d : Devices) where
   abbrev l0 : List ℕ
   l0 = array_bytes places_length d.places
 
-  ck_length : length (c0 ++ k0) ≡ printer_place
-  ck_length = simp (length-append, console_length_lem d.console, array_length ring_length d.ring)
+  consoles : (c : Console) → sets (devices_bytes d) console_place (console_bytes c) ≡ devices_bytes (devices c d.printer d.cassette d.pending d.places)
+  unfolding devices_bytes
+  consoles c = sets_over [] c0 (console_bytes c) (u0 ++ (t0 ++ (w0 ++ l0))) 0 refl (console_length_lem d.console ∙ sym (console_length_lem c))
 
-  keyed_length : (c : Console) (k : List ℕ) → length (c0 ++ k0) ≡ length (console_bytes c ++ array_bytes ring_length k)
-  keyed_length c k = simp (length-append, console_length_lem d.console, array_length ring_length d.ring, console_length_lem c, array_length ring_length k)
-
-  consoles : (c : Console) (k : List ℕ) → sets (devices_bytes d) console_place (console_bytes c ++ array_bytes ring_length k) ≡ devices_bytes (devices c k d.printer d.cassette d.pending d.places)
-  consoles c k =
-      let new = console_bytes c ++ array_bytes ring_length k in
-      ap (λ (x : List ℕ). sets x console_place new) (keyed_parts d)
-      ∙ sets_over [] (c0 ++ k0) new (u0 ++ (t0 ++ (w0 ++ l0))) 0 refl (keyed_length c k)
-      ∙ sym (keyed_parts (devices c k d.printer d.cassette d.pending d.places))
-
-  printers : (u : Printer) → sets (devices_bytes d) printer_place (printer_bytes u) ≡ devices_bytes (devices d.console d.ring u d.cassette d.pending d.places)
-  printers u =
-      ap (λ (x : List ℕ). sets x printer_place (printer_bytes u)) (keyed_parts d)
-      ∙ sets_over (c0 ++ k0) u0 (printer_bytes u) (t0 ++ (w0 ++ l0)) printer_place ck_length (printer_length_lem d.printer ∙ sym (printer_length_lem u))
-      ∙ sym (keyed_parts (devices d.console d.ring u d.cassette d.pending d.places))
+  printers : (u : Printer) → sets (devices_bytes d) printer_place (printer_bytes u) ≡ devices_bytes (devices d.console u d.cassette d.pending d.places)
+  unfolding devices_bytes
+  printers u = sets_over c0 u0 (printer_bytes u) (t0 ++ (w0 ++ l0)) printer_place (console_length_lem d.console) (printer_length_lem d.printer ∙ sym (printer_length_lem u))
 
   two : (u : Cassette) (w : List ℕ) → length (t0 ++ w0) ≡ length (cassette_bytes u ++ array_bytes pending_length w)
   two u w = simp (length-append, cassette_length_lem d.cassette, array_length pending_length d.pending, cassette_length_lem u, array_length pending_length w)
 
-  -- what lies before the cassette's
-  abbrev f0 : List ℕ
-  f0 = (c0 ++ k0) ++ u0
-
-  cassettes : (u : Cassette) (w : List ℕ) → sets (devices_bytes d) cassette_place (cassette_bytes u ++ array_bytes pending_length w) ≡ devices_bytes (devices d.console d.ring d.printer u w d.places)
+  cassettes : (u : Cassette) (w : List ℕ) → sets (devices_bytes d) cassette_place (cassette_bytes u ++ array_bytes pending_length w) ≡ devices_bytes (devices d.console d.printer u w d.places)
+  unfolding devices_bytes
   cassettes u w =
       let new = cassette_bytes u ++ array_bytes pending_length w in
-      let l : length f0 ≡ cassette_place = simp (length-append, console_length_lem d.console, array_length ring_length d.ring, printer_length_lem d.printer) in
-      ap (λ (x : List ℕ). sets x cassette_place new) (keyed_parts d ∙ sym (append_assoc (c0 ++ k0) u0 (t0 ++ (w0 ++ l0))) ∙ ap (λ (x : List ℕ). f0 ++ x) (sym (append_assoc t0 w0 l0)))
-      ∙ sets_over f0 (t0 ++ w0) new l0 cassette_place l (two u w)
-      ∙ ap (λ (x : List ℕ). f0 ++ x) (append_assoc (cassette_bytes u) (array_bytes pending_length w) l0)
-      ∙ append_assoc (c0 ++ k0) u0 (cassette_bytes u ++ (array_bytes pending_length w ++ l0))
-      ∙ sym (keyed_parts (devices d.console d.ring d.printer u w d.places))
+      let l : length (c0 ++ u0) ≡ cassette_place = simp (length-append, console_length_lem d.console, printer_length_lem d.printer) in
+      ap (λ (x : List ℕ). sets x cassette_place new) (sym (append_assoc c0 u0 (t0 ++ (w0 ++ l0))) ∙ ap (λ (x : List ℕ). (c0 ++ u0) ++ x) (sym (append_assoc t0 w0 l0)))
+      ∙ sets_over (c0 ++ u0) (t0 ++ w0) new l0 cassette_place l (two u w)
+      ∙ ap (λ (x : List ℕ). (c0 ++ u0) ++ x) (append_assoc (cassette_bytes u) (array_bytes pending_length w) l0)
+      ∙ append_assoc c0 u0 (cassette_bytes u ++ (array_bytes pending_length w ++ l0))
 
-  disks : (w : List ℕ) → sets (devices_bytes d) disk_place (array_bytes places_length w) ≡ devices_bytes (devices d.console d.ring d.printer d.cassette d.pending w)
+  disks : (w : List ℕ) → sets (devices_bytes d) disk_place (array_bytes places_length w) ≡ devices_bytes (devices d.console d.printer d.cassette d.pending w)
   unfolding devices_bytes
   disks w =
       let new = array_bytes places_length w in
-      let front = c0 ++ (k0 ++ (u0 ++ (t0 ++ w0))) in
-      let l : length front ≡ disk_place = simp (length-append, console_length_lem d.console, array_length ring_length d.ring, printer_length_lem d.printer, cassette_length_lem d.cassette, array_length pending_length d.pending) in
-      let joined : (xs : List ℕ) → c0 ++ (k0 ++ (u0 ++ (t0 ++ (w0 ++ xs)))) ≡ front ++ xs = λ xs. simp append_assoc in
+      let front = c0 ++ (u0 ++ (t0 ++ w0)) in
+      let l : length front ≡ disk_place = simp (length-append, console_length_lem d.console, printer_length_lem d.printer, cassette_length_lem d.cassette, array_length pending_length d.pending) in
+      let joined : (xs : List ℕ) → c0 ++ (u0 ++ (t0 ++ (w0 ++ xs))) ≡ front ++ xs = λ xs. simp append_assoc in
       ap (λ (x : List ℕ). sets x disk_place new) (joined l0 ∙ ap (λ (x : List ℕ). front ++ x) (sym (append-nil l0)))
       ∙ sets_over front l0 new [] disk_place l (array_length places_length d.places ∙ sym (array_length places_length w))
       ∙ ap (λ (x : List ℕ). front ++ x) (append-nil new) ∙ sym (joined new)
 
 pub put_lent_lem : (o : Owner) (y : Part (group_in o)) (G : Groups) → put_lent (group_in o) (lent_of G) y ≡ lent_of (put_group (group_in o) G y)
 put_lent_lem (owner.Console h) y G =
-    ap (λ (b : List ℕ). devices_lent b y.screen G.printer.paper G.cassette.tape G.disk.images) (consoles (devices_of G) y.console y.ring)
+    ap (λ (b : List ℕ). devices_lent b y.screen G.printer.paper G.cassette.tape G.disk.images) (consoles (devices_of G) y.console)
 put_lent_lem owner.Printer y G =
     ap (λ (b : List ℕ). devices_lent b G.console.screen y.paper G.cassette.tape G.disk.images) (printers (devices_of G) (printer_with y.used))
 put_lent_lem owner.Cassette y G =
@@ -122,9 +103,6 @@ module _ (d : Devices) where
   pub own_console : d.console.row < 256 → ReadingInBytes d.console.reading → console_in (drop console_place (devices_bytes d)) ≡ d.console
   own_console h k = ap (λ (b : List ℕ). console_in (drop console_place b)) (sym end) ∙ console_in_lem d [] h k
 
-  pub own_ring : length d.ring ≡ ring_length → array_in ring_length (drop ring_place (devices_bytes d)) ≡ d.ring
-  own_ring l = ap (λ (b : List ℕ). array_in ring_length (drop ring_place b)) (sym end) ∙ ring_in d [] l
-
   pub own_printer : printer_in (drop printer_place (devices_bytes d)) ≡ d.printer
   own_printer = ap (λ (b : List ℕ). printer_in (drop printer_place b)) (sym end) ∙ printer_in_lem d []
 
@@ -139,8 +117,7 @@ module _ (d : Devices) where
 
 get_lent_lem : (o : Owner) (y : Part (group_in o)) (G : Groups) → GoesIn (group_in o) y → get_lent (group_in o) (lent_of (put_group (group_in o) G y)) ≡ y
 get_lent_lem (owner.Console h) y G k =
-    let d = devices_of (put_group groups.Console G y) in
-    rw (own_console d k.0 k.1.0, own_ring d k.1.1)
+    ap (λ (c : Console). group c y.screen) (own_console (devices_of (put_group groups.Console G y)) k.0 k.1)
 get_lent_lem owner.Printer y G k =
     ap (λ (p : Printer). printer_group p.used y.paper) (own_printer (devices_of (put_group groups.Printer G y)))
 get_lent_lem owner.Cassette y G k =

@@ -1,7 +1,6 @@
 -- A group undamaged, and whether its numbers go into their bytes.
 -- Assumes nothing.
 use Rattle.std.specs.Prelude.{◌≡◌, ◌<◌, length}
-use Rattle.keyboard.specs.Queue.{ring_length}
 use Rattle.console.specs.Fit.{FitGroup}
 use Rattle.printer.specs.Fit.{FitPrinter}
 use Rattle.cassette.specs.Fit.{FitCassette}
@@ -26,10 +25,10 @@ pub record FitGroups (s : Groups) : Type 0 where
   pub cassette : FitCassette s.cassette
   pub disk : FitDisk s.disk
 
--- a row is one byte, a read column one that is not 255; the keys' places, the pending characters and the blocks' places have their bytes
+-- a row is one byte, a read column one that is not 255; the pending characters and the places have their bytes
 abbrev pub GoesIn : (g : Group) → Part g → Type 0
 GoesIn group.Nobody x = Unit {0}
-GoesIn group.Console x = (x.console.row < 256) × (ReadingInBytes x.console.reading × (length x.ring ≡ ring_length))
+GoesIn group.Console x = (x.console.row < 256) × ReadingInBytes x.console.reading
 GoesIn group.Printer x = Unit {0}
 GoesIn group.Cassette x = length x.pending ≡ pending_length
 GoesIn group.Disk x = length x.places ≡ places_length

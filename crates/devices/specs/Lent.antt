@@ -1,13 +1,11 @@
 -- The groups as they are lent: their numbers as bytes, a part of the lent state, and their buffers; a group taken out of them, and
 -- put back into its own bytes and its own buffer.
 -- Assumes nothing.
-use Rattle.std.specs.Prelude.{◌≡◌, List, [], ◌++◌, ℕ, length, drop}
+use Rattle.std.specs.Prelude.{◌≡◌, List, ℕ, length, drop}
 use Rattle.std.proofs.lemmas.List.Edits.{sets}
-use Rattle.base.specs.Choice.{choose}
 use Rattle.handler.specs.declared.Asked.{Asked}
 use Rattle.handler.specs.Acts.{Acts, through}
 use Rattle.cells.specs.Cells.{Whole}
-use Rattle.keyboard.specs.Queue.{ring_length, full_of}
 use Rattle.blocks.specs.declared.Device.{Device}
 use Rattle.console.specs.Group as console
 use Rattle.printer.specs.declared.Printer.{Printer}
@@ -15,9 +13,9 @@ use Rattle.printer.specs.Printer.{printer_group}
 use Rattle.records.specs.Records.{tape_length}
 use Rattle.cassette.specs.Cassette.{cassette_group}
 use Rattle.disk.specs.Disk.{disk_group}
-use Rattle.layout.specs.Places.{console_place, ring_place, printer_place, devices_length, Numbers}
+use Rattle.layout.specs.Places.{console_place, printer_place, devices_length, Numbers}
 use Rattle.layout.specs.Stick.{Devices, devices, fresh_devices}
-use Rattle.layout.specs.Layout.{console_bytes, printer_bytes, array_bytes, devices_bytes, console_in, printer_in, array_in}
+use Rattle.layout.specs.Layout.{console_bytes, printer_bytes, devices_bytes, console_in, printer_in}
 use Rattle.recorder.specs.Recorder.{TapeLent, get_tape, put_tape}
 use Rattle.drives.specs.Drives.{DiskLent, get_disk, put_disk}
 use Rattle.devices.specs.declared.Group.{Group}
@@ -37,41 +35,7 @@ devices_lent numbers screen paper tape images = record { numbers = numbers; scre
 abbrev pub printer_with : ℕ → Printer
 printer_with used = record { used = used }
 
--- the console as it is lent: its numbers and the keys' places, a part of the devices' numbers, and the screen
-pub record ConsoleLent : Type 0 where
-  pub numbers : List ℕ
-  pub screen : List ℕ
-
-abbrev pub console_lent : (numbers screen : List ℕ) → ConsoleLent
-console_lent numbers screen = record { numbers = numbers; screen = screen }
-
-abbrev pub get_console : (numbers screen : List ℕ) → console.ConsoleGroup
-get_console numbers screen = console.group (console_in (drop console_place numbers)) (array_in ring_length (drop ring_place numbers)) screen
-
-abbrev pub put_console : (numbers : List ℕ) → console.ConsoleGroup → ConsoleLent
-put_console numbers x = console_lent (sets numbers console_place (console_bytes x.console ++ array_bytes ring_length x.ring)) x.screen
-
--- a press: its answer, and the numbers that it leaves. "A seventeenth press answers a new number 9, queue full, and changes nothing"
-pub record PressLeft : Type 0 where
-  pub answer : ℕ
-  pub numbers : List ℕ
-
-abbrev pub press_left : ℕ → List ℕ → PressLeft
-press_left answer numbers = record { answer = answer; numbers = numbers }
-
-unfoldable pub press_in : (code : ℕ) → List ℕ → PressLeft
-press_in code numbers =
-    let x = console.keyed_of (get_console numbers []) in
-    let y = console.pressed_of code x in
-    choose (full_of x.console.keyboard)
-    (λ u. press_left 9 numbers)
-    (λ u. press_left 0 (sets numbers console_place (console_bytes y.console ++ array_bytes ring_length y.ring)))
-
--- what is lent, with another screen and the console's bytes
-abbrev pub with_screen : DevicesLent → ConsoleLent → DevicesLent
-with_screen s t = devices_lent t.numbers t.screen s.paper s.tape s.images
-
--- with another tape and the cassette's bytes
+-- what is lent, with another tape and the cassette's bytes
 abbrev pub with_tape : DevicesLent → TapeLent → DevicesLent
 with_tape s t = devices_lent t.numbers s.screen s.paper t.tape s.images
 
@@ -81,14 +45,14 @@ with_disk s t = devices_lent t.numbers s.screen s.paper s.tape t.images
 
 abbrev pub get_lent : (g : Group) → DevicesLent → Part g
 get_lent group.Nobody s = tt
-get_lent group.Console s = get_console s.numbers s.screen
+get_lent group.Console s = console.group (console_in (drop console_place s.numbers)) s.screen
 get_lent group.Printer s = printer_group (printer_in (drop printer_place s.numbers)).used s.paper
 get_lent group.Cassette s = get_tape s.numbers s.tape
 get_lent group.Disk s = get_disk s.numbers s.images
 
 abbrev pub put_lent : (g : Group) → DevicesLent → Part g → DevicesLent
 put_lent group.Nobody s x = s
-put_lent group.Console s x = with_screen s (put_console s.numbers x)
+put_lent group.Console s x = devices_lent (sets s.numbers console_place (console_bytes x.console)) x.screen s.paper s.tape s.images
 put_lent group.Printer s x = devices_lent (sets s.numbers printer_place (printer_bytes (printer_with x.used))) s.screen x.paper s.tape s.images
 put_lent group.Cassette s x = with_tape s (put_tape s.numbers x)
 put_lent group.Disk s x = with_disk s (put_disk s.numbers x)
@@ -100,11 +64,11 @@ lent_acts device asked = through (get_lent (group_of device)) (put_lent (group_o
 -- the groups that numbers and buffers make, and what is lent of them
 abbrev pub groups_of : Devices → (screen paper tape images : List ℕ) → Groups
 groups_of d screen paper tape images =
-    groups (console.group d.console d.ring screen) (printer_group d.printer.used paper) (cassette_group d.cassette d.pending tape)
+    groups (console.group d.console screen) (printer_group d.printer.used paper) (cassette_group d.cassette d.pending tape)
     (disk_group d.places images)
 
 abbrev pub devices_of : Groups → Devices
-devices_of g = devices g.console.console g.console.ring (printer_with g.printer.used) g.cassette.cassette g.cassette.pending g.disk.places
+devices_of g = devices g.console.console (printer_with g.printer.used) g.cassette.cassette g.cassette.pending g.disk.places
 
 abbrev pub lent_of : Groups → DevicesLent
 lent_of g = devices_lent (devices_bytes (devices_of g)) g.console.screen g.printer.paper g.cassette.tape g.disk.images
@@ -119,11 +83,6 @@ pub record Lends (numbers screen tape : List ℕ) : Type 0 where
   pub all : Numbers numbers
   pub whole : Whole screen
   pub reel : length tape ≡ tape_length
-
--- what an act of the console is lent
-pub record Shows (numbers screen : List ℕ) : Type 0 where
-  pub all : Numbers numbers
-  pub whole : Whole screen
 
 -- what a fresh start is lent: the numbers and nothing else, and the whole screen
 pub record Freshens (numbers screen : List ℕ) : Type 0 where

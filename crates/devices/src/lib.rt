@@ -195,7 +195,14 @@ pub fn read(
 {
     let owner = owner_of(device);
     match owner {
-        Owner::Console(handler) => numbers::read(handler, numbers, screen),
+        Owner::Console(handler) => {
+            let console = numbers::console_of(numbers);
+            let read = acts::read(handler, console, screen);
+            let next = read.console;
+            let got = read.got;
+            numbers::set_console(numbers, next);
+            got
+        }
         Owner::Printer => Got::Refused(0x83),
         Owner::Cassette => recorder::read(numbers, tape),
         Owner::Disk => drives::read(numbers, images, asked),

@@ -188,16 +188,16 @@ module _ (images : List ℕ) (unit file : ℕ) where
       ring_bytes (suc left) =
           then some g (subst (λ (s : ℕ). ChainBytes images unit file left s Bad (repeated left (sector_data images unit sector))) (sym ring) (ring_bytes left))
 
-      ring_length_lem : (n : ℕ) → length (repeated n (sector_data images unit sector)) ≡ 125 * n
+      ring_length : (n : ℕ) → length (repeated n (sector_data images unit sector)) ≡ 125 * n
       unfolding repeated
-      ring_length_lem zero = refl
-      ring_length_lem (suc n) =
+      ring_length zero = refl
+      ring_length (suc n) =
           let l : length (sector_data images unit sector) ≡ 125 = part_length (sector_place unit sector) (data_count images unit sector) images (omega (arith, g.there)) ∙ full in
-          length-append (sector_data images unit sector) (repeated n (sector_data images unit sector)) ∙ omega (arith, ring_length_lem n)
+          length-append (sector_data images unit sector) (repeated n (sector_data images unit sector)) ∙ omega (arith, ring_length n)
 
       pub ring_gives : RingGives images unit file sector
       ring_gives =
-          let m : length (repeated 719 (sector_data images unit sector)) ≡ 89875 = ring_length_lem 719 in
+          let m : length (repeated 719 (sector_data images unit sector)) ≡ 89875 = ring_length 719 in
           record {
             many = m;
             gives = subst (λ (n : ℕ). ReadsThen images (file_place unit file sector) n (unwarned (repeated 719 (sector_data images unit sector))) 0xA4) m

@@ -53,8 +53,8 @@ length_most entry = pick_go (λ (n : ℕ). n ≤ 18) (ltb entry 64) 18 17 (λ t.
 entry_place : (entry place : ℕ) → entry < 64 → place < record_length entry → place ≤ 17
 entry_place entry place h k = let m : place < 18 = rw (lt-ltb entry 64 h) at k in omega arith
 
-free_place_lem : (entry place : ℕ) → 64 ≤ entry → place < record_length entry → place ≤ 16
-free_place_lem entry place h k = let m : place < 17 = rw (le-ltb entry 64 h) at k in omega arith
+free_place : (entry place : ℕ) → 64 ≤ entry → place < record_length entry → place ≤ 16
+free_place entry place h k = let m : place < 17 = rw (le-ltb entry 64 h) at k in omega arith
 
 ordered : (n m : ℕ) → m ≤ n → (n ≡ m → ⊥) → 15 * m + 15 ≤ 15 * n
 ordered n m h k = omega arith
@@ -188,7 +188,7 @@ module _ (p : List ℕ) where
   numbers_directory entry place e q h l z =
       by_lt entry 64
       (λ k. let m : place ≤ 17 = entry_place entry place k l in rw (e, q, lt-ltb entry 64 k, le-leb place 17 m))
-      (λ k. let m : place ≤ 16 = free_place_lem entry place k l in
+      (λ k. let m : place ≤ 16 = free_place entry place k l in
       by_eq entry 64
       (λ f. rw (e, q, le-ltb entry 64 k, eq-eqb entry 64 f, le-leb place 16 m))
       (λ n. let f : entry ≡ 65 = omega arith in rw (e, q, le-ltb entry 64 k, ne_eqb entry 64 n, eq-eqb entry 65 f, eq-eqb place 0 (z f))))

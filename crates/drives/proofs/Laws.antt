@@ -20,7 +20,7 @@ use Rattle.layout.specs.Places.{disk_place, devices_length, Numbers}
 use Rattle.layout.specs.Layout.{array_bytes, array_in}
 use Rattle.layout.proofs.ReadWrite.{array_is}
 use Rattle.layout.proofs.Fields.{array_looks}
-use Rattle.layout.proofs.Arrays.{sets_part}
+use Rattle.recorder.proofs.Laws.{sets_part}
 use Rattle.drives.specs.Drives.{disk_lent, get_disk, put_disk, block_place_in}
 
 -- a block has one of 16 places

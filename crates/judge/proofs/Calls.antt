@@ -15,9 +15,6 @@ use Rattle.base.proofs.Lists.{part_tail}
 use Rattle.base.proofs.Parts.{lent_part}
 use Rattle.cells.specs.declared.Shape.{Shape}
 use Rattle.cells.specs.Modes.{shape_of}
-use Rattle.keyboard.specs.Queue.{ring_length}
-use Rattle.keyboard.specs.Fit.{keys_fit}
-use Rattle.console.specs.declared.state.Console.{Console}
 use Rattle.printer.specs.Printer.{paper_length}
 use Rattle.cassette.specs.declared.Cassette.{Cassette}
 use Rattle.cassette.specs.Cassette.{mark_of}
@@ -26,8 +23,8 @@ use Rattle.disk.specs.Disk.{place_length}
 use Rattle.disk.specs.Fit.{place_fits}
 use Rattle.wire.specs.Messages.{word_of, word_at}
 use Rattle.wire.specs.Fits.{gather_fits, reply_fits}
-use Rattle.layout.specs.Places.{phase_length, block_length, port_length, port_place, devices_place, console_place, ring_place, printer_place, cassette_place}
-use Rattle.layout.specs.Layout.{byte_at, gather_in, reply_in, console_in, cassette_in, array_in, stick_in, lent_in}
+use Rattle.layout.specs.Places.{phase_length, block_length, port_length, port_place, devices_place, console_place, printer_place, cassette_place}
+use Rattle.layout.specs.Layout.{byte_at, gather_in, reply_in, cassette_in, stick_in, lent_in}
 use Rattle.layout.specs.Stands.{unused, stands}
 use Rattle.damage.specs.Fits.{stick_fits}
 use Rattle.damage.specs.Whole.{aux1_whole, highest_whole, mark_whole, open_whole, place_whole, two_whole, all_from, table_whole, own_places, next_places, port_at_whole, gather_whole, reply_whole, span_whole, port_whole, text_whole, picture_whole, cursor_whole, console_whole, devices_whole, tapes_from, tapes_whole, group_whole, apart_groups, apart_whole, head_whole}
@@ -194,16 +191,11 @@ module _ (b : List ℕ) (t : Bool) (e : t ≡ console_whole (take (length b - co
 
   pub numbers_console : t ≡ false → false ≡ devices_whole b
   unfolding devices_whole
-  numbers_console = and_no (console_whole (drop console_place b)) (and (keys_fit (console_in (drop console_place b)).keyboard (array_in ring_length (drop ring_place b))) (and (leb (word_at b printer_place) paper_length) (fits_cassette (cassette_in (drop cassette_place b))))) t there
+  numbers_console = and_no (console_whole (drop console_place b)) (and (leb (word_at b printer_place) paper_length) (fits_cassette (cassette_in (drop cassette_place b)))) t there
 
-  pub numbers_others : (r : Bool) → t ≡ true → r ≡ and (keys_fit (console_in (drop console_place b)).keyboard (array_in ring_length (drop ring_place b))) (and (leb (word_at b printer_place) paper_length) (fits_cassette (cassette_in (drop cassette_place b)))) → r ≡ devices_whole b
+  pub numbers_others : (r : Bool) → t ≡ true → r ≡ and (leb (word_at b printer_place) paper_length) (fits_cassette (cassette_in (drop cassette_place b))) → r ≡ devices_whole b
   unfolding devices_whole
-  numbers_others = and_yes (console_whole (drop console_place b)) (and (keys_fit (console_in (drop console_place b)).keyboard (array_in ring_length (drop ring_place b))) (and (leb (word_at b printer_place) paper_length) (fits_cassette (cassette_in (drop cassette_place b))))) t there
-
--- the keyboard, of the console that was read and the part that was lent
-pub keyboard_fit : (b : List ℕ) (r : Bool) (c : Console) → c ≡ console_in (take (length b - console_place) (drop console_place b)) → r ≡ keys_fit c.keyboard (part ring_place ring_length b)
-    → r ≡ keys_fit (console_in (drop console_place b)).keyboard (array_in ring_length (drop ring_place b))
-keyboard_fit b r c p q = q ∙ ap (λ (x : Console). keys_fit x.keyboard (part ring_place ring_length b)) (p ∙ ap console_in (part_tail console_place b))
+  numbers_others = and_yes (console_whole (drop console_place b)) (and (leb (word_at b printer_place) paper_length) (fits_cassette (cassette_in (drop cassette_place b)))) t there
 
 pub others_fit : (b : List ℕ) (t r : Bool) (c : Cassette) → t ≡ leb (word_at b printer_place) paper_length → t ≡ true → c ≡ cassette_in (take (length b - cassette_place) (drop cassette_place b)) → r ≡ fits_cassette c
     → r ≡ and (leb (word_at b printer_place) paper_length) (fits_cassette (cassette_in (drop cassette_place b)))

@@ -2,22 +2,20 @@
 ghost use Rattle.std.specs.Prelude.{◌≡◌, ◌+◌, ◌*◌, ◌≤◌, eqb, leb, length, drop};
 ghost use Rattle.base.specs.Choice.{pick, and};
 ghost use Rattle.base.specs.Parts.{part};
-ghost use Rattle.keyboard.specs.Queue.{ring_length};
-ghost use Rattle.keyboard.specs.Fit.{keys_fit};
 ghost use Rattle.printer.specs.Printer.{paper_length};
 ghost use Rattle.cassette.specs.Cassette.{mark_of};
 ghost use Rattle.cassette.specs.Fit.{fits_cassette};
 ghost use Rattle.disk.specs.Disk.{place_length};
 ghost use Rattle.wire.specs.Messages.{word_of, word_at};
-ghost use Rattle.layout.specs.Places.{table_length, port_length, console_place, console_length, ring_place, printer_place, cassette_place, devices_place, devices_length, Headed};
-ghost use Rattle.layout.specs.Layout.{console_in, cassette_in, array_in, stick_in, lent_in};
+ghost use Rattle.layout.specs.Places.{table_length, port_length, console_length, printer_place, cassette_place, devices_place, devices_length, Headed};
+ghost use Rattle.layout.specs.Layout.{cassette_in, stick_in, lent_in};
 ghost use Rattle.layout.specs.Stands.{unused, rest_unused, run_stands, stands};
 ghost use Rattle.damage.specs.Fits.{stick_fits};
 ghost use Rattle.damage.specs.Whole.{aux1_whole, highest_whole, mark_whole, open_whole, place_whole, block_whole_in, two_whole, table_whole, gather_whole, ready_whole, reply_whole, direction_whole, opened_whole, mode_whole, some_left, buffer_whole, span_whole, run_whole, phase_whole, port_whole, text_whole, picture_whole, cursor_whole, reading_whole, console_whole, devices_whole, tapes_from, tapes_whole, group_whole, apart_groups, apart_whole, head_whole};
 ghost use Rattle.judge.specs.Ported.{Ported, Blocks};
 
 use blocks::{Gather, Reply};
-use layout::places::{BLOCK, CASSETTE, CONSOLE, DEVICES, DISK, PHASE, PORT, PRINTER, RING};
+use layout::places::{BLOCK, CASSETTE, CONSOLE, DEVICES, DISK, PHASE, PORT, PRINTER};
 use printer::PAPER;
 
 // The bytes of two blocks, those of their places, and where the console's mode and the cassette's mark stand.
@@ -508,21 +506,17 @@ fn console(bytes: &[u8]) -> bool
 {
     if cursor(bytes[0], bytes[1], bytes[2], bytes[3]) {
         if read_column(bytes[6]) {
-            return bytes[5] < 2;
+            if bytes[5] < 2 {
+                if bytes[8] <= 2 {
+                    return bytes[9] <= 1;
+                }
+                return false;
+            }
+            return false;
         }
         return false;
     }
     false
-}
-
-// The keyboard's numbers, and its places.
-fn keyboard(bytes: &[u8]) -> bool
-    requires { devices_length ≤ length bytes.now }
-    ensures { result ≡ keys_fit (console_in (drop console_place bytes.now)).keyboard (array_in ring_length (drop ring_place bytes.now)) }
-{
-    let console = reading::console(&bytes[CONSOLE..]);
-    let keyboard = console.keyboard;
-    keyboard.fits(&bytes[RING..PRINTER])
 }
 
 // The printer's used length is one of its paper.
@@ -532,7 +526,7 @@ fn used(low: u8, high: u8) -> bool
     reading::word(low, high) <= PAPER
 }
 
-// The printer's number and the cassette's.
+// The numbers behind the console's.
 fn others(bytes: &[u8]) -> bool
     requires { devices_length ≤ length bytes.now }
     ensures { result ≡ and (leb (word_at bytes.now printer_place) paper_length) (fits_cassette (cassette_in (drop cassette_place bytes.now))) }
@@ -543,23 +537,12 @@ fn others(bytes: &[u8]) -> bool
     false
 }
 
-// All but the console's own.
-fn keyed(bytes: &[u8]) -> bool
-    requires { devices_length ≤ length bytes.now }
-    ensures { result ≡ and (keys_fit (console_in (drop console_place bytes.now)).keyboard (array_in ring_length (drop ring_place bytes.now))) (and (leb (word_at bytes.now printer_place) paper_length) (fits_cassette (cassette_in (drop cassette_place bytes.now)))) }
-{
-    if keyboard(bytes) {
-        return others(bytes);
-    }
-    false
-}
-
 fn numbers(bytes: &[u8]) -> bool
     requires { devices_length ≤ length bytes.now }
     ensures { result ≡ devices_whole bytes.now }
 {
     if console(&bytes[CONSOLE..]) {
-        return keyed(bytes);
+        return others(bytes);
     }
     false
 }

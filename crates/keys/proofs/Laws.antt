@@ -11,8 +11,12 @@ use Rattle.base.specs.Choice.{pick, within}
 use Rattle.base.proofs.Choices.{and_false}
 use Rattle.base.proofs.Lists.{default_any}
 use Rattle.base.proofs.Table.{both, both_left, both_right, upto, on}
+use Rattle.handler.specs.Answer.{answer}
+use Rattle.handler.specs.declared.Got.TheVariants.{Character, Refused}
 use Rattle.keys.specs.Table.{keys, key_at}
 use Rattle.keys.specs.Translation.{letter, fixed, entry_number, entry_of, key_answer, translate_of}
+use Rattle.keys.specs.Keyboard.{emptied, obeyed, struck_by, get_of}
+use Rattle.keys.specs.declared.keyboard.Keyboard.{Keyboard}
 use Rattle.keys.proofs.LetterRule.{shift_letter, control_letter}
 
 -- `key`, in the table and past it
@@ -106,3 +110,21 @@ pub translate_entry : (code lock inverse entry r : ℕ) → lock ≤ 2 → inver
 unfolding translate_of
 translate_entry code lock inverse entry r h k l p q =
     q ∙ ap (λ (e : ℕ). key_answer e inverse) p ∙ simp (le-ltb 2 lock h, le-ltb 1 inverse k, le-ltb 0xBF code l)
+
+-- the effect of a number is what it is of the number that it is equal to
+pub obey_at : (number n : ℕ) (k r : Keyboard) → number ≡ n → r ≡ obeyed n k → r ≡ obeyed number k
+obey_at number n k r e p = p ∙ ap (λ (m : ℕ). obeyed m k) (sym e)
+
+-- `get`, by what `translate` answered and the emptied keyboard
+module _ (number : ℕ) (k empty : Keyboard) (t : number ≡ translate_of k.code k.lock k.inverse) (e : empty ≡ emptied k) where
+  struck : struck_by number empty ≡ get_of k
+  unfolding get_of
+  struck = ap (λ (n : ℕ). struck_by n empty) t ∙ ap (λ (x : Keyboard). struck_by (translate_of k.code k.lock k.inverse) x) e
+
+  pub get_character : number < 256 → answer (Character number) empty ≡ get_of k
+  unfolding struck_by
+  get_character h = rw (lt-ltb number 256 h) at struck
+
+  pub get_none : (r : Keyboard) → r ≡ obeyed number empty → 256 ≤ number → answer (Refused 0x88) r ≡ get_of k
+  unfolding struck_by
+  get_none r p h = ap (λ (x : Keyboard). answer (Refused 0x88) x) p ∙ (rw (le-ltb number 256 h) at struck)

@@ -1,2 +1,5 @@
 pub mod Table
 pub mod Translation
+pub mod Keyboard
+pub mod Fit
+pub mod Press

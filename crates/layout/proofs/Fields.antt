@@ -14,9 +14,8 @@ use Rattle.blocks.specs.declared.Port.{Port}
 use Rattle.console.specs.declared.state.Console.{Console}
 use Rattle.printer.specs.declared.Printer.{Printer}
 use Rattle.cassette.specs.declared.Cassette.{Cassette}
-use Rattle.keyboard.specs.Queue.{ring_length}
 use Rattle.disk.specs.Disk.{places_length}
-use Rattle.layout.specs.Places.{phase_length, table_length, port_length, console_place, console_length, ring_place, printer_place, printer_length, cassette_place, cassette_length, pending_place, pending_length, disk_place, devices_length}
+use Rattle.layout.specs.Places.{phase_length, table_length, port_length, console_place, console_length, printer_place, printer_length, cassette_place, cassette_length, pending_place, pending_length, disk_place, devices_length}
 use Rattle.layout.specs.Stick.{devices}
 use Rattle.layout.specs.Layout.{blocks_in, table_in, phase_in, port_in, console_in, printer_in, cassette_in, array_in, devices_in}
 
@@ -48,13 +47,13 @@ cassette_looks xs h = ap cassette_in (take_firsts 0 cassette_length 0 xs (omega 
 pub array_looks : (n : ℕ) → Looks n (array_in n)
 array_looks n xs h = take-take n n xs (omega arith)
 
-six : {c d : Console} {r s : List ℕ} {p q : Printer} {a b : Cassette} {x y v w : List ℕ} → c ≡ d → r ≡ s → p ≡ q → a ≡ b → x ≡ y → v ≡ w → devices c r p a x v ≡ devices d s q b y w
-six e k f g h i = rw (e, k, f, g, h, i)
+five : {c d : Console} {p q : Printer} {a b : Cassette} {x y v w : List ℕ} → c ≡ d → p ≡ q → a ≡ b → x ≡ y → v ≡ w → devices c p a x v ≡ devices d q b y w
+five e f g h i = rw (e, f, g, h, i)
 
 pub devices_looks : Looks devices_length devices_in
 unfolding devices_in
 devices_looks xs h =
-    six (looks_at console_in console_length console_looks console_place (omega arith) xs h) (looks_at (array_in ring_length) ring_length (array_looks ring_length) ring_place (omega arith) xs h) (looks_at printer_in printer_length printer_looks printer_place (omega arith) xs h)
+    five (looks_at console_in console_length console_looks console_place (omega arith) xs h) (looks_at printer_in printer_length printer_looks printer_place (omega arith) xs h)
     (looks_at cassette_in cassette_length cassette_looks cassette_place (omega arith) xs h) (looks_at (array_in pending_length) pending_length (array_looks pending_length) pending_place (omega arith) xs h)
     (looks_at (array_in places_length) places_length (array_looks places_length) disk_place (omega arith) xs h)
   where

@@ -13,7 +13,6 @@ use Rattle.blocks.specs.declared.Port.{Port}
 use Rattle.console.specs.declared.state.Console.{Console}
 use Rattle.printer.specs.declared.Printer.{Printer}
 use Rattle.cassette.specs.declared.Cassette.{Cassette}
-use Rattle.keyboard.specs.Queue.{ring_length}
 use Rattle.disk.specs.Disk.{places_length}
 use Rattle.layout.specs.Places.{phase_length, block_length, table_length, port_length, devices_length, console_length, printer_length, cassette_length, pending_length, rooms_place}
 use Rattle.layout.specs.Stick.{Devices, Stick}
@@ -58,7 +57,7 @@ array_length n xs =
 
 pub devices_length_lem : (d : Devices) → length (devices_bytes d) ≡ devices_length
 unfolding devices_bytes
-devices_length_lem d = simp (length-append, console_length_lem d.console, array_length ring_length d.ring, printer_length_lem d.printer, cassette_length_lem d.cassette, array_length pending_length d.pending, array_length places_length d.places)
+devices_length_lem d = simp (length-append, console_length_lem d.console, printer_length_lem d.printer, cassette_length_lem d.cassette, array_length pending_length d.pending, array_length places_length d.places)
 
 pub head_length : (s : Stick) → length (head_of s) ≡ rooms_place
 unfolding head_of

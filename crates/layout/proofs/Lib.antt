@@ -5,4 +5,3 @@ pub mod ReadWrite
 pub mod Fields
 pub mod Ports
 pub mod States
-pub mod Arrays

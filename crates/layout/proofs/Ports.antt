@@ -18,12 +18,11 @@ use Rattle.blocks.specs.declared.Phase.{Phase}
 use Rattle.blocks.specs.declared.Port.{Port}
 use Rattle.blocks.specs.Blocks.{block_at, with_block}
 use Rattle.console.specs.declared.state.Console.{Console}
-use Rattle.keyboard.specs.Queue.{ring_length}
 use Rattle.disk.specs.Disk.{places_length}
-use Rattle.layout.specs.Places.{phase_length, block_length, port_length, devices_place, console_place, console_length, ring_place, pending_place, pending_length, disk_place, devices_length, rooms_place, port_place, phase_place, table_place, block_place}
+use Rattle.layout.specs.Places.{phase_length, block_length, port_length, devices_place, console_place, pending_place, pending_length, disk_place, devices_length, rooms_place, port_place, phase_place, table_place, block_place}
 use Rattle.layout.specs.Stick.{Devices, devices, Stick, with_devices, with_console, port_at, with_port, with_phase, with_table, part_at, with_part}
 use Rattle.layout.specs.Layout.{block_bytes, table_bytes, phase_bytes, port_bytes, console_bytes, printer_bytes, cassette_bytes, array_bytes, devices_bytes, head_of, table_in, phase_in, port_in, devices_in, stick_in}
-use Rattle.layout.proofs.Lengths.{phase_length_lem, port_length_lem, console_length_lem, array_length, devices_length_lem, head_length}
+use Rattle.layout.proofs.Lengths.{phase_length_lem, port_length_lem, console_length_lem, devices_length_lem, head_length}
 use Rattle.layout.proofs.Tables.{blocks_count, table_stored}
 use Rattle.layout.proofs.Fields.{devices_looks}
 
@@ -143,10 +142,6 @@ module _ (b : List ℕ) (h : rooms_place ≤ length b) where
   unfolding stick_in
   own_devices = looks_part devices_in devices_length devices_looks devices_place devices_length 0 b (omega arith) (omega arith) ∙ ap (λ (k : ℕ). devices_in (drop k b)) (add-zero devices_place)
 
-  pub own_ring : length (stick_in b).devices.ring ≡ ring_length
-  unfolding stick_in devices_in
-  own_ring = length-take-le ring_length (drop ring_place (drop devices_place b)) (simp length-drop (omega arith))
-
   pub own_pending : length (stick_in b).devices.pending ≡ pending_length
   unfolding stick_in devices_in
   own_pending = length-take-le pending_length (drop pending_place (drop devices_place b)) (simp length-drop (omega arith))
@@ -154,11 +149,6 @@ module _ (b : List ℕ) (h : rooms_place ≤ length b) where
   pub own_places_lem : length (stick_in b).devices.places ≡ places_length
   unfolding stick_in devices_in
   own_places_lem = length-take-le places_length (drop disk_place (drop devices_place b)) (simp length-drop (omega arith))
-
--- the devices' bytes, the console's with the keys' places first
-pub keyed_parts : (d : Devices) → devices_bytes d ≡ (console_bytes d.console ++ array_bytes ring_length d.ring) ++ (printer_bytes d.printer ++ (cassette_bytes d.cassette ++ (array_bytes pending_length d.pending ++ array_bytes places_length d.places)))
-unfolding devices_bytes
-keyed_parts d = sym (append_assoc (console_bytes d.console) (array_bytes ring_length d.ring) (printer_bytes d.printer ++ (cassette_bytes d.cassette ++ (array_bytes pending_length d.pending ++ array_bytes places_length d.places))))
 
 module _ (s : Stick) where
   abbrev ports : List ℕ
@@ -185,19 +175,12 @@ module _ (s : Stick) where
       ∙ ap (λ (k : ℕ). sets (ports ++ devices_bytes s.devices) (k + i) ys) ports_length
       ∙ ap (λ (l : List ℕ). sets l (devices_place + i) ys) (sym (two_parts s.devices))
 
-  -- the console's numbers with the places of the keys
-  pub head_console : (c : Console) (ring : List ℕ) → head_of (with_console c ring s) ≡ sets (head_of s) (devices_place + console_place) (console_bytes c ++ array_bytes ring_length ring)
-  head_console c ring =
+  pub head_console : (c : Console) → head_of (with_console c s) ≡ sets (head_of s) (devices_place + console_place) (console_bytes c)
+  unfolding devices_bytes
+  head_console c =
       let d = s.devices in
-      let after = devices c ring d.printer d.cassette d.pending d.places in
-      let rest = printer_bytes d.printer ++ (cassette_bytes d.cassette ++ (array_bytes pending_length d.pending ++ array_bytes places_length d.places)) in
-      head_stores after console_place (console_bytes c ++ array_bytes ring_length ring)
-      (ap (λ (b : List ℕ). sets b console_place (console_bytes c ++ array_bytes ring_length ring)) (keyed_parts d)
-      ∙ sets_over [] (console_bytes d.console ++ array_bytes ring_length d.ring) (console_bytes c ++ array_bytes ring_length ring) rest 0 refl (keyed_length d.console d.ring ∙ sym (keyed_length c ring))
-      ∙ sym (keyed_parts after))
-    where
-      keyed_length : (x : Console) (xs : List ℕ) → length (console_bytes x ++ array_bytes ring_length xs) ≡ console_length + ring_length
-      keyed_length x xs = simp length-append (rw (console_length_lem x, array_length ring_length xs))
+      head_stores (devices c d.printer d.cassette d.pending d.places) console_place (console_bytes c)
+      (sets_over [] (console_bytes d.console) (console_bytes c) (printer_bytes d.printer ++ (cassette_bytes d.cassette ++ (array_bytes pending_length d.pending ++ array_bytes places_length d.places))) 0 refl (console_length_lem d.console ∙ sym (console_length_lem c)))
 
   pub head_devices : (d : Devices) → head_of (with_devices d s) ≡ sets (head_of s) devices_place (devices_bytes d)
   head_devices d =

@@ -32,9 +32,8 @@ use Rattle.editor.specs.declared.ReadColumn.TheVariants.{Dropped, At}
 use Rattle.console.specs.declared.state.Console.{Console}
 use Rattle.printer.specs.declared.Printer.{Printer}
 use Rattle.cassette.specs.declared.Cassette.{Cassette}
-use Rattle.keyboard.specs.Queue.{ring_length}
 use Rattle.disk.specs.Disk.{places_length}
-use Rattle.layout.specs.Places.{phase_length, port_length, devices_place, console_place, console_length, ring_place, printer_place, printer_length, cassette_place, cassette_length, pending_place, pending_length, disk_place, port_place}
+use Rattle.layout.specs.Places.{phase_length, port_length, devices_place, console_place, console_length, printer_place, printer_length, cassette_place, cassette_length, pending_place, pending_length, disk_place, port_place}
 use Rattle.layout.specs.Stick.{Devices, Stick}
 use Rattle.layout.specs.Layout.{low_byte, high_byte, device_number, kind_number, device_byte, number_byte, aux1_byte, blocks_bytes, table_bytes, phase_bytes, port_bytes, console_bytes, printer_bytes, cassette_bytes, array_bytes, devices_bytes, head_of, device_in, kind_in, block_of, blocks_in, table_in, phase_in, port_in, reading_in, reading_byte, console_in, printer_in, cassette_in, array_in, devices_in, stick_in}
 use Rattle.layout.specs.InBytes.{PhaseInBytes, ReadingInBytes, InBytes}
@@ -190,9 +189,6 @@ module _ (d : Devices) (r : List ℕ) where
   abbrev c0 : List ℕ
   c0 = console_bytes d.console
 
-  abbrev k0 : List ℕ
-  k0 = array_bytes ring_length d.ring
-
   abbrev u0 : List ℕ
   u0 = printer_bytes d.printer
 
@@ -205,18 +201,15 @@ module _ (d : Devices) (r : List ℕ) where
   abbrev l0 : List ℕ
   l0 = array_bytes places_length d.places
 
-  parts : devices_bytes d ++ r ≡ c0 ++ (k0 ++ (u0 ++ (t0 ++ (w0 ++ (l0 ++ r)))))
+  parts : devices_bytes d ++ r ≡ c0 ++ (u0 ++ (t0 ++ (w0 ++ (l0 ++ r))))
   unfolding devices_bytes
   parts = simp append_assoc
 
-  past_console : drop ring_place (devices_bytes d ++ r) ≡ k0 ++ (u0 ++ (t0 ++ (w0 ++ (l0 ++ r))))
-  past_console = rw parts (drop_at c0 (k0 ++ (u0 ++ (t0 ++ (w0 ++ (l0 ++ r))))) console_length (console_length_lem d.console))
-
-  past_ring : drop printer_place (devices_bytes d ++ r) ≡ u0 ++ (t0 ++ (w0 ++ (l0 ++ r)))
-  past_ring = sym (drop-drop ring_length ring_place (devices_bytes d ++ r)) ∙ ap (drop ring_length) past_console ∙ drop_at k0 (u0 ++ (t0 ++ (w0 ++ (l0 ++ r)))) ring_length (array_length ring_length d.ring)
+  past_console : drop printer_place (devices_bytes d ++ r) ≡ u0 ++ (t0 ++ (w0 ++ (l0 ++ r)))
+  past_console = rw parts (drop_at c0 (u0 ++ (t0 ++ (w0 ++ (l0 ++ r)))) console_length (console_length_lem d.console))
 
   past_printer : drop cassette_place (devices_bytes d ++ r) ≡ t0 ++ (w0 ++ (l0 ++ r))
-  past_printer = sym (drop-drop printer_length printer_place (devices_bytes d ++ r)) ∙ ap (drop printer_length) past_ring ∙ drop_at u0 (t0 ++ (w0 ++ (l0 ++ r))) printer_length (printer_length_lem d.printer)
+  past_printer = sym (drop-drop printer_length printer_place (devices_bytes d ++ r)) ∙ ap (drop printer_length) past_console ∙ drop_at u0 (t0 ++ (w0 ++ (l0 ++ r))) printer_length (printer_length_lem d.printer)
 
   past_cassette : drop pending_place (devices_bytes d ++ r) ≡ w0 ++ (l0 ++ r)
   past_cassette = sym (drop-drop cassette_length cassette_place (devices_bytes d ++ r)) ∙ ap (drop cassette_length) past_printer ∙ drop_at t0 (w0 ++ (l0 ++ r)) cassette_length (cassette_length_lem d.cassette)
@@ -225,13 +218,10 @@ module _ (d : Devices) (r : List ℕ) where
   past_pending = sym (drop-drop pending_length pending_place (devices_bytes d ++ r)) ∙ ap (drop pending_length) past_cassette ∙ drop_at w0 (l0 ++ r) pending_length (array_length pending_length d.pending)
 
   pub console_in_lem : d.console.row < 256 → ReadingInBytes d.console.reading → console_in (drop console_place (devices_bytes d ++ r)) ≡ d.console
-  console_in_lem h k = ap console_in parts ∙ console_same d.console (k0 ++ (u0 ++ (t0 ++ (w0 ++ (l0 ++ r))))) h k
-
-  pub ring_in : length d.ring ≡ ring_length → array_in ring_length (drop ring_place (devices_bytes d ++ r)) ≡ d.ring
-  ring_in l = ap (array_in ring_length) past_console ∙ array_same ring_length d.ring (u0 ++ (t0 ++ (w0 ++ (l0 ++ r)))) l
+  console_in_lem h k = ap console_in parts ∙ console_same d.console (u0 ++ (t0 ++ (w0 ++ (l0 ++ r)))) h k
 
   pub printer_in_lem : printer_in (drop printer_place (devices_bytes d ++ r)) ≡ d.printer
-  printer_in_lem = ap printer_in past_ring ∙ printer_same d.printer (t0 ++ (w0 ++ (l0 ++ r)))
+  printer_in_lem = ap printer_in past_console ∙ printer_same d.printer (t0 ++ (w0 ++ (l0 ++ r)))
 
   pub cassette_in_lem : cassette_in (drop cassette_place (devices_bytes d ++ r)) ≡ d.cassette
   cassette_in_lem = ap cassette_in past_printer ∙ cassette_same d.cassette (w0 ++ (l0 ++ r))
@@ -242,9 +232,9 @@ module _ (d : Devices) (r : List ℕ) where
   pub places_in_lem : length d.places ≡ places_length → array_in places_length (drop disk_place (devices_bytes d ++ r)) ≡ d.places
   places_in_lem l = ap (array_in places_length) past_pending ∙ array_same places_length d.places r l
 
-  pub devices_same : d.console.row < 256 → ReadingInBytes d.console.reading → length d.ring ≡ ring_length → length d.pending ≡ pending_length → length d.places ≡ places_length → devices_in (devices_bytes d ++ r) ≡ d
+  pub devices_same : d.console.row < 256 → ReadingInBytes d.console.reading → length d.pending ≡ pending_length → length d.places ≡ places_length → devices_in (devices_bytes d ++ r) ≡ d
   unfolding devices_in
-  devices_same h k n l m = rw (console_in_lem h k, ring_in n, printer_in_lem, cassette_in_lem, pending_in l, places_in_lem m)
+  devices_same h k l m = rw (console_in_lem h k, printer_in_lem, cassette_in_lem, pending_in l, places_in_lem m)
 
   devices_stand : console_stands (drop console_place (devices_bytes d ++ r)) ≡ true
   unfolding console_bytes
@@ -273,7 +263,7 @@ module _ (s : Stick) (r : List ℕ) where
   pub read_write : InBytes s → stick_in (head_of s ++ r) ≡ s
   unfolding stick_in
   read_write w =
-      rw (past_0, past_1, head_parts, port_same s.port0 (p1 ++ (d0 ++ r)) w.phase0 w.table0, port_same s.port1 (d0 ++ r) w.phase1 w.table1, devices_same s.devices r w.row w.reading w.ring w.pending w.places)
+      rw (past_0, past_1, head_parts, port_same s.port0 (p1 ++ (d0 ++ r)) w.phase0 w.table0, port_same s.port1 (d0 ++ r) w.phase1 w.table1, devices_same s.devices r w.row w.reading w.pending w.places)
 
   pub head_stands : stands (head_of s ++ r) ≡ true
   unfolding stands

@@ -21,9 +21,8 @@ use Rattle.base.proofs.Readers.{firsts, take_firsts}
 use Rattle.blocks.specs.declared.Table.{Table}
 use Rattle.blocks.specs.Blocks.{block_at}
 use Rattle.wire.specs.Messages.{word_of}
-use Rattle.keyboard.specs.Queue.{ring_length}
 use Rattle.disk.specs.Disk.{places_length}
-use Rattle.layout.specs.Places.{phase_length, block_length, table_length, port_length, devices_place, console_place, console_length, ring_place, printer_place, printer_length, cassette_place, cassette_length, pending_place, pending_length, disk_place, devices_length, rooms_place, port_place}
+use Rattle.layout.specs.Places.{phase_length, block_length, table_length, port_length, devices_place, console_place, console_length, printer_place, printer_length, cassette_place, cassette_length, pending_place, pending_length, disk_place, devices_length, rooms_place, port_place}
 use Rattle.layout.specs.Layout.{low_byte, high_byte, device_number, kind_number, block_bytes, blocks_bytes, table_bytes, phase_bytes, port_bytes, console_bytes, printer_bytes, cassette_bytes, array_bytes, devices_bytes, head_of, byte_at, device_in, kind_in, block_of, block_in, table_in, phase_in, port_in, reading_in, reading_byte, console_in, printer_in, cassette_in, array_in, devices_in, stick_in}
 use Rattle.layout.specs.InBytes.{Bytes}
 use Rattle.layout.specs.Stands.{block_stands, block_stands_in, blocks_stand, table_stands, unused, run_stands, phase_stands, port_stands, console_stands, stands}
@@ -217,25 +216,21 @@ module _ (b : List ℕ) (w : Bytes b) (e : console_stands (drop console_place b)
   devices_back : devices_bytes (devices_in b) ≡ take devices_length b
   unfolding devices_bytes devices_in
   devices_back =
-      let l0 : ring_length ≤ length (drop ring_place b) = simp length-drop (omega arith) in
       let l1 : printer_length ≤ length (drop printer_place b) = simp length-drop (omega arith) in
       let l2 : cassette_length ≤ length (drop cassette_place b) = simp length-drop (omega arith) in
       let l3 : pending_length ≤ length (drop pending_place b) = simp length-drop (omega arith) in
       let l4 : places_length ≤ length (drop disk_place b) = simp length-drop (omega arith) in
       cat (console_back b w e (omega arith))
-      (cat (array_back (drop ring_place b) (bytes_drop ring_place b w) ring_length l0)
       (cat (printer_back (drop printer_place b) (bytes_drop printer_place b w) l1)
       (cat (cassette_back (drop cassette_place b) (bytes_drop cassette_place b w) l2)
-      (cat (array_back (drop pending_place b) (bytes_drop pending_place b w) pending_length l3) (array_back (drop disk_place b) (bytes_drop disk_place b w) places_length l4)))))
+      (cat (array_back (drop pending_place b) (bytes_drop pending_place b w) pending_length l3) (array_back (drop disk_place b) (bytes_drop disk_place b w) places_length l4))))
       ∙ sym (
-      part_add 0 console_length (ring_length + (printer_length + (cassette_length + (pending_length + places_length)))) b
+      part_add 0 console_length (printer_length + (cassette_length + (pending_length + places_length))) b
       ∙ ap (λ (r : List ℕ). part 0 console_length b ++ r)
-      (part_add ring_place ring_length (printer_length + (cassette_length + (pending_length + places_length))) b
-      ∙ ap (λ (r : List ℕ). part ring_place ring_length b ++ r)
       (part_add printer_place printer_length (cassette_length + (pending_length + places_length)) b
       ∙ ap (λ (r : List ℕ). part printer_place printer_length b ++ r)
       (part_add cassette_place cassette_length (pending_length + places_length) b
-      ∙ ap (λ (r : List ℕ). part cassette_place cassette_length b ++ r) (part_add pending_place pending_length places_length b))))
+      ∙ ap (λ (r : List ℕ). part cassette_place cassette_length b ++ r) (part_add pending_place pending_length places_length b)))
       )
 
 module _ (b : List ℕ) (w : Bytes b) (e : stands b ≡ true) (h : rooms_place ≤ length b) where

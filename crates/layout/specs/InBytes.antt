@@ -6,7 +6,6 @@ use Rattle.blocks.specs.declared.Phase.{Phase}
 use Rattle.blocks.specs.declared.Phase.TheVariants.{Gathering, Ready, Running, Replying}
 use Rattle.editor.specs.declared.ReadColumn.{ReadColumn}
 use Rattle.editor.specs.declared.ReadColumn.TheVariants.{Dropped, At}
-use Rattle.keyboard.specs.Queue.{ring_length}
 use Rattle.disk.specs.Disk.{places_length}
 use Rattle.layout.specs.Places.{pending_length}
 use Rattle.layout.specs.Stick.{Stick}
@@ -36,12 +35,11 @@ pub record InBytes (s : Stick) : Type 0 where
   pub reading : ReadingInBytes s.devices.console.reading
   pub table0 : length s.port0.table.blocks ≡ 8
   pub table1 : length s.port1.table.blocks ≡ 8
-  pub ring : length s.devices.ring ≡ ring_length
   pub pending : length s.devices.pending ≡ pending_length
   pub places : length s.devices.places ≡ places_length
 
--- what the types of its numbers say of a stick: a field's length has two bytes, a table eight blocks; the keys' places, the
--- pending characters and the blocks' places are bytes of the state
+-- what the types of its numbers say of a stick: a field's length has two bytes, a table eight blocks; the pending characters
+-- and the places are bytes of the state
 abbrev pub LengthTyped : Phase → Type 0
 LengthTyped (Gathering g) = g.length < 65536
 LengthTyped (Ready h) = Unit
@@ -53,6 +51,5 @@ pub record Typed (s : Stick) : Type 0 where
   pub length1 : LengthTyped s.port1.phase
   pub table0 : length s.port0.table.blocks ≡ 8
   pub table1 : length s.port1.table.blocks ≡ 8
-  pub ring : length s.devices.ring ≡ ring_length
   pub pending : length s.devices.pending ≡ pending_length
   pub places : length s.devices.places ≡ places_length

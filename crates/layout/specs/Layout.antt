@@ -27,9 +27,8 @@ use Rattle.editor.specs.declared.ReadColumn.TheVariants.{Dropped, At}
 use Rattle.console.specs.declared.state.Console.{Console}
 use Rattle.printer.specs.declared.Printer.{Printer}
 use Rattle.cassette.specs.declared.Cassette.{Cassette}
-use Rattle.keyboard.specs.Queue.{ring_length}
 use Rattle.disk.specs.Disk.{places_length}
-use Rattle.layout.specs.Places.{phase_length, block_length, devices_place, console_place, ring_place, printer_place, cassette_place, pending_place, pending_length, disk_place, rooms_place, port_place}
+use Rattle.layout.specs.Places.{phase_length, block_length, devices_place, console_place, printer_place, cassette_place, pending_place, pending_length, disk_place, rooms_place, port_place}
 use Rattle.layout.specs.Stick.{Devices, devices, Stick, stick, Lent, lent}
 
 -- of a number its low byte and its high byte
@@ -110,7 +109,7 @@ reading_byte (At column) = column % 256
 unfoldable pub console_bytes : Console → List ℕ
 console_bytes c =
     c.mode ∷ c.row % 256 ∷ low_byte c.column ∷ high_byte c.column ∷ c.last ∷ pick c.escape 1 0 ∷ reading_byte c.reading
-    ∷ c.keyboard.first ∷ c.keyboard.waiting ∷ c.keyboard.lock ∷ c.keyboard.inverse ∷ []
+    ∷ c.keyboard.code ∷ c.keyboard.lock ∷ c.keyboard.inverse ∷ []
 
 unfoldable pub printer_bytes : Printer → List ℕ
 printer_bytes p = low_byte p.used ∷ high_byte p.used ∷ []
@@ -119,15 +118,14 @@ printer_bytes p = low_byte p.used ∷ high_byte p.used ∷ []
 unfoldable pub cassette_bytes : Cassette → List ℕ
 cassette_bytes c = c.mark ∷ c.«record» ∷ c.place ∷ []
 
--- an array of bytes has its length: the keys' places, the pending characters and the blocks' places
+-- an array of bytes has its length: the pending characters and the places
 unfoldable pub array_bytes : ℕ → List ℕ → List ℕ
 array_bytes n xs = take n (xs ++ replicate n 0)
 
 unfoldable pub devices_bytes : Devices → List ℕ
 devices_bytes d =
     console_bytes d.console
-    ++ (array_bytes ring_length d.ring
-    ++ (printer_bytes d.printer ++ (cassette_bytes d.cassette ++ (array_bytes pending_length d.pending ++ array_bytes places_length d.places))))
+    ++ (printer_bytes d.printer ++ (cassette_bytes d.cassette ++ (array_bytes pending_length d.pending ++ array_bytes places_length d.places)))
 
 -- the head of a stick
 unfoldable pub head_of : Stick → List ℕ
@@ -204,7 +202,7 @@ console_in b =
       last = byte_at b 4;
       escape = eqb (byte_at b 5) 1;
       reading = reading_in (byte_at b 6);
-      keyboard = record { first = byte_at b 7; waiting = byte_at b 8; lock = byte_at b 9; inverse = byte_at b 10 };
+      keyboard = record { code = byte_at b 7; lock = byte_at b 8; inverse = byte_at b 9 };
     }
 
 abbrev pub printer_in : List ℕ → Printer
@@ -219,7 +217,7 @@ array_in n b = take n b
 -- of a list that begins with the devices' numbers
 unfoldable pub devices_in : List ℕ → Devices
 devices_in b =
-    devices (console_in (drop console_place b)) (array_in ring_length (drop ring_place b)) (printer_in (drop printer_place b)) (cassette_in (drop cassette_place b))
+    devices (console_in (drop console_place b)) (printer_in (drop printer_place b)) (cassette_in (drop cassette_place b))
     (array_in pending_length (drop pending_place b)) (array_in places_length (drop disk_place b))
 
 -- the stick that the bytes stand for, if they stand for one

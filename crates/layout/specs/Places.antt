@@ -3,7 +3,6 @@
 -- Assumes nothing.
 use Rattle.std.specs.Prelude.{List, ℕ, ◌+◌, ◌*◌, ◌≤◌, ◌<◌, length}
 use Rattle.blocks.specs.Opening.{area_length}
-use Rattle.keyboard.specs.Queue.{ring_length}
 use Rattle.disk.specs.Disk.{places_length}
 use Rattle.wire.specs.Messages.{room_length}
 
@@ -28,14 +27,10 @@ abbrev pub console_place : ℕ
 console_place = 0
 
 abbrev pub console_length : ℕ
-console_length = 11
-
--- behind the console's numbers the places of the keys that wait
-abbrev pub ring_place : ℕ
-ring_place = console_place + console_length
+console_length = 10
 
 abbrev pub printer_place : ℕ
-printer_place = ring_place + ring_length
+printer_place = console_place + console_length
 
 abbrev pub printer_length : ℕ
 printer_length = 2

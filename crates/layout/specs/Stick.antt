@@ -3,7 +3,6 @@
 -- Assumes nothing.
 use Rattle.std.specs.Prelude.{List, ◌++◌, ℕ, eqb, take, drop, replicate}
 use Rattle.base.specs.Choice.{pick}
-use Rattle.keyboard.specs.Queue.{fresh_ring}
 use Rattle.console.specs.declared.state.Console.{Console}
 use Rattle.console.specs.Group.{fresh_console}
 use Rattle.printer.specs.declared.Printer.{Printer}
@@ -17,18 +16,17 @@ use Rattle.blocks.specs.declared.Phase.{Phase}
 use Rattle.blocks.specs.declared.Port.{Port}
 use Rattle.blocks.specs.Blocks.{fresh_port}
 
--- the devices' numbers, the places of the keys that wait, the cassette's pending characters, and the places of the blocks that have D open
+-- the devices' numbers, the cassette's pending characters, and the places of the blocks that have D open
 pub record Devices : Type 0 where
   pub console : Console
-  pub ring : List ℕ
   pub printer : Printer
   pub cassette : Cassette
   pub pending : List ℕ
   pub places : List ℕ
 
-abbrev pub devices : Console → (ring : List ℕ) → Printer → Cassette → (pending places : List ℕ) → Devices
-devices console ring printer cassette pending places =
-    record { console = console; ring = ring; printer = printer; cassette = cassette; pending = pending; places = places }
+abbrev pub devices : Console → Printer → Cassette → (pending places : List ℕ) → Devices
+devices console printer cassette pending places =
+    record { console = console; printer = printer; cassette = cassette; pending = pending; places = places }
 
 pub record Stick : Type 0 where
   pub port0 : Port
@@ -41,17 +39,17 @@ stick port0 port1 devices = record { port0 = port0; port1 = port1; devices = dev
 -- "Fresh: both ports gathering with no byte taken, no group held, blocks closed, .. paper used 0 .., no key, shift lock, inverse
 -- off, last character 0"; and no tape open, nothing pending, every place 0
 abbrev pub fresh_devices : Devices
-fresh_devices = devices fresh_console fresh_ring fresh_printer fresh_cassette (replicate pending_length 0) fresh_places
+fresh_devices = devices fresh_console fresh_printer fresh_cassette (replicate pending_length 0) fresh_places
 
 abbrev pub fresh_stick : Stick
 fresh_stick = stick fresh_port fresh_port fresh_devices
 
--- the stick with other devices, and with another console and other keys
+-- the stick with other devices, and with another console
 abbrev pub with_devices : Devices → Stick → Stick
 with_devices d s = stick s.port0 s.port1 d
 
-abbrev pub with_console : Console → (ring : List ℕ) → Stick → Stick
-with_console console ring s = with_devices (devices console ring s.devices.printer s.devices.cassette s.devices.pending s.devices.places) s
+abbrev pub with_console : Console → Stick → Stick
+with_console console s = with_devices (devices console s.devices.printer s.devices.cassette s.devices.pending s.devices.places) s
 
 -- port 0 or port 1
 abbrev pub port_at : ℕ → Stick → Port

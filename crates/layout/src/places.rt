@@ -3,7 +3,7 @@
 ghost use Rattle.std.specs.Prelude.{◌≡◌};
 ghost use Rattle.blocks.specs.Opening.{area_length};
 ghost use Rattle.wire.specs.Messages.{room_length};
-ghost use Rattle.layout.specs.Places.{phase_length, block_length, table_length, port_length, devices_place, console_place, ring_place, printer_place, cassette_place, pending_place, pending_length, disk_place, devices_length, rooms_place, state_length};
+ghost use Rattle.layout.specs.Places.{phase_length, block_length, table_length, port_length, devices_place, console_place, printer_place, cassette_place, pending_place, pending_length, disk_place, devices_length, rooms_place, state_length};
 
 pub const PHASE: usize = 11;
 
@@ -17,10 +17,7 @@ pub const DEVICES: usize = 2 * PORT;
 // Each device's place in the devices' numbers, and the length of these.
 pub const CONSOLE: usize = 0;
 
-// The codes of the keys that wait.
-pub const RING: usize = CONSOLE + 11;
-
-pub const PRINTER: usize = RING + keyboard::RING;
+pub const PRINTER: usize = CONSOLE + 10;
 
 pub const CASSETTE: usize = PRINTER + 2;
 // The cassette's pending characters.
@@ -50,7 +47,6 @@ struct Places {
     port: usize,
     devices: usize,
     console: usize,
-    ring: usize,
     printer: usize,
     cassette: usize,
     pending: usize,
@@ -64,7 +60,7 @@ struct Places {
 }
 
 fn agree() -> Places
-    ensures { result ≡ record { phase = phase_length; block = block_length; table = table_length; port = port_length; devices = devices_place; console = console_place; ring = ring_place; printer = printer_place; cassette = cassette_place; pending = pending_place; pended = pending_length; disk = disk_place; numbers = devices_length; rooms = rooms_place; room = room_length; state = state_length; area = area_length } }
+    ensures { result ≡ record { phase = phase_length; block = block_length; table = table_length; port = port_length; devices = devices_place; console = console_place; printer = printer_place; cassette = cassette_place; pending = pending_place; pended = pending_length; disk = disk_place; numbers = devices_length; rooms = rooms_place; room = room_length; state = state_length; area = area_length } }
 {
     Places {
         phase: PHASE,
@@ -73,7 +69,6 @@ fn agree() -> Places
         port: PORT,
         devices: DEVICES,
         console: CONSOLE,
-        ring: RING,
         printer: PRINTER,
         cassette: CASSETTE,
         pending: PENDING,

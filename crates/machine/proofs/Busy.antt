@@ -1,4 +1,4 @@
--- Not vacuous: a computed run of document 01's machine with both ports busy and keys, in which the answers 0 and 4 to 9 all come; and one
+-- Not vacuous: a computed run of document 01's machine with both ports busy and a key, in which the answers 0 and 4 to 8 all come; and one
 -- in which the tape is busy with the printer and with the console, and neither waits for the other.
 -- Assumes nothing.
 use mathlib.Core.Path.{◌≡◌, refl}
@@ -7,12 +7,11 @@ use Prim.Native.Nat.{ℕ}
 use lib.ListN.{replicate}
 use Rattle.keys.specs.Table as keys
 use Rattle.keys.specs.Translation as keys_to
-use Rattle.keyboard.specs.Queue as queue
-use Rattle.keyboard.specs.Keyboard as keyboard
+use Rattle.keys.specs.Keyboard as keyboard
 use Rattle.printer.specs.Printer as printer
 use Rattle.cassette.specs.Cassette.{cassette_at}
 use Rattle.cassette.specs.Cassette as cassette
-use Rattle.console.specs.Handlers.{open_e, open_on, open_of, prepare_e, prepare_on, prepare_of, read_e, read_k, read_of, write_e, write_on, write_of}
+use Rattle.console.specs.Handlers.{open_e, open_of, prepare_e, prepare_of, read_e, read_k, read_of, write_e, write_of}
 use Rattle.blocks.specs.Opening.{device_of, number_of, named_of, specification_of, offers_of}
 use Rattle.wire.specs.Messages.{good_field, sense_of, bad_status, message_of}
 use Rattle.replies.specs.Replies.{bytes_at, fetch_status, fetch_reply}
@@ -35,12 +34,10 @@ use Rattle.machine.proofs.Plugged.{first, says, loads, calls, opens}
 abbrev before : List (CoreCall real)
 before = opens port-0 0x50 0 8 ++ opens port-1 0x50 0 8 ++ opens port-1 0x4B 1 4
 
--- port 0 prints two characters; meanwhile sixteen keys are pressed, and a seventeenth, which finds no place; port 1 reads the last, past the
--- fifteen that make no character, in one tick; and its own print waits
+-- port 0 prints two characters; meanwhile a key is pressed, port 1 reads it, and its own print waits
 abbrev busy : List (CoreCall real)
 busy =
-    says port-0 (calls 0 0x0B 0 2 0) ++ (tick port-0 ∷ take port-0 1 ∷ give port-0 ∷ tick port-1 ∷ [])
-    ++ replicate 15 (press 0xC0) ++ (press 0x3F ∷ press 0x15 ∷ [])
+    says port-0 (calls 0 0x0B 0 2 0) ++ (tick port-0 ∷ take port-0 1 ∷ give port-0 ∷ tick port-1 ∷ press 0x3F ∷ [])
     ++ says port-1 (calls 1 0x07 0 0 0) ++ (tick port-1 ∷ press 0x15 ∷ tick port-0 ∷ tick port-1 ∷ replicate 7 (give port-1))
     ++ says port-1 (calls 0 0x0B 0 1 0) ++ (tick port-1 ∷ tick port-0 ∷ tick port-1 ∷ tick port-1 ∷ replicate 7 (give port-1))
     ++ replicate 7 (give port-0)
@@ -51,14 +48,13 @@ busy_calls = before ++ busy
 abbrev pub busy_numbers : List ℕ
 busy_numbers =
     replicate 96 0
-    ++ replicate 12 0 ++ (0 ∷ 4 ∷ 5 ∷ 7 ∷ [])
-    ++ replicate 16 0 ++ (9 ∷ [])
+    ++ replicate 12 0 ++ (0 ∷ 4 ∷ 5 ∷ 7 ∷ 0 ∷ [])
     ++ replicate 12 0 ++ (0 ∷ 6 ∷ 0 ∷ 0 ∷ replicate 7 0)
     ++ replicate 12 0 ++ (8 ∷ 0 ∷ 0 ∷ 0 ∷ replicate 7 0)
     ++ replicate 7 0
 
 pub machine_answers : answers real (core_of real) busy_calls first ≡ busy_numbers
-unfolding after feed fed_of good_field sense_of bad_status message_of errand_step plan_step move_by keys.keys keys_to.entry_of keys_to.key_answer keys_to.translate_of keyboard.obeyed keyboard.struck_of queue.codes_from queue.place_behind queue.cleared queue.press_of keyboard.get_of printer.put_of open_e open_on open_of prepare_e prepare_on prepare_of read_e read_k read_of write_e write_on write_of device_of number_of named_of specification_of offers_of bytes_at fetch_status fetch_reply moves.get_of moves.put_of moves.go_of moves.advance_of command_of way_of area_plan transfer_plan block_plan name_of named_for call_plan plan_in plan_of loaded_of load_status then_of opened_of opening_of transfer_of work_of onward_of record_of got_character got_of sent_byte sent_record sent_next sent_of loaded
+unfolding after feed fed_of good_field sense_of bad_status message_of errand_step plan_step move_by keys.keys keys_to.entry_of keys_to.key_answer keys_to.translate_of keyboard.obeyed keyboard.struck_by keyboard.get_of printer.put_of open_e open_of prepare_e prepare_of read_e read_k read_of write_e write_of device_of number_of named_of specification_of offers_of bytes_at fetch_status fetch_reply moves.get_of moves.put_of moves.go_of moves.advance_of command_of way_of area_plan transfer_plan block_plan name_of named_for call_plan plan_in plan_of loaded_of load_status then_of opened_of opening_of transfer_of work_of onward_of record_of got_character got_of sent_byte sent_record sent_next sent_of loaded
 machine_answers = refl
 
 abbrev pub machine_end : State real (core_of real)
@@ -66,15 +62,15 @@ machine_end = after real (core_of real) busy_calls (begin real (core_of real) fi
 
 -- two characters and one on the paper, both ports gathering
 pub machine_used : machine_end.world.devs.printer.used ≡ 3
-unfolding after feed fed_of good_field sense_of bad_status message_of errand_step plan_step move_by keys.keys keys_to.entry_of keys_to.key_answer keys_to.translate_of keyboard.obeyed keyboard.struck_of queue.codes_from queue.place_behind queue.cleared queue.press_of keyboard.get_of printer.put_of open_e open_on open_of prepare_e prepare_on prepare_of read_e read_k read_of write_e write_on write_of device_of number_of named_of specification_of offers_of bytes_at fetch_status fetch_reply moves.get_of moves.put_of moves.go_of moves.advance_of command_of way_of area_plan transfer_plan block_plan name_of named_for call_plan plan_in plan_of loaded_of load_status then_of opened_of opening_of transfer_of work_of onward_of record_of got_character got_of sent_byte sent_record sent_next sent_of loaded
+unfolding after feed fed_of good_field sense_of bad_status message_of errand_step plan_step move_by keys.keys keys_to.entry_of keys_to.key_answer keys_to.translate_of keyboard.obeyed keyboard.struck_by keyboard.get_of printer.put_of open_e open_of prepare_e prepare_of read_e read_k read_of write_e write_of device_of number_of named_of specification_of offers_of bytes_at fetch_status fetch_reply moves.get_of moves.put_of moves.go_of moves.advance_of command_of way_of area_plan transfer_plan block_plan name_of named_for call_plan plan_in plan_of loaded_of load_status then_of opened_of opening_of transfer_of work_of onward_of record_of got_character got_of sent_byte sent_record sent_next sent_of loaded
 machine_used = refl
 
 pub machine_0 : phase_at real port-0 machine_end.world ≡ gathering nothing_yet
-unfolding after feed fed_of good_field sense_of bad_status message_of errand_step plan_step move_by keys.keys keys_to.entry_of keys_to.key_answer keys_to.translate_of keyboard.obeyed keyboard.struck_of queue.codes_from queue.place_behind queue.cleared queue.press_of keyboard.get_of printer.put_of open_e open_on open_of prepare_e prepare_on prepare_of read_e read_k read_of write_e write_on write_of device_of number_of named_of specification_of offers_of bytes_at fetch_status fetch_reply moves.get_of moves.put_of moves.go_of moves.advance_of command_of way_of area_plan transfer_plan block_plan name_of named_for call_plan plan_in plan_of loaded_of load_status then_of opened_of opening_of transfer_of work_of onward_of record_of got_character got_of sent_byte sent_record sent_next sent_of loaded
+unfolding after feed fed_of good_field sense_of bad_status message_of errand_step plan_step move_by keys.keys keys_to.entry_of keys_to.key_answer keys_to.translate_of keyboard.obeyed keyboard.struck_by keyboard.get_of printer.put_of open_e open_of prepare_e prepare_of read_e read_k read_of write_e write_of device_of number_of named_of specification_of offers_of bytes_at fetch_status fetch_reply moves.get_of moves.put_of moves.go_of moves.advance_of command_of way_of area_plan transfer_plan block_plan name_of named_for call_plan plan_in plan_of loaded_of load_status then_of opened_of opening_of transfer_of work_of onward_of record_of got_character got_of sent_byte sent_record sent_next sent_of loaded
 machine_0 = refl
 
 pub machine_1 : phase_at real port-1 machine_end.world ≡ gathering nothing_yet
-unfolding after feed fed_of good_field sense_of bad_status message_of errand_step plan_step move_by keys.keys keys_to.entry_of keys_to.key_answer keys_to.translate_of keyboard.obeyed keyboard.struck_of queue.codes_from queue.place_behind queue.cleared queue.press_of keyboard.get_of printer.put_of open_e open_on open_of prepare_e prepare_on prepare_of read_e read_k read_of write_e write_on write_of device_of number_of named_of specification_of offers_of bytes_at fetch_status fetch_reply moves.get_of moves.put_of moves.go_of moves.advance_of command_of way_of area_plan transfer_plan block_plan name_of named_for call_plan plan_in plan_of loaded_of load_status then_of opened_of opening_of transfer_of work_of onward_of record_of got_character got_of sent_byte sent_record sent_next sent_of loaded
+unfolding after feed fed_of good_field sense_of bad_status message_of errand_step plan_step move_by keys.keys keys_to.entry_of keys_to.key_answer keys_to.translate_of keyboard.obeyed keyboard.struck_by keyboard.get_of printer.put_of open_e open_of prepare_e prepare_of read_e read_k read_of write_e write_of device_of number_of named_of specification_of offers_of bytes_at fetch_status fetch_reply moves.get_of moves.put_of moves.go_of moves.advance_of command_of way_of area_plan transfer_plan block_plan name_of named_for call_plan plan_in plan_of loaded_of load_status then_of opened_of opening_of transfer_of work_of onward_of record_of got_character got_of sent_byte sent_record sent_next sent_of loaded
 machine_1 = refl
 
 -- port 1 is given the key's character, and its own counts
@@ -84,7 +80,7 @@ busy_given =
     0x90 ∷ 4 ∷ 0 ∷ 1 ∷ 0 ∷ 0 ∷ 0x41 ∷ 0x90 ∷ 4 ∷ 0 ∷ 1 ∷ 1 ∷ 0 ∷ 0 ∷ []
 
 pub machine_given : machine_end.seen.port.first.given ≡ busy_given
-unfolding after feed fed_of good_field sense_of bad_status message_of errand_step plan_step move_by keys.keys keys_to.entry_of keys_to.key_answer keys_to.translate_of keyboard.obeyed keyboard.struck_of queue.codes_from queue.place_behind queue.cleared queue.press_of keyboard.get_of printer.put_of open_e open_on open_of prepare_e prepare_on prepare_of read_e read_k read_of write_e write_on write_of device_of number_of named_of specification_of offers_of bytes_at fetch_status fetch_reply moves.get_of moves.put_of moves.go_of moves.advance_of command_of way_of area_plan transfer_plan block_plan name_of named_for call_plan plan_in plan_of loaded_of load_status then_of opened_of opening_of transfer_of work_of onward_of record_of got_character got_of sent_byte sent_record sent_next sent_of loaded
+unfolding after feed fed_of good_field sense_of bad_status message_of errand_step plan_step move_by keys.keys keys_to.entry_of keys_to.key_answer keys_to.translate_of keyboard.obeyed keyboard.struck_by keyboard.get_of printer.put_of open_e open_of prepare_e prepare_of read_e read_k read_of write_e write_of device_of number_of named_of specification_of offers_of bytes_at fetch_status fetch_reply moves.get_of moves.put_of moves.go_of moves.advance_of command_of way_of area_plan transfer_plan block_plan name_of named_for call_plan plan_in plan_of loaded_of load_status then_of opened_of opening_of transfer_of work_of onward_of record_of got_character got_of sent_byte sent_record sent_next sent_of loaded
 machine_given = refl
 
 -- Three groups: port 0 has C on block 0, and port 1 P on block 0 and K on block 1
@@ -113,7 +109,7 @@ tape_numbers =
     ++ replicate 7 0
 
 pub tape_answers : answers real (core_of real) tape_calls first ≡ tape_numbers
-unfolding after feed fed_of good_field sense_of bad_status message_of errand_step plan_step move_by keys.keys keys_to.entry_of keys_to.key_answer keys_to.translate_of keyboard.obeyed keyboard.struck_of queue.codes_from queue.place_behind queue.cleared queue.press_of keyboard.get_of printer.put_of open_e open_on open_of prepare_e prepare_on prepare_of read_e read_k read_of write_e write_on write_of device_of number_of named_of specification_of offers_of bytes_at fetch_status fetch_reply moves.get_of moves.put_of moves.go_of moves.advance_of command_of way_of area_plan transfer_plan block_plan name_of named_for call_plan plan_in plan_of loaded_of load_status then_of opened_of opening_of transfer_of work_of onward_of record_of got_character got_of sent_byte sent_record sent_next sent_of loaded cassette.tape_opened cassette.write_of cassette.taken_of
+unfolding after feed fed_of good_field sense_of bad_status message_of errand_step plan_step move_by keys.keys keys_to.entry_of keys_to.key_answer keys_to.translate_of keyboard.obeyed keyboard.struck_by keyboard.get_of printer.put_of open_e open_of prepare_e prepare_of read_e read_k read_of write_e write_of device_of number_of named_of specification_of offers_of bytes_at fetch_status fetch_reply moves.get_of moves.put_of moves.go_of moves.advance_of command_of way_of area_plan transfer_plan block_plan name_of named_for call_plan plan_in plan_of loaded_of load_status then_of opened_of opening_of transfer_of work_of onward_of record_of got_character got_of sent_byte sent_record sent_next sent_of loaded cassette.tape_opened cassette.write_of cassette.taken_of
 tape_answers = refl
 
 abbrev pub tape_end : State real (core_of real)
@@ -121,11 +117,11 @@ tape_end = after real (core_of real) tape_calls (begin real (core_of real) first
 
 -- the two characters are pending on the tape, which port 0 has open for writing; one is on the paper
 pub tape_written : tape_end.world.devs.cassette.cassette ≡ cassette_at 2 0 2
-unfolding after feed fed_of good_field sense_of bad_status message_of errand_step plan_step move_by keys.keys keys_to.entry_of keys_to.key_answer keys_to.translate_of keyboard.obeyed keyboard.struck_of queue.codes_from queue.place_behind queue.cleared queue.press_of keyboard.get_of printer.put_of open_e open_on open_of prepare_e prepare_on prepare_of read_e read_k read_of write_e write_on write_of device_of number_of named_of specification_of offers_of bytes_at fetch_status fetch_reply moves.get_of moves.put_of moves.go_of moves.advance_of command_of way_of area_plan transfer_plan block_plan name_of named_for call_plan plan_in plan_of loaded_of load_status then_of opened_of opening_of transfer_of work_of onward_of record_of got_character got_of sent_byte sent_record sent_next sent_of loaded cassette.tape_opened cassette.write_of cassette.taken_of
+unfolding after feed fed_of good_field sense_of bad_status message_of errand_step plan_step move_by keys.keys keys_to.entry_of keys_to.key_answer keys_to.translate_of keyboard.obeyed keyboard.struck_by keyboard.get_of printer.put_of open_e open_of prepare_e prepare_of read_e read_k read_of write_e write_of device_of number_of named_of specification_of offers_of bytes_at fetch_status fetch_reply moves.get_of moves.put_of moves.go_of moves.advance_of command_of way_of area_plan transfer_plan block_plan name_of named_for call_plan plan_in plan_of loaded_of load_status then_of opened_of opening_of transfer_of work_of onward_of record_of got_character got_of sent_byte sent_record sent_next sent_of loaded cassette.tape_opened cassette.write_of cassette.taken_of
 tape_written = refl
 
 pub tape_printed : tape_end.world.devs.printer.used ≡ 1
-unfolding after feed fed_of good_field sense_of bad_status message_of errand_step plan_step move_by keys.keys keys_to.entry_of keys_to.key_answer keys_to.translate_of keyboard.obeyed keyboard.struck_of queue.codes_from queue.place_behind queue.cleared queue.press_of keyboard.get_of printer.put_of open_e open_on open_of prepare_e prepare_on prepare_of read_e read_k read_of write_e write_on write_of device_of number_of named_of specification_of offers_of bytes_at fetch_status fetch_reply moves.get_of moves.put_of moves.go_of moves.advance_of command_of way_of area_plan transfer_plan block_plan name_of named_for call_plan plan_in plan_of loaded_of load_status then_of opened_of opening_of transfer_of work_of onward_of record_of got_character got_of sent_byte sent_record sent_next sent_of loaded cassette.tape_opened cassette.write_of cassette.taken_of
+unfolding after feed fed_of good_field sense_of bad_status message_of errand_step plan_step move_by keys.keys keys_to.entry_of keys_to.key_answer keys_to.translate_of keyboard.obeyed keyboard.struck_by keyboard.get_of printer.put_of open_e open_of prepare_e prepare_of read_e read_k read_of write_e write_of device_of number_of named_of specification_of offers_of bytes_at fetch_status fetch_reply moves.get_of moves.put_of moves.go_of moves.advance_of command_of way_of area_plan transfer_plan block_plan name_of named_for call_plan plan_in plan_of loaded_of load_status then_of opened_of opening_of transfer_of work_of onward_of record_of got_character got_of sent_byte sent_record sent_next sent_of loaded cassette.tape_opened cassette.write_of cassette.taken_of
 tape_printed = refl
 
 -- port 1 is given its count, the key's character, and $81
@@ -135,5 +131,5 @@ tape_given =
     0x90 ∷ 4 ∷ 0 ∷ 1 ∷ 1 ∷ 0 ∷ 0 ∷ 0x90 ∷ 4 ∷ 0 ∷ 1 ∷ 0 ∷ 0 ∷ 0x41 ∷ 0x91 ∷ 1 ∷ 0 ∷ 1 ∷ 0x90 ∷ 4 ∷ 0 ∷ 0x81 ∷ 0 ∷ 0 ∷ 0 ∷ []
 
 pub tape_given_lem : tape_end.seen.port.first.given ≡ tape_given
-unfolding after feed fed_of good_field sense_of bad_status message_of errand_step plan_step move_by keys.keys keys_to.entry_of keys_to.key_answer keys_to.translate_of keyboard.obeyed keyboard.struck_of queue.codes_from queue.place_behind queue.cleared queue.press_of keyboard.get_of printer.put_of open_e open_on open_of prepare_e prepare_on prepare_of read_e read_k read_of write_e write_on write_of device_of number_of named_of specification_of offers_of bytes_at fetch_status fetch_reply moves.get_of moves.put_of moves.go_of moves.advance_of command_of way_of area_plan transfer_plan block_plan name_of named_for call_plan plan_in plan_of loaded_of load_status then_of opened_of opening_of transfer_of work_of onward_of record_of got_character got_of sent_byte sent_record sent_next sent_of loaded cassette.tape_opened cassette.write_of cassette.taken_of
+unfolding after feed fed_of good_field sense_of bad_status message_of errand_step plan_step move_by keys.keys keys_to.entry_of keys_to.key_answer keys_to.translate_of keyboard.obeyed keyboard.struck_by keyboard.get_of printer.put_of open_e open_of prepare_e prepare_of read_e read_k read_of write_e write_of device_of number_of named_of specification_of offers_of bytes_at fetch_status fetch_reply moves.get_of moves.put_of moves.go_of moves.advance_of command_of way_of area_plan transfer_plan block_plan name_of named_for call_plan plan_in plan_of loaded_of load_status then_of opened_of opening_of transfer_of work_of onward_of record_of got_character got_of sent_byte sent_record sent_next sent_of loaded cassette.tape_opened cassette.write_of cassette.taken_of
 tape_given_lem = refl

@@ -10,8 +10,7 @@ use lib.ListN.{get_or}
 use Rattle.base.proofs.Table.{both, both_left, both_right}
 use Rattle.keys.specs.Table as keys
 use Rattle.keys.specs.Translation as keys_to
-use Rattle.keyboard.specs.Queue as queue
-use Rattle.keyboard.specs.Keyboard as keyboard
+use Rattle.keys.specs.Keyboard as keyboard
 use Rattle.cells.specs.Modes.{modes, row_of, shape_of, count_of}
 use Rattle.cells.specs.Cells.{cell_of, with_cell, filled, reduced, scrolled}
 use Rattle.controls.specs.Decide as controls_acts
@@ -20,7 +19,7 @@ use Rattle.controls.specs.Put as controls
 use Rattle.editor.specs.Get as editor_get
 use Rattle.graphics.specs.Picture as graphics
 use Rattle.printer.specs.Printer as printer
-use Rattle.console.specs.Handlers.{open_e, open_s, open_on, open_of, prepare_e, prepare_s, prepare_on, prepare_of, read_e, read_s, read_k, read_of, write_e, write_s, write_on, write_of}
+use Rattle.console.specs.Handlers.{open_e, open_s, open_of, prepare_e, prepare_s, prepare_of, read_e, read_s, read_k, read_of, write_e, write_s, write_of}
 use Rattle.blocks.specs.Opening.{device_of, number_of, named_of, specification_of, offers_of}
 use Rattle.wire.specs.Messages.{good_field, sense_of, bad_status, message_of}
 use Rattle.replies.specs.Replies.{bytes_at, fetch_status, fetch_reply}
@@ -122,7 +121,7 @@ outcomes =
     heard (opened ++ calls 0x01 0 5) (0 ∷ 1 ∷ []) (1 ∷ 0 ∷ 0 ∷ []) ∷ []
 
 machine_cases : map machine_plays scripts ≡ outcomes
-unfolding after feed fed_of good_field sense_of bad_status message_of errand_step plan_step move_by keys.keys keys_to.entry_of keys_to.key_answer keys_to.translate_of keyboard.obeyed keyboard.struck_of queue.codes_from queue.place_behind queue.cleared queue.press_of keyboard.get_of printer.put_of open_e open_on open_of prepare_e prepare_on prepare_of read_e read_k read_of write_e write_on write_of device_of number_of named_of specification_of offers_of bytes_at fetch_status fetch_reply moves.get_of moves.put_of moves.go_of moves.advance_of command_of way_of area_plan transfer_plan block_plan name_of named_for call_plan plan_in plan_of loaded_of load_status then_of opened_of opening_of transfer_of work_of onward_of record_of got_character got_of sent_byte sent_record sent_next sent_of loaded modes row_of shape_of count_of cell_of with_cell filled reduced scrolled controls_acts.plain_of controls_acts.act_of editor.new_row editor.open_of controls.less_of controls.more_of controls.clear_of controls.back_of controls.onward controls.data_of controls.doing controls.put_of editor_get.cells_held editor_get.end_of editor_get.get_at editor_get.get_of graphics.onward graphics.cells_opened graphics.open_of graphics.get_of graphics.clear_of graphics.data_of graphics.put_of open_s prepare_s read_s write_s
+unfolding after feed fed_of good_field sense_of bad_status message_of errand_step plan_step move_by keys.keys keys_to.entry_of keys_to.key_answer keys_to.translate_of keyboard.obeyed keyboard.struck_by keyboard.get_of printer.put_of open_e open_of prepare_e prepare_of read_e read_k read_of write_e write_of device_of number_of named_of specification_of offers_of bytes_at fetch_status fetch_reply moves.get_of moves.put_of moves.go_of moves.advance_of command_of way_of area_plan transfer_plan block_plan name_of named_for call_plan plan_in plan_of loaded_of load_status then_of opened_of opening_of transfer_of work_of onward_of record_of got_character got_of sent_byte sent_record sent_next sent_of loaded modes row_of shape_of count_of cell_of with_cell filled reduced scrolled controls_acts.plain_of controls_acts.act_of editor.new_row editor.open_of controls.less_of controls.more_of controls.clear_of controls.back_of controls.onward controls.data_of controls.doing controls.put_of editor_get.cells_held editor_get.end_of editor_get.get_at editor_get.get_of graphics.onward graphics.cells_opened graphics.open_of graphics.get_of graphics.clear_of graphics.data_of graphics.put_of open_s prepare_s read_s write_s
 machine_cases = refl
 
 -- the five calls play what the machine plays

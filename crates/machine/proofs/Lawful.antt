@@ -2,16 +2,14 @@
 -- Assumes nothing.
 use mathlib.Core.Path.{◌≡◌, refl, sym, ◌∙◌, ap, subst}
 use mathlib.Core.Bool.{true}
-use mathlib.Core.Option.{Option, none, some}
+use mathlib.Core.Option.{some}
 use mathlib.Core.List.{List, []}
 use Prim.Native.Nat.{ℕ, zero, suc, ◌<◌}
 use native.Mathlib.Omega.{arith}
 use lib.ListN.{length}
 use Rattle.handler.specs.declared.Asked.{Asked}
 use Rattle.handler.specs.Acts.{Acts}
-use Rattle.base.proofs.Choices.{choose_go}
-use Rattle.keyboard.specs.Queue.{full_of}
-use Rattle.console.specs.Group.{ConsoleGroup, keyed_of, with_keyed, pressed_of}
+use Rattle.console.specs.Group.{ConsoleGroup}
 use Rattle.console.specs.Fit.{FitGroup}
 use Rattle.console.proofs.Keeps.{press_fit}
 use Rattle.blocks.specs.declared.Device.{Device}
@@ -319,19 +317,14 @@ module _ (p : PortName) (m : Said) (t : Two Local) (d : Groups) (f : FitAll t d)
   unfolding alone_of
   alone_else = plan_else asks (fit_at p t d f) d f.groups (plan_of (asked_of m) asks.table asks.area) (bytes_of m)
 
--- a press that is taken leaves the console fit
-pressed_fit : (code : ℕ) (g x : ConsoleGroup) → FitGroup g → pressed_on code g ≡ some x → FitGroup x
-pressed_fit code g x f =
-    choose_go (λ (o : Option ConsoleGroup). o ≡ some x → FitGroup x) (full_of g.console.keyboard) _ _
-    (λ t e. let z : ◌≡◌ {A = ℕ} 0 1 = cc in absurd (omega arith))
-    (λ t e. let q : with_keyed g (pressed_of code (keyed_of g)) ≡ x = cc in subst FitGroup q (press_fit code g f))
-
-pub hit_fit : (code : ℕ) (x : ConsoleGroup) (t : Two Local) (d : Groups) → FitAll t d → pressed_on code d.console ≡ some x → FitAll t (put_group groups.Console d x)
+pub hit_fit : (code : ℕ) (x : ConsoleGroup) (t : Two Local) (d : Groups) → FitAll t d → some (pressed_on code d.console) ≡ some x → FitAll t (put_group groups.Console d x)
 hit_fit code x t d f e =
+    let q : pressed_on code d.console ≡ x = cc in
+    let c = f.groups.console in
     record {
       zeroth = f.zeroth;
       first = f.first;
-      groups = record { console = pressed_fit code d.console x f.groups.console e; printer = f.groups.printer; cassette = f.groups.cassette; disk = f.groups.disk };
+      groups = record { console = subst FitGroup q (record { fit = press_fit code d.console.console c.fit; whole = c.whole }); printer = f.groups.printer; cassette = f.groups.cassette; disk = f.groups.disk };
       marks = f.marks;
       number0 = f.number0;
       number1 = f.number1;

@@ -2,7 +2,7 @@
 -- Assumes nothing.
 use mathlib.Core.Path.{◌≡◌, refl, sym, ◌∙◌, ap, subst}
 use mathlib.Core.Bool.{Bool, true, false, ◌||◌}
-use mathlib.Core.Option.{Option, none, some}
+use mathlib.Core.Option.{some}
 use mathlib.Core.List.{List, [], ◌∷◌, ◌++◌}
 use Prim.Native.Nat.{ℕ, ◌≤◌}
 use native.Mathlib.Omega.{arith}
@@ -11,8 +11,6 @@ use lib.ListN.{length, take, drop}
 use lib.Seq.{length-take-le, take_at, drop_at}
 use Rattle.base.specs.Choice.{choose, or}
 use Rattle.base.proofs.Choices.{pick_eq}
-use Rattle.keyboard.specs.Queue.{full_of}
-use Rattle.console.specs.Group.{keyed_of, with_keyed, pressed_of}
 use Rattle.blocks.specs.declared.Port as blocks
 use Rattle.blocks.specs.Opening.{area_length}
 use Rattle.wire.specs.Messages.{room_length, good_field}
@@ -120,9 +118,9 @@ module _ (s : Stick) (l : Lent) (g : Guarded s l) where
   abbrev fit : never.Undamaged s
   fit = never.undamaged_of s l g.fits
 
-  -- a table has eight blocks, and the keys' places, the pending characters and the blocks' places their bytes
+  -- a table has eight blocks, and the pending characters and the blocks' places their bytes
   shaped : Undamaged real view → Shaped s
-  shaped u = record { table0 = u.fit.zeroth.eight; table1 = u.fit.first.eight; ring = u.fit.groups.console.keys.places; pending = u.fit.groups.cassette.pending; places = u.fit.groups.disk.places }
+  shaped u = record { table0 = u.fit.zeroth.eight; table1 = u.fit.first.eight; pending = u.fit.groups.cassette.pending; places = u.fit.groups.disk.places }
 
   -- a port below 2 is not refused
   allowed : (port : ℕ) → ltb port 2 ≡ true → refusal_of s l port ≡ 0
@@ -231,11 +229,9 @@ module _ (s : Stick) (l : Lent) (g : Guarded s l) where
           ∙ ap (λ (q : PortView real). on_port real p (tick_act real q.phase q.local (phase_at real (other p) view) view.devs) view) (sym own_seen)
 
   -- press
-  pressed_seen : (code : ℕ) (t full : Bool) → effect_seen done (choose t (λ u. refused 6 s l) (λ u. choose full (λ v. refused 9 s l) (λ v. outcome 0 0 (with_key code s) l)))
-      ≡ press_if real t (choose full (λ u. none) (λ u. some (with_keyed view.devs.console (pressed_of code (keyed_of view.devs.console))))) view
-  pressed_seen code true full = refl
-  pressed_seen code false true = refl
-  pressed_seen code false false = refl
+  pressed_seen : (code : ℕ) (t : Bool) → effect_seen done (choose t (λ u. refused 6 s l) (λ u. outcome 0 0 (with_key code s) l)) ≡ press_if real t (some (pressed_on code view.devs.console)) view
+  pressed_seen code true = refl
+  pressed_seen code false = refl
 
   press_seen : (code : ℕ) → effect_seen done (press_at s l code) ≡ call_of real (calls.press code) view
   unfolding press_at
@@ -245,7 +241,7 @@ module _ (s : Stick) (l : Lent) (g : Guarded s l) where
       let x = holds real groups.Console (phase_at real port-0 view) in
       let y = holds real groups.Console (phase_at real port-1 view) in
       let q : (x || y) ≡ console_held s = or_is x y ∙ ap (λ (t : Bool). or t y) a ∙ ap (or (clash groups.Console (held_of s.port0.phase))) b in
-      pressed_seen code (console_held s) (full_of s.devices.console.keyboard) ∙ ap (λ (t : Bool). press_if real t (pressed_on code view.devs.console) view) (sym q)
+      pressed_seen code (console_held s) ∙ ap (λ (t : Bool). press_if real t (some (pressed_on code view.devs.console)) view) (sym q)
 
   -- each call
   call_seen : Undamaged real view → (c : CoreCall real) → OkCall real c → record { world = view_of (called c here).world; answer = (called c here).answer } ≡ call_of real c view
@@ -373,7 +369,7 @@ always_sound = any.always_sound real lawful sticks Sound steps
 pub always_eight : (w : World) → Reached real sticks w → (length w.stick.port0.table.blocks ≡ 8) × (length w.stick.port1.table.blocks ≡ 8)
 always_eight w r = let f = (never_damaged w r).fit in (f.zeroth.eight, f.first.eight)
 
--- and the keyboard its sixteen places, the pending characters their 128 bytes, the blocks' places their 240
+-- and the pending characters their 128 bytes, the places their 240
 pub always_shaped : (w : World) → Reached real sticks w → Shaped w.stick
 always_shaped w r = shaped w.stick w.buffers (always_sound w r) (never_damaged w r)
 
@@ -381,10 +377,10 @@ always_shaped w r = shaped w.stick w.buffers (always_sound w r) (never_damaged w
 past_three : (n : ℕ) → (n ≡ 0 → ⊥) → (n ≡ 1 → ⊥) → (n ≡ 2 → ⊥) → (n ≡ 3 → ⊥) → 4 ≤ n
 past_three n a b c d = omega arith
 
-nine_else : (n : ℕ) → 4 ≤ n → n ≤ 9 → (n ≡ 4 → ⊥) → (n ≡ 5 → ⊥) → (n ≡ 6 → ⊥) → (n ≡ 7 → ⊥) → (n ≡ 8 → ⊥) → 9 ≡ n
-nine_else n l h a b c d e = omega arith
+none_else : (n : ℕ) → 4 ≤ n → n ≤ 8 → (n ≡ 4 → ⊥) → (n ≡ 5 → ⊥) → (n ≡ 6 → ⊥) → (n ≡ 7 → ⊥) → (n ≡ 8 → ⊥) → ⊥
+none_else n l h a b c d e = omega arith
 
-number_is : (zero : Answer real) → number real zero ≡ 0 → (n : ℕ) → n ≤ 9 → (n ≡ 1 → ⊥) → (n ≡ 2 → ⊥) → (n ≡ 3 → ⊥) → number real (answer_by zero n) ≡ n
+number_is : (zero : Answer real) → number real zero ≡ 0 → (n : ℕ) → n ≤ 8 → (n ≡ 1 → ⊥) → (n ≡ 2 → ⊥) → (n ≡ 3 → ⊥) → number real (answer_by zero n) ≡ n
 number_is zero e n most one two three =
     let P : Answer real → Type 0 = λ a. number real a ≡ n in
     pick_eq P n 0 _ _ (λ z. e ∙ sym z)
@@ -393,11 +389,11 @@ number_is zero e n most one two three =
     (λ c. pick_eq P n 6 _ _ (λ z. sym z)
     (λ d. pick_eq P n 7 _ _ (λ z. sym z)
     (λ f. pick_eq P n 8 _ _ (λ z. sym z)
-    (λ h. nine_else n (past_three n a one two three) most b c d f h))))))
+    (λ h. absurd (none_else n (past_three n a one two three) most b c d f h)))))))
 
 module _ (s : Stick) (l : Lent) (g : Guarded s l) where
   -- 2, 3 and 1 are not given
-  first_is : (zero : Answer real) → number real zero ≡ 0 → (port n : ℕ) → port ≤ 1 → n ≤ 9 → FirstAnswers s l port n → number real (answer_by zero n) ≡ n
+  first_is : (zero : Answer real) → number real zero ≡ 0 → (port n : ℕ) → port ≤ 1 → n ≤ 8 → FirstAnswers s l port n → number real (answer_by zero n) ≡ n
   first_is zero e port n p most a =
       number_is zero e n most
       (λ z. let b = (a.above.0 z).above in absurd (omega arith))
@@ -415,7 +411,7 @@ module _ (s : Stick) (l : Lent) (g : Guarded s l) where
   call_number (calls.press code) =
       let a = press_answers s l code in
       number_is done refl _ (press_most s l code)
-      (λ z. answers.never a.numbers (ap (one_of (0 ∷ 2 ∷ 3 ∷ 6 ∷ 9 ∷ [])) z))
+      (λ z. answers.never a.numbers (ap (one_of (0 ∷ 2 ∷ 3 ∷ 6 ∷ [])) z))
       (λ z. a.lengths.0 z g.lengths)
       (λ z. answers.never g.fits (a.damaged.0 z).damaged)
 

@@ -2,7 +2,7 @@
 -- alone, and what is not damaged.
 -- Assumes nothing.
 use Rattle.std.specs.Prelude.{◌≡◌, true, List, [], ◌∷◌, ℕ, ◌<◌, length}
-use Rattle.std.proofs.Math.Option.{Option, none, some}
+use Rattle.std.proofs.Math.Option.{some}
 use Rattle.handler.specs.declared.Asked.{Asked}
 use Rattle.handler.specs.declared.Done.TheVariants as done
 use Rattle.handler.specs.declared.Got.TheVariants as got
@@ -11,9 +11,7 @@ use Rattle.handler.specs.Acts.{Acts}
 use Rattle.printer.specs.Printer.{printer_acts}
 use Rattle.cassette.specs.Cassette.{cassette_acts}
 use Rattle.disk.specs.Disk.{disk_acts}
-use Rattle.base.specs.Choice.{choose}
-use Rattle.keyboard.specs.Queue.{full_of}
-use Rattle.console.specs.Group.{ConsoleGroup, keyed_of, with_keyed, pressed_of}
+use Rattle.console.specs.Group.{ConsoleGroup, group, pressed_of}
 use Rattle.console.specs.Handlers.{console_acts}
 use Rattle.console.specs.Fit.{InUse}
 use Rattle.blocks.specs.declared.Run.{Run}
@@ -125,9 +123,9 @@ move_by g run l x = went_by l (advance_of (acts_in g (owner_of run.device)) l.nu
 abbrev pub alone_by : Said → Local → Groups → AloneLeaves ℕ Local Groups
 alone_by said l s = let w = alone_of said l s in record { local = w.local; devs = w.groups; reply = reply_by w.reply }
 
--- a press adds at the end; "A seventeenth press answers a new number 9, queue full, and changes nothing"
-abbrev pub pressed_on : ℕ → ConsoleGroup → Option ConsoleGroup
-pressed_on code g = choose (full_of g.console.keyboard) (λ u. none) (λ u. some (with_keyed g (pressed_of code (keyed_of g))))
+-- "A press stores the code over an older one"; the console refuses none
+abbrev pub pressed_on : ℕ → ConsoleGroup → ConsoleGroup
+pressed_on code g = group (pressed_of code g.console) g.screen
 
 -- both ports' data, each with its port's number, with the groups undamaged; the blocks that have C open at one with the cassette's mark,
 -- and those that have D open with their places
@@ -179,7 +177,7 @@ real = record {
   alone = alone_by;
   Key = ℕ;
   console = groups.Console;
-  hit = pressed_on;
+  hit = λ code x. some (pressed_on code x);
   OkByte = λ byte. byte < 256;
   Gathered = GatheredSoFar;
   Spells = Spells;

@@ -47,7 +47,7 @@ abbrev pub port_number : PortName → ℕ
 port_number port-0 = 0
 port_number port-1 = 1
 
--- the table's numbers, and 9 where it is none of document 01's; no call of a run's ports, with the run's own state and buffers, is answered another (`numbers` in Linked)
+-- the table's numbers; no call of a run's ports, with the run's own state and buffers, is answered another (`numbers` in Linked)
 abbrev pub answer_by : Answer real → ℕ → Answer real
 answer_by on-0 number =
     pick (eqb number 0) on-0

@@ -47,7 +47,7 @@ module _ (b : List ℕ) where
       phase_replying r z e = rw (ne_eqb (byte_at b 0) 0 n0, ne_eqb (byte_at b 0) 1 n1, ne_eqb (byte_at b 0) 2 z, e)
 
   pub console_read : (row column : ℕ) (reading : ReadColumn) → row ≡ word_of (byte_at b 1) 0 → column ≡ word_of (byte_at b 2) (byte_at b 3) → reading ≡ reading_in (byte_at b 6)
-      → record { mode = byte_at b 0; row = row; column = column; last = byte_at b 4; escape = eqb (byte_at b 5) 1; reading = reading; keyboard = record { first = byte_at b 7; waiting = byte_at b 8; lock = byte_at b 9; inverse = byte_at b 10 } } ≡ console_in b
+      → record { mode = byte_at b 0; row = row; column = column; last = byte_at b 4; escape = eqb (byte_at b 5) 1; reading = reading; keyboard = record { code = byte_at b 7; lock = byte_at b 8; inverse = byte_at b 9 } } ≡ console_in b
   unfolding console_in
   console_read row column reading e f g = let h : word_of (byte_at b 1) 0 ≡ byte_at b 1 = omega arith in rw (e, f, g, h)
 

@@ -8,7 +8,7 @@ use blocks::{BlockState, ControlBlock, Device, Gather, Header, Kind, Phase, Repl
 use cassette::Cassette;
 use console::state::Console;
 use editor::ReadColumn;
-use keyboard::Keyboard;
+use keys::keyboard::Keyboard;
 use printer::Printer;
 
 // Two bytes as a number, the low one first.
@@ -166,10 +166,9 @@ pub fn console(bytes: &[u8]) -> Console
     ensures { result ≡ console_in bytes.now }
 {
     let keyboard = Keyboard {
-        first: bytes[7],
-        waiting: bytes[8],
-        lock: bytes[9],
-        inverse: bytes[10],
+        code: bytes[7],
+        lock: bytes[8],
+        inverse: bytes[9],
     };
     Console {
         mode: bytes[0],

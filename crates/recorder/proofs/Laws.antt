@@ -9,13 +9,13 @@ use native.Mathlib.Nat.{add-zero}
 use borrow.Author.Tests.{eq-eqb, ne_eqb, le-leb, lt-leb}
 use lib.Dec.{eqb, leb, ltb}
 use lib.ListN.{length, take, drop, length-drop, length-set, take-append-drop}
-use lib.Seq.{sets}
+use lib.Seq.{sets, length-sets}
 use Rattle.base.specs.Choice.{and, or}
-use Rattle.base.specs.Parts.{part}
+use Rattle.base.specs.Parts.{part, Apart, before, behind}
 use Rattle.base.proofs.Choices.{pick_go}
 use Rattle.base.proofs.Lists.{part_tail, back_tail}
 use Rattle.base.proofs.Readers.{take_firsts}
-use Rattle.base.proofs.Parts.{cat, take_before, drop_into, part_length}
+use Rattle.base.proofs.Parts.{cat, take_before, drop_into, part_other, part_length, sets_apart, sets_more, back}
 use Rattle.handler.specs.declared.Got.{Got}
 use Rattle.handler.specs.declared.Done.{Done}
 use Rattle.handler.specs.Answer.{Answer, answer, seen}
@@ -25,8 +25,14 @@ use Rattle.cassette.specs.Fit.{fits_cassette}
 use Rattle.layout.specs.Places.{cassette_place, cassette_length, pending_place, pending_length, devices_length, Numbers}
 use Rattle.layout.specs.Layout.{cassette_bytes, array_bytes, cassette_in, array_in}
 use Rattle.layout.proofs.Lengths.{cassette_length_lem}
-use Rattle.layout.proofs.Arrays.{sets_part, numbers_alone, array_first}
+use Rattle.layout.proofs.ReadWrite.{array_is}
 use Rattle.recorder.specs.Recorder.{TapeLent, tape_lent, get_tape, put_tape, Wound}
+
+-- a part stored where it lies changes nothing
+pub sets_part : (p n : ℕ) (xs : List ℕ) → p + n ≤ length xs → sets xs p (part p n xs) ≡ xs
+sets_part p n xs h =
+    sym (back p n (part p n xs) xs (part_length p n xs h) h)
+    ∙ ap (λ (r : List ℕ). take p xs ++ r) (take-append-drop n (drop p xs)) ∙ take-append-drop p xs
 
 pub cassette_there : (p : ℕ) (b : List ℕ) (c : Cassette) → c ≡ cassette_in (take (length b - p) (drop p b)) → c ≡ cassette_in (drop p b)
 cassette_there p b c e = e ∙ ap cassette_in (part_tail p b)
@@ -42,9 +48,23 @@ module _ (b : List ℕ) (h : Numbers b) where
   pending_fits : pending_place + pending_length ≤ length b
   pending_fits = omega (arith, h.long)
 
+  -- the numbers and the pending characters, written one after the other
+  both : (c : Cassette) (p : List ℕ) → length p ≡ pending_length → sets b cassette_place (cassette_bytes c ++ array_bytes pending_length p) ≡ sets (sets b cassette_place (cassette_bytes c)) pending_place p
+  both c p l =
+      ap (λ (x : List ℕ). sets b cassette_place (cassette_bytes c ++ x)) (array_is pending_length p l)
+      ∙ sym (sets_more b (cassette_bytes c) p cassette_place)
+      ∙ ap (λ (k : ℕ). sets (sets b cassette_place (cassette_bytes c)) (cassette_place + k) p) (cassette_length_lem c)
+
+  apart : (c : Cassette) → Apart pending_place pending_length cassette_place (length (cassette_bytes c))
+  apart c = behind (omega (arith, cassette_length_lem c))
+
   -- the pending characters are as they were
   alone : (c : Cassette) → sets b cassette_place (cassette_bytes c ++ array_bytes pending_length (array_in pending_length (drop pending_place b))) ≡ sets b cassette_place (cassette_bytes c)
-  alone c = numbers_alone b (cassette_bytes c) cassette_place pending_place pending_length (ap (λ (k : ℕ). k + cassette_place) (cassette_length_lem c)) pending_fits
+  alone c =
+      let l : pending_place + pending_length ≤ length (sets b cassette_place (cassette_bytes c)) = simp length-sets (omega (arith, h.long)) in
+      both c (array_in pending_length (drop pending_place b)) (part_length pending_place pending_length b pending_fits)
+      ∙ ap (sets (sets b cassette_place (cassette_bytes c)) pending_place) (sym (part_other pending_place pending_length cassette_place (cassette_bytes c) b (apart c)))
+      ∙ sets_part pending_place pending_length (sets b cassette_place (cassette_bytes c)) l
 
   numbers_still : sets b cassette_place (cassette_bytes (cassette_in (drop cassette_place b))) ≡ b
   unfolding cassette_bytes
@@ -96,8 +116,11 @@ module _ (b after tape : List ℕ) (w : Wound b tape) (c n : Cassette) (in_c : c
       let fits = pending_fits b w.all in
       let l : length pending ≡ pending_length =
       ap (λ (y : Answer Done CassetteGroup). length y.leaves.pending) q ∙ pending_kept byte (cassette_group c (part pending_place pending_length b) tape) ∙ part_length pending_place pending_length b fits in
+      let at : Apart cassette_place (length (cassette_bytes n)) pending_place (length pending) = before (omega (arith, cassette_length_lem n)) in
       ap (λ (y : List ℕ). answer x (tape_lent y t))
-      (e ∙ array_first b (cassette_bytes n) cassette_place pending_place pending_length (ap (λ (k : ℕ). k + cassette_place) (cassette_length_lem n)) fits pending l)
+      (e ∙ ap (λ (y : List ℕ). sets y cassette_place (cassette_bytes n)) (back pending_place pending_length pending b l fits)
+      ∙ sets_apart pending_place cassette_place pending (cassette_bytes n) b at
+      ∙ sym (both b w.all n pending l))
       ∙ ap (seen (put_tape b)) (q ∙ ap (λ (y : Cassette). write_of byte (cassette_group y (part pending_place pending_length b) tape)) in_c)
 
 -- the numbers in their ranges

@@ -8,14 +8,10 @@ use mathlib.Core.List.{List, [], ◌∷◌, ◌++◌}
 use Prim.Native.Nat.{ℕ, ◌<◌, ◌≤◌}
 use native.Mathlib.Omega.{arith}
 use lib.Dec.{T, eqb, ltb, leb}
-use lib.ListN.{length, take, drop, take-append-drop}
-use borrow.Author.Tests.{le-leb, lt-leb, eqb-true, ltb-true, ltb-false, leb-true, leb-false}
+use lib.ListN.{take, drop, take-append-drop}
+use borrow.Author.Tests.{eqb-true, ltb-true, ltb-false, leb-true}
 use Rattle.base.specs.Choice.{pick, choose, and, or}
 use Rattle.base.proofs.Choices.{choose_go, and_left, and_right, by_test}
-use Rattle.keyboard.specs.Queue.{full_of}
-use Rattle.keyboard.specs.Fit.{key_places_fit, keys_fit}
-use Rattle.keyboard.specs.declared.Keyboard.{Keyboard}
-use Rattle.keyboard.proofs.Keeps.{codes_length}
 use Rattle.blocks.specs.declared.Header.{Header}
 use Rattle.blocks.specs.declared.Phase.{Phase}
 use Rattle.blocks.specs.declared.Phase.TheVariants.{Gathering, Ready, Running, Replying}
@@ -30,28 +26,26 @@ use Rattle.devices.specs.declared.Owner.TheVariants as owner
 use Rattle.devices.specs.Groups.{clash, owner_of, group_in, group_of, held_of}
 use Rattle.devices.proofs.Frame.{clash_is, clash_none}
 use Rattle.damage.specs.Fits.{stick_fits}
-use Rattle.damage.proofs.Fitting.{keys_fit_lem}
 use Rattle.calls.specs.Port.{Reach, Ticked, ticked, ready_tick, tick_port, Served, served, take_port, give_port}
-use Rattle.calls.specs.Stick.{Outcome, outcome, refused, lengths_fit, refusal_of, LengthsFit, Guarded, area_at, room_at, with_room, reach_at, with_reach, lent_reach}
-use Rattle.calls.proofs.Pressing.{press_either}
+use Rattle.calls.specs.Stick.{Outcome, outcome, refused, lengths_fit, refusal_of, LengthsFit, area_at, room_at, with_room, reach_at, with_reach, lent_reach}
 use Rattle.calls.specs.Calls.{fresh_call, guarded, take_at, take_call, tick_at, tick_call, give_at, give_call, console_held, press_at, press_call}
-use Rattle.rules.specs.Answers.{OtherLength, Damaged, Above, Unrefused, PortIs, Gathers, Replies, NotGathers, NotReplies, Idle, Holds, ConsoleHeld, ConsoleFree, keys_at, QueueFull, QueueOpen, need_at, Waits, TickDone, one_of, FreshAnswers, FirstAnswers, TakeAnswers, TickAnswers, GiveAnswers, PressAnswers}
+use Rattle.rules.specs.Answers.{OtherLength, Damaged, Above, Unrefused, PortIs, Gathers, Replies, NotGathers, NotReplies, Idle, Holds, ConsoleHeld, ConsoleFree, need_at, Waits, TickDone, one_of, FreshAnswers, FirstAnswers, TakeAnswers, TickAnswers, GiveAnswers, PressAnswers}
 use Rattle.rules.proofs.Guards.{fit_of_lem, lengths_of}
 
--- none above 9
+-- none above 8
 abbrev low : List ℕ → Bool
 low [] = true
-low (n ∷ ns) = and (leb n 9) (low ns)
+low (n ∷ ns) = and (leb n 8) (low ns)
 
 pub never : {b : Bool} → b ≡ true → b ≡ false → ⊥
 never t f = subst T (sym t ∙ f) tt
 
-most : (ns : List ℕ) (n : ℕ) → low ns ≡ true → one_of ns n ≡ true → n ≤ 9
+most : (ns : List ℕ) (n : ℕ) → low ns ≡ true → one_of ns n ≡ true → n ≤ 8
 most [] n a e = absurd (never e refl)
 most (m ∷ ns) n a e =
     by_test (eqb n m)
-    (λ t. let h = leb-true m 9 (and_left (leb m 9) (low ns) a) in let q = eqb-true n m t in omega arith)
-    (λ t. most ns n (and_right (leb m 9) (low ns) a) (rw t at e))
+    (λ t. let h = leb-true m 8 (and_left (leb m 8) (low ns) a) in let q = eqb-true n m t in omega arith)
+    (λ t. most ns n (and_right (leb m 8) (low ns) a) (rw t at e))
 
 other_of : (l : Lent) → lengths_fit l ≡ false → OtherLength l
 other_of l f w = never (fit_of_lem l w) f
@@ -367,85 +361,40 @@ module _ (s : Stick) where
   abbrev ConsoleRuns : Type 0
   ConsoleRuns = Holds s.port0.phase groups.Console ⊎ Holds s.port1.phase groups.Console
 
-  -- as many keys wait as the keyboard counts
-  wait_many : length (keys_at s) ≡ s.devices.console.keyboard.waiting
-  wait_many = codes_length s.devices.console.keyboard.first s.devices.console.keyboard.waiting s.devices.ring
-
--- an undamaged keyboard holds sixteen keys at most
-keys_most : (k : Keyboard) (ring : List ℕ) → keys_fit k ring ≡ true → k.waiting ≤ 16
-unfolding keys_fit
-keys_most k ring e =
-    let rest = and (leb k.lock 2) (and (leb k.inverse 1) (key_places_fit k ring 0 16)) in
-    leb-true k.waiting 16 (and_left (leb k.waiting 16) rest (and_right (ltb k.first 16) (and (leb k.waiting 16) rest) e))
+  press_ways : (l : Lent) (code : ℕ) → Ways (λ (o : Outcome). o.answer) (refused 6 s l) ConsoleRuns (ConsoleRuns → ⊥) (press_at s l code)
+  unfolding press_at
+  press_ways l code = by_choice _ _ (console_held s) _ refl held_of_lem
 
 module _ (s : Stick) (l : Lent) (code : ℕ) where
-  abbrev full : Bool
-  full = full_of s.devices.console.keyboard
-
-  press_own : Own (press_at s l code).answer
-  press_own = press_either (λ (o : Outcome). Own o.answer) s l code (λ t z. omega arith) (λ t u z. omega arith) (λ t u z. absurd (z refl))
-
-  free_of : console_held s ≡ false → ConsoleFree s
-  free_of t w = never ((held_of_lem s).1 w) t
-
-  press_6 : ((press_at s l code).answer ≡ 6) ↔ ConsoleRuns s
-  press_6 = (
-    press_either (λ (o : Outcome). o.answer ≡ 6 → ConsoleRuns s) s l code (λ t e. (held_of_lem s).0 t) (λ t u e. absurd (omega arith)) (λ t u e. absurd (omega arith)),
-    λ w. press_either (λ (o : Outcome). o.answer ≡ 6) s l code (λ t. refl) (λ t u. absurd (free_of t w)) (λ t u. absurd (free_of t w)),
-  )
-
-  press_9 : ((press_at s l code).answer ≡ 9) ↔ (ConsoleFree s × (full ≡ true))
-  press_9 = (
-    press_either (λ (o : Outcome). o.answer ≡ 9 → ConsoleFree s × (full ≡ true)) s l code (λ t e. absurd (omega arith)) (λ t u e. (free_of t, u)) (λ t u e. absurd (omega arith)),
-    λ w. press_either (λ (o : Outcome). o.answer ≡ 9) s l code (λ t. absurd (w.0 ((held_of_lem s).0 t))) (λ t u. refl) (λ t u. absurd (never w.1 u)),
-  )
-
-  press_0 : ((press_at s l code).answer ≡ 0) ↔ (ConsoleFree s × (full ≡ false))
-  press_0 = (
-    press_either (λ (o : Outcome). o.answer ≡ 0 → ConsoleFree s × (full ≡ false)) s l code (λ t e. absurd (omega arith)) (λ t u e. absurd (omega arith)) (λ t u e. (free_of t, u)),
-    λ w. press_either (λ (o : Outcome). o.answer ≡ 0) s l code (λ t. absurd (w.0 ((held_of_lem s).0 t))) (λ t u. absurd (never u w.1)) (λ t u. refl),
-  )
-
   -- "each is given exactly then"
   pub press_answers : PressAnswers s l (press_call s l code).answer
   unfolding press_call
   press_answers =
       let call : Unit {0} → Outcome = (λ u. press_at s l code) in
-      let many = s.devices.console.keyboard.waiting in
-      let is = wait_many s in
+      let w = press_ways s l code in
+      let own = ways_own _ _ w (omega arith) in
+      let no = ways_no _ _ w (λ z. omega arith) in
+      let yes = ways_yes _ _ w (λ z. omega arith) in
       record {
-        lengths = first_2 s l 0 call press_own;
-        damaged = first_3 s l 0 call press_own;
+        lengths = first_2 s l 0 call own;
+        damaged = first_3 s l 0 call own;
         held =
-            rest_of s l 0 call press_own 6 (λ z. omega arith) (ConsoleHeld s l) (λ v. record { sound = v.sound; has = omega arith })
-            (λ c. (λ e. record { sound = c.sound; held = press_6.0 e }, λ v. press_6.1 v.held));
-        full =
-            rest_of s l 0 call press_own 9 (λ z. omega arith) (QueueFull s l) (λ v. record { sound = v.sound; has = omega arith })
-            (λ c. (
-              λ e. let w = press_9.0 e in record { sound = c.sound; free = w.0; full = omega (arith, is, leb-true 16 many w.1, most_wait c.sound) },
-              λ v. press_9.1 (v.free, le-leb 16 many (omega (arith, is, v.full))),
-            ));
+            rest_of s l 0 call own 6 (λ z. omega arith) (ConsoleHeld s l) (λ v. record { sound = v.sound; has = omega arith })
+            (λ c. (λ e. record { sound = c.sound; held = no.0 e }, λ v. no.1 v.held));
         done =
-            rest_of s l 0 call press_own 0 (λ z. absurd (z refl)) (QueueOpen s l) (λ v. record { sound = v.sound; has = omega arith })
-            (λ c. (
-              λ e. let w = press_0.0 e in record { sound = c.sound; free = w.0; room = omega (arith, is, leb-false 16 many w.1) },
-              λ v. press_0.1 (v.free, lt-leb 16 many (omega (arith, is, v.room))),
-            ));
+            rest_of s l 0 call own 0 (λ z. absurd (z refl)) (ConsoleFree s l) (λ v. record { sound = v.sound; has = omega arith })
+            (λ c. (λ e. record { sound = c.sound; free = yes.0 e }, λ v. yes.1 v.free));
         numbers =
-            by_order s l call (λ (o : Outcome). one_of (0 ∷ 2 ∷ 3 ∷ 6 ∷ 9 ∷ []) o.answer ≡ true) 0
-            (λ v. refl) (λ d. refl) (λ a. absurd (omega (arith, a.above)))
-            (λ c. press_either (λ (o : Outcome). one_of (0 ∷ 2 ∷ 3 ∷ 6 ∷ 9 ∷ []) o.answer ≡ true) s l code (λ t. refl) (λ t u. refl) (λ t u. refl));
+            by_order s l call (λ (o : Outcome). one_of (0 ∷ 2 ∷ 3 ∷ 6 ∷ []) o.answer ≡ true) 0
+            (λ v. refl) (λ d. refl) (λ a. absurd (omega (arith, a.above))) (λ c. ways_number _ _ (0 ∷ 2 ∷ 3 ∷ 6 ∷ []) w refl refl);
       }
-    where
-      most_wait : Guarded s l → s.devices.console.keyboard.waiting ≤ 16
-      most_wait g = keys_most s.devices.console.keyboard s.devices.ring (keys_fit_lem s l g.fits)
 
-  -- "Numbers 1 to 8 change nothing", and 9; "A byte beside a refusal is 0."
+  -- "Numbers 1 to 8 change nothing"; "A byte beside a refusal is 0."
   pub press_still : ((press_call s l code).answer ≡ 0 → ⊥) → press_call s l code ≡ refused (press_call s l code).answer s l
   unfolding press_call
   press_still =
-      still s l 0 (λ u. press_at s l code) press_own
-      (press_either (λ (o : Outcome). (o.answer ≡ 0 → ⊥) → o ≡ refused o.answer s l) s l code (λ t z. refl) (λ t u z. refl) (λ t u z. absurd (z refl)))
+      let w = press_ways s l code in
+      still s l 0 (λ u. press_at s l code) (ways_own _ _ w (omega arith)) (λ z. named s l 6 (press_at s l code) (ways_back _ _ w z))
 
 -- fresh start
 module _ (s : Stick) (l : Lent) where
@@ -467,18 +416,18 @@ module _ (s : Stick) (l : Lent) where
   pub fresh_still : ((fresh_call s l).answer ≡ 0 → ⊥) → fresh_call s l ≡ refused (fresh_call s l).answer s l
   fresh_still z = named s l 2 (fresh_call s l) (ways_back _ _ fresh_ways z)
 
--- no call gives a number above 9
-pub fresh_most : (s : Stick) (l : Lent) → (fresh_call s l).answer ≤ 9
+-- no call gives a number above 8
+pub fresh_most : (s : Stick) (l : Lent) → (fresh_call s l).answer ≤ 8
 fresh_most s l = most (0 ∷ 2 ∷ []) (fresh_call s l).answer refl (fresh_answers s l).numbers
 
-pub take_most : (s : Stick) (l : Lent) (port byte : ℕ) → (take_call s l port byte).answer ≤ 9
+pub take_most : (s : Stick) (l : Lent) (port byte : ℕ) → (take_call s l port byte).answer ≤ 8
 take_most s l port byte = most (0 ∷ 1 ∷ 2 ∷ 3 ∷ 4 ∷ []) (take_call s l port byte).answer refl (take_answers s l port byte).numbers
 
-pub tick_most : (s : Stick) (l : Lent) (port : ℕ) → (tick_call s l port).answer ≤ 9
+pub tick_most : (s : Stick) (l : Lent) (port : ℕ) → (tick_call s l port).answer ≤ 8
 tick_most s l port = most (0 ∷ 1 ∷ 2 ∷ 3 ∷ 7 ∷ 8 ∷ []) (tick_call s l port).answer refl (tick_answers s l port).numbers
 
-pub give_most : (s : Stick) (l : Lent) (port : ℕ) → (give_call s l port).answer ≤ 9
+pub give_most : (s : Stick) (l : Lent) (port : ℕ) → (give_call s l port).answer ≤ 8
 give_most s l port = most (0 ∷ 1 ∷ 2 ∷ 3 ∷ 5 ∷ []) (give_call s l port).answer refl (give_answers s l port).numbers
 
-pub press_most : (s : Stick) (l : Lent) (code : ℕ) → (press_call s l code).answer ≤ 9
-press_most s l code = most (0 ∷ 2 ∷ 3 ∷ 6 ∷ 9 ∷ []) (press_call s l code).answer refl (press_answers s l code).numbers
+pub press_most : (s : Stick) (l : Lent) (code : ℕ) → (press_call s l code).answer ≤ 8
+press_most s l code = most (0 ∷ 2 ∷ 3 ∷ 6 ∷ []) (press_call s l code).answer refl (press_answers s l code).numbers

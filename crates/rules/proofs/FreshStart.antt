@@ -9,14 +9,13 @@ use Rattle.base.proofs.Choices.{choose_go}
 use Rattle.cells.specs.Modes.{modes, row_of, shape_of, count_of}
 use Rattle.cells.specs.Cells.{filled}
 use Rattle.editor.specs.Text as editor
-use Rattle.console.specs.Group.{display, display_of, fresh_console, fresh_group}
+use Rattle.console.specs.Group.{group, fresh_console, fresh_group}
 use Rattle.console.specs.Handlers.{open_e}
 use Rattle.console.proofs.Keeps.{fresh_group_lem}
 use Rattle.blocks.specs.Opening.{area_length}
 use Rattle.wire.specs.Fits.{gather_fits}
 use Rattle.wire.specs.Messages.{room_length}
 use Rattle.layout.specs.Stick.{Stick, fresh_stick, Lent}
-use Rattle.keyboard.specs.Fit.{key_place_fits, key_places_fit, keys_fit}
 use Rattle.cassette.specs.Fit.{fits_cassette}
 use Rattle.devices.specs.Marks.{marks_fit}
 use Rattle.devices.specs.Placed.{places_fit}
@@ -27,7 +26,7 @@ use Rattle.rules.proofs.Guards.{fit_of_lem}
 
 -- "No state reached from fresh by these calls is damaged": not the fresh one
 pub fresh_undamaged : (l : Lent) → stick_fits fresh_stick l ≡ true
-unfolding stick_fits port_fits phase_fits gather_fits keys_fit key_places_fit key_place_fits fits_cassette marks_fit places_fit
+unfolding stick_fits port_fits phase_fits gather_fits fits_cassette marks_fit places_fit
 fresh_undamaged l = rw fresh_group_lem.fit
 
 module _ (l : Lent) (w : LengthsFit l) where
@@ -54,6 +53,6 @@ unfolding fresh_call
 fresh_tape s l = choose_go (λ (o : Outcome). o.lent.tape ≡ l.tape) (lengths_fit l) _ _ (λ t. refl) (λ t. refl)
 
 -- "screen as after opening E with cells past 960 zero": E opened over a screen of zeros
-pub fresh_opened : open_e (display fresh_console (replicate screen_length 0)) ≡ display_of fresh_group
+pub fresh_opened : open_e (group fresh_console (replicate screen_length 0)) ≡ fresh_group
 unfolding open_e editor.open_of filled count_of shape_of row_of modes
 fresh_opened = refl

@@ -14,13 +14,9 @@ use Rattle.base.specs.Choice.{pick}
 use Rattle.base.proofs.Choices.{choose_go, choose_eq, by_lt}
 use Rattle.printer.specs.Printer.{paper_length}
 use Rattle.console.specs.declared.state.Console.{Console}
-use Rattle.keyboard.specs.Queue.{fresh_ring}
-use Rattle.keyboard.specs.Keyboard.{fresh_keyboard}
-use Rattle.keyboard.specs.Fit.{keys_fit}
-use Rattle.keyboard.proofs.Keeps.{keys_of, of_keys, press_fit}
-use Rattle.console.specs.Group.{fresh_console, keyed, queue_of, pressed_of}
+use Rattle.console.specs.Group.{fresh_console, pressed_of}
 use Rattle.console.specs.Fit.{fit_of}
-use Rattle.console.proofs.Keeps.{with_keyboard_lem, fresh_group_lem}
+use Rattle.console.proofs.Keeps.{press_fit, fresh_group_lem}
 use Rattle.cassette.specs.Fit.{fits_cassette}
 use Rattle.disk.specs.Disk.{places_length}
 use Rattle.blocks.specs.declared.Table.{Table}
@@ -42,8 +38,7 @@ use Rattle.damage.specs.Fits.{phase_fits, port_fits, stick_fits}
 use Rattle.damage.proofs.Fitting as fitting
 use Rattle.calls.specs.Port.{Reach, tick_port, take_port}
 use Rattle.calls.specs.Stick.{Outcome, outcome, refused, lengths_fit, refusal_of, LengthsFit, Guarded, area_at, room_at, groups_at, with_groups, reach_at, with_reach, lent_reach}
-use Rattle.calls.specs.Calls.{fresh_lent, fresh_call, guarded, take_at, take_call, tick_at, tick_call, give_at, give_call, press_at, press_call}
-use Rattle.calls.proofs.Pressing.{press_either}
+use Rattle.calls.specs.Calls.{fresh_lent, fresh_call, guarded, take_at, take_call, tick_at, tick_call, give_at, give_call, console_held, press_at, press_call}
 use Rattle.rules.specs.Shape.{Shaped}
 use Rattle.rules.proofs.Guards.{fit_of_lem, guarded_of}
 use Rattle.rules.proofs.Marks.{marks_swap}
@@ -55,7 +50,6 @@ pub record Undamaged (s : Stick) : Type 0 where
   pub port0 : port_fits s.port0 s.devices.console ≡ true
   pub port1 : port_fits s.port1 s.devices.console ≡ true
   pub console : fit_of s.devices.console ≡ true
-  pub keys : keys_fit s.devices.console.keyboard s.devices.ring ≡ true
   pub printer : s.devices.printer.used ≤ paper_length
   pub cassette : fits_cassette s.devices.cassette ≡ true
   pub marks : marks_fit s.devices.cassette.mark s.port0.table s.port1.table ≡ true
@@ -68,7 +62,6 @@ module _ (s : Stick) (l : Lent) where
     port0 = fitting.port_fits_lem s l e 0 (omega arith);
     port1 = fitting.port_fits_lem s l e 1 (omega arith);
     console = fitting.console_fits s l e;
-    keys = fitting.keys_fit_lem s l e;
     printer = fitting.printer_fits s l e;
     cassette = fitting.cassette_fits s l e;
     marks = fitting.marks_fit_lem s l e;
@@ -82,11 +75,10 @@ module _ (s : Stick) (l : Lent) where
       both (port_fits s.port0 s.devices.console) _ u.port0
       (both (port_fits s.port1 s.devices.console) _ u.port1
       (both (fit_of s.devices.console) _ u.console
-      (both (keys_fit s.devices.console.keyboard s.devices.ring) _ u.keys
       (both (leb s.devices.printer.used paper_length) _ (le-leb s.devices.printer.used paper_length u.printer)
       (both (fits_cassette s.devices.cassette) _ u.cassette
       (both (marks_fit s.devices.cassette.mark s.port0.table s.port1.table) _ u.marks
-      (both (places_fit s.devices.places s.port0.table s.port1.table) _ u.places (rw u.apart))))))))
+      (both (places_fit s.devices.places s.port0.table s.port1.table) _ u.places (rw u.apart)))))))
 
 -- what a call leaves: an undamaged state of the same shape, and buffers of their lengths
 record Leaves (o : Outcome) : Type 0 where
@@ -159,7 +151,6 @@ record InPlace (port : ℕ) (p : Port) (s : Stick) : Type 0 where
   own : port_fits p s.devices.console ≡ true
   other : port_fits (other_at port s) s.devices.console ≡ true
   console : fit_of s.devices.console ≡ true
-  keys : keys_fit s.devices.console.keyboard s.devices.ring ≡ true
   printer : s.devices.printer.used ≤ paper_length
   cassette : fits_cassette s.devices.cassette ≡ true
   marks : marks_fit s.devices.cassette.mark p.table (other_at port s).table ≡ true
@@ -172,12 +163,11 @@ with_undamaged port p s f = go (eqb port 0) f.other f.marks f.places f.apart
     go : (b : Bool) → port_fits (pick b s.port1 s.port0) s.devices.console ≡ true → marks_fit s.devices.cassette.mark p.table (pick b s.port1 s.port0).table ≡ true
         → places_fit s.devices.places (pick b (with_port0 p s) (with_port1 p s)).port0.table (pick b (with_port0 p s) (with_port1 p s)).port1.table ≡ true
         → clash (held_of p.phase) (held_of (pick b s.port1 s.port0).phase) ≡ false → Undamaged (pick b (with_port0 p s) (with_port1 p s))
-    go true g m d a = record { port0 = f.own; port1 = g; console = f.console; keys = f.keys; printer = f.printer; cassette = f.cassette; marks = m; places = d; apart = a }
+    go true g m d a = record { port0 = f.own; port1 = g; console = f.console; printer = f.printer; cassette = f.cassette; marks = m; places = d; apart = a }
     go false g m d a = record {
       port0 = g;
       port1 = f.own;
       console = f.console;
-      keys = f.keys;
       printer = f.printer;
       cassette = f.cassette;
       marks = marks_swap s.devices.cassette.mark p.table s.port0.table m;
@@ -190,8 +180,8 @@ with_shaped : (port : ℕ) (p : Port) (s : Stick) → length p.table.blocks ≡ 
 with_shaped port p s e h = go (eqb port 0)
   where
     go : (b : Bool) → Shaped (pick b (with_port0 p s) (with_port1 p s))
-    go true = record { table0 = e; table1 = h.table1; ring = h.ring; pending = h.pending; places = h.places }
-    go false = record { table0 = h.table0; table1 = e; ring = h.ring; pending = h.pending; places = h.places }
+    go true = record { table0 = e; table1 = h.table1; pending = h.pending; places = h.places }
+    go false = record { table0 = h.table0; table1 = e; pending = h.pending; places = h.places }
 
 own_eight : (port : ℕ) (s : Stick) → Shaped s → length (port_at port s).table.blocks ≡ 8
 own_eight port s h = go (eqb port 0)
@@ -203,7 +193,7 @@ own_eight port s h = go (eqb port 0)
 module _ (s : Stick) (l : Lent) (h : Shaped s) (u : Undamaged s) (w : LengthsFit l) where
   pub groups_fit : FitGroups (groups_at s l)
   groups_fit = record {
-    console = record { fit = u.console; keys = keys_of s.devices.console.keyboard s.devices.ring h.ring u.keys; whole = w.whole };
+    console = record { fit = u.console; whole = w.whole };
     printer = record { used = u.printer; paper = w.paper };
     cassette = record { fits = u.cassette; pending = h.pending; tape = w.tape };
     disk = record { places = h.places; images = w.images };
@@ -223,7 +213,6 @@ module _ (s : Stick) (l : Lent) (h : Shaped s) (u : Undamaged s) (w : LengthsFit
           own = f.fits;
           other = other_fits port s u;
           console = u.console;
-          keys = u.keys;
           printer = u.printer;
           cassette = u.cassette;
           marks = subst (λ (t : Table). marks_fit s.devices.cassette.mark t (other_at port s).table ≡ true) (sym e) (ports_marked port s u);
@@ -288,14 +277,13 @@ module _ (s : Stick) (l : Lent) (h : Shaped s) (u : Undamaged s) (w : LengthsFit
             own = f.port;
             other = port_same (other_at port s) s.devices.console after.groups.console.console (kept_mode port (held_of (other_at port s).phase) (reach_at port s l) after k) (other_fits port s u);
             console = f.groups.console.fit;
-            keys = of_keys after.groups.console.console.keyboard after.groups.console.ring f.groups.console.keys;
             printer = f.groups.printer.used;
             cassette = f.groups.cassette.fits;
             marks = k.marks (other_at port s).table (ports_marked port s u);
             places = places_left low after f.eight (k.places low);
             apart = k.apart;
           });
-          shape = with_shaped port after.port (with_groups after.groups s) f.eight (record { table0 = h.table0; table1 = h.table1; ring = f.groups.console.keys.places; pending = f.groups.cassette.pending; places = f.groups.disk.places });
+          shape = with_shaped port after.port (with_groups after.groups s) f.eight (record { table0 = h.table0; table1 = h.table1; pending = f.groups.cassette.pending; places = f.groups.disk.places });
           lengths = record {
             rooms = back_length room_length port l.rooms w.rooms after.room f.room;
             area = back_length area_length port l.area w.area after.area f.area;
@@ -319,26 +307,22 @@ module _ (s : Stick) (l : Lent) (h : Shaped s) (u : Undamaged s) (w : LengthsFit
 
   -- a press changes only the keyboard, and no mode
   press_at_lem : (code : ℕ) → Leaves (press_at s l code)
+  unfolding press_at
   press_at_lem code =
-      let q = queue_of (keyed s.devices.console s.devices.ring) in
-      let after = pressed_of code (keyed s.devices.console s.devices.ring) in
-      let f = press_fit code q (keys_of s.devices.console.keyboard s.devices.ring h.ring u.keys) in
-      press_either Leaves s l code
+      choose_go Leaves (console_held s) _ _
       (λ t. refused_leaves 6)
-      (λ t v. refused_leaves 9)
-      (λ t v. record {
+      (λ t. record {
         stick = record {
-          port0 = port_same s.port0 s.devices.console after.console (λ e. refl) u.port0;
-          port1 = port_same s.port1 s.devices.console after.console (λ e. refl) u.port1;
-          console = with_keyboard_lem after.console.keyboard s.devices.console u.console;
-          keys = of_keys after.console.keyboard after.ring f;
+          port0 = port_same s.port0 s.devices.console (pressed_of code s.devices.console) (λ e. refl) u.port0;
+          port1 = port_same s.port1 s.devices.console (pressed_of code s.devices.console) (λ e. refl) u.port1;
+          console = press_fit code s.devices.console u.console;
           printer = u.printer;
           cassette = u.cassette;
           marks = u.marks;
           places = u.places;
           apart = u.apart;
         };
-        shape = record { table0 = h.table0; table1 = h.table1; ring = f.places; pending = h.pending; places = h.places };
+        shape = record { table0 = h.table0; table1 = h.table1; pending = h.pending; places = h.places };
         lengths = w;
       })
 
@@ -353,7 +337,6 @@ fresh_undamaged = record {
   port0 = fresh_port_lem fresh_console;
   port1 = fresh_port_lem fresh_console;
   console = fresh_group_lem.fit;
-  keys = of_keys fresh_keyboard fresh_ring fresh_group_lem.keys;
   printer = omega arith;
   cassette = refl;
   marks = refl;
@@ -362,7 +345,7 @@ fresh_undamaged = record {
 }
 
 pub fresh_shaped : Shaped fresh_stick
-fresh_shaped = record { table0 = refl; table1 = refl; ring = refl; pending = length-replicate {A = ℕ} pending_length 0; places = length-replicate {A = ℕ} places_length 0 }
+fresh_shaped = record { table0 = refl; table1 = refl; pending = length-replicate {A = ℕ} pending_length 0; places = length-replicate {A = ℕ} places_length 0 }
 
 zeros : (n byte : ℕ) → length (replicate n byte) ≡ n
 zeros n byte = simp length-replicate

@@ -2,6 +2,7 @@
 -- a 16,384-byte area, and room to gather one message."
 -- Assumes nothing.
 use mathlib.Core.Path.{◌≡◌, ◌∙◌, refl, ap}
+use mathlib.Core.Logic.{inl, inr}
 use mathlib.Core.Bool.{Bool, true, false}
 use mathlib.Core.List.{List, ◌++◌}
 use Prim.Native.Nat.{ℕ, ◌≤◌}
@@ -33,8 +34,7 @@ use Rattle.moves.specs.Move.{go_of, advance_of}
 use Rattle.cio.specs.Start.{load_fits, loaded_of, load_status, load_of, errand_of, job_begun, start_of}
 use Rattle.calls.specs.Port.{Reach, start_plan, move_run, Ticked, ticked, ready_tick, tick_port, take_port, give_port}
 use Rattle.calls.specs.Stick.{refused, area_at, room_at, with_groups, reach_at, with_reach}
-use Rattle.calls.specs.Calls.{take_at, take_call, tick_at, tick_call, give_at, give_call, press_at, press_call}
-use Rattle.calls.proofs.Pressing.{press_either}
+use Rattle.calls.specs.Calls.{take_at, take_call, tick_at, tick_call, give_at, give_call, console_held, press_at, press_call}
 use Rattle.calls.proofs.Kept.{go_long}
 use Rattle.rules.specs.Answers.{Unrefused}
 use Rattle.rules.specs.Ports.{other_number, OtherStays, OnlyOwn, OnlyPhase, OnlyKey}
@@ -209,12 +209,12 @@ module _ (s : Stick) (l : Lent) (port : ℕ) where
 
 -- press
 module _ (s : Stick) (l : Lent) (code : ℕ) where
-  still_keys : (answer : ℕ) → (answer ≡ 0 → ⊥) → OnlyKey code s l (refused answer s l)
-  still_keys answer n = record { port0 = refl; port1 = refl; taken = λ z. absurd (n z); refused = λ z. refl; printer = refl; cassette = refl; pending = refl; places = refl; buffers = refl }
+  still_keys : (answer : ℕ) → OnlyKey code s l (refused answer s l)
+  still_keys answer = record { port0 = refl; port1 = refl; console = inl refl; printer = refl; cassette = refl; pending = refl; places = refl; buffers = refl }
 
-  -- a press adds at the end
+  -- "A press stores the code over an older one"
   pub press_only : OnlyKey code s l (press_call s l code)
-  unfolding press_call
+  unfolding press_call press_at
   press_only =
-      by_order s l (λ u. press_at s l code) (OnlyKey code s l) 0 (λ w. still_keys 2 (λ z. omega arith)) (λ d. still_keys 3 (λ z. omega arith)) (λ a. still_keys 1 (λ z. omega arith))
-      (λ c. press_either (OnlyKey code s l) s l code (λ t. still_keys 6 (λ z. omega arith)) (λ t u. still_keys 9 (λ z. omega arith)) (λ t u. record { port0 = refl; port1 = refl; taken = λ z. refl; refused = λ z. absurd (z refl); printer = refl; cassette = refl; pending = refl; places = refl; buffers = refl }))
+      by_order s l (λ u. press_at s l code) (OnlyKey code s l) 0 (λ w. still_keys 2) (λ d. still_keys 3) (λ a. still_keys 1)
+      (λ c. choose_go (OnlyKey code s l) (console_held s) _ _ (λ t. still_keys 6) (λ t. record { port0 = refl; port1 = refl; console = inr refl; printer = refl; cassette = refl; pending = refl; places = refl; buffers = refl }))

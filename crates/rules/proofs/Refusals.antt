@@ -36,7 +36,7 @@ use Rattle.image.specs.Place.{is_directory, unit_of, entry_of}
 use Rattle.disk.specs.Disk.{place_opened, place_status, flag_status, place_length, place_number, place_at, DiskGroup, disk_group, get_place, put_place}
 use Rattle.disk.proofs.Keeps as disk_keeps
 use Rattle.console.specs.declared.Handler.TheVariants as console
-use Rattle.console.specs.Handlers.{open_of, open_on, open_s, prepare_of, prepare_on, prepare_s, read_of, read_e, read_s, read_k, write_of, write_on, write_e, write_s}
+use Rattle.console.specs.Handlers.{open_of, open_s, prepare_of, prepare_s, read_of, read_e, read_s, read_k, write_of, write_e, write_s}
 use Rattle.blocks.specs.declared.ControlBlock.{ControlBlock}
 use Rattle.blocks.specs.declared.Device.{Device}
 use Rattle.blocks.specs.declared.Kind.{Kind}
@@ -130,7 +130,7 @@ pub record Still {D : Type 0} (H : Asked → Acts D) : Type 0 where
   pub specials : (asked : Asked) (status : ℕ) (x : D) → ((H asked).specials x).says ≡ done.Refused status → ((H asked).specials x).leaves ≡ x
 
 open_still : (o : Owner) (asked : Asked) (status : ℕ) (x : Part (group_in o)) → ((own_acts o asked).opens x).says ≡ done.Refused status → ((own_acts o asked).opens x).leaves ≡ x
-unfolding open_of open_on open_s graphics.open_of
+unfolding open_of open_s graphics.open_of
 open_still (owner.Console console.E) asked status x e = never e
 open_still (owner.Console console.S) asked status x e =
     by_test (or (bit 16 asked.aux1) (not (within 3 8 asked.aux2)))
@@ -145,7 +145,7 @@ open_still owner.Disk asked status x e =
     ∙ place_back asked.port asked.iocb x
 
 prepare_still : (o : Owner) (asked : Asked) (status : ℕ) (x : Part (group_in o)) → ((own_acts o asked).prepares x).says ≡ done.Refused status → ((own_acts o asked).prepares x).leaves ≡ x
-unfolding prepare_of prepare_on
+unfolding prepare_of
 prepare_still (owner.Console console.E) asked status x e = never e
 prepare_still (owner.Console console.S) asked status x e = refl
 prepare_still (owner.Console console.K) asked status x e = refl
@@ -206,7 +206,7 @@ status_high owner.Cassette asked x = tt
 status_high owner.Disk asked x = disk_status_high (place_at asked.port asked.iocb x.places) x.images
 
 open_high : (o : Owner) (asked : Asked) (x : Part (group_in o)) → done_high ((own_acts o asked).opens x).says
-unfolding open_of open_on open_s graphics.open_of
+unfolding open_of open_s graphics.open_of
 open_high (owner.Console console.E) asked x = tt
 open_high (owner.Console console.S) asked x =
     by_test (or (bit 16 asked.aux1) (not (within 3 8 asked.aux2)))
@@ -220,7 +220,7 @@ open_high owner.Disk asked x =
     disk_refusal p x.images asked (place_opened asked p x.images).says refl
 
 prepare_high : (o : Owner) (asked : Asked) (x : Part (group_in o)) → done_high ((own_acts o asked).prepares x).says
-unfolding prepare_of prepare_on prepare_s
+unfolding prepare_of prepare_s
 prepare_high (owner.Console console.E) asked x = tt
 prepare_high (owner.Console console.S) asked x = pick_go done_high (eqb x.console.mode 0) (done.Refused 0x91) done.Success (λ t. omega arith) (λ t. tt)
 prepare_high (owner.Console console.K) asked x = tt
@@ -229,7 +229,7 @@ prepare_high owner.Cassette asked x = tt
 prepare_high owner.Disk asked x = tt
 
 write_high : (o : Owner) (asked : Asked) (byte : ℕ) (x : Part (group_in o)) → done_high ((own_acts o asked).writes byte x).says
-unfolding write_of write_on write_e write_s controls.put_of graphics.put_of printer.put_of
+unfolding write_of write_e write_s controls.put_of graphics.put_of printer.put_of
 write_high (owner.Console console.E) asked byte x = tt
 write_high (owner.Console console.S) asked byte x =
     by_test (eqb byte 0x7D) (λ t. rw t tt) (λ t.

@@ -24,11 +24,10 @@ use Rattle.handler.specs.declared.Got.TheVariants as got
 use Rattle.handler.specs.Answer.{done_status, Answer, answer, Gives, plain, warns}
 use Rattle.handler.proofs.Giving.{gives_refused}
 use Rattle.handler.specs.Acts.{Acts, asks_open, asks_on}
-use Rattle.keyboard.specs.Queue.{waiting_of}
-use Rattle.keyboard.specs.Order.{locks_of, KeysEnd}
-use Rattle.keyboard.proofs.Order.{ends_of, of_ends}
-use Rattle.keyboard.specs.Keyboard as keys
-use Rattle.keyboard.proofs.Keeps as keys_keeps
+use Rattle.keys.specs.Translation.{translate_of}
+use Rattle.keys.specs.declared.keyboard.Keyboard.{Keyboard}
+use Rattle.keys.specs.Keyboard as keys
+use Rattle.keys.proofs.Keeps as keys_keeps
 use Rattle.cells.specs.Modes.{shape_of}
 use Rattle.editor.specs.Text.{Text}
 use Rattle.editor.specs.Get as editor_get
@@ -47,12 +46,10 @@ use Rattle.disk.specs.Disk.{DiskGroup, place_at}
 use Rattle.disk.specs.Says as disk
 use Rattle.disk.proofs.Keeps as disk_keeps
 use Rattle.disk.proofs.Says as disk_says
-use Rattle.console.specs.Group.{ConsoleGroup, display_of, with_display, keyed_of, queue_of}
-use Rattle.console.specs.Handlers.{text_of, open_of, open_on, open_s, prepare_of, prepare_on, prepare_e, prepare_s, read_of, read_e, read_s, read_k, write_of, write_on, write_e, write_s}
-use Rattle.console.specs.Fit.{FitGroup}
+use Rattle.console.specs.Group.{ConsoleGroup}
+use Rattle.console.specs.Handlers.{text_of, open_of, open_s, prepare_of, prepare_e, prepare_s, read_of, read_e, read_s, read_k, write_of, write_e, write_s}
 use Rattle.console.specs.declared.Handler.TheVariants as console
-use Rattle.console.proofs.Keeps.{prepare_fit, read_fit, read_never_last}
-use Rattle.console.proofs.Back.{key_rule}
+use Rattle.console.proofs.Keeps.{read_never_last}
 use Rattle.blocks.specs.declared.BlockState.{BlockState}
 use Rattle.blocks.specs.declared.BlockState.TheVariants as block
 use Rattle.blocks.specs.declared.ControlBlock.{ControlBlock}
@@ -157,7 +154,7 @@ opens_disk asked s says (disk.no_match m e) = not_there (λ b. b) (λ b. b) (λ 
 opens_disk asked s says (disk.opened g n e) = opens_it (λ b. b) (λ b. b) (λ b. both g b) n e
 
 opens_says : (device : Device) (asked : Asked) (s : Groups) → OpenSays device asked s ((device_acts device asked).opens (get_group (group_of device) s)).says
-unfolding open_of open_s graphics.open_of open_on cassette.tape_opened
+unfolding open_of open_s graphics.open_of cassette.tape_opened
 opens_says E asked s = opens_it (λ b. b) (λ b. b) (λ b. b) (λ b. b) refl
 opens_says S asked s =
     let split = bit 16 asked.aux1 in
@@ -228,8 +225,8 @@ Prepares device asked x =
     ⊎ ((y : Part (group_of device)) × ((device_acts device asked).prepares x ≡ answer done.Success y))
 
 prepares_says : (device : Device) (asked : Asked) (x : Part (group_of device)) → Prepares device asked x
-unfolding prepare_of prepare_on prepare_s
-prepares_says E asked x = inr (with_display x (prepare_e (display_of x)), refl)
+unfolding prepare_of prepare_s
+prepares_says E asked x = inr (prepare_e x, refl)
 prepares_says S asked x = by_eq x.console.mode 0 (λ e. inl (e, rw e)) (λ n. inr (x, rw (ne_eqb x.console.mode 0 n)))
 prepares_says K asked x = inr (x, refl)
 prepares_says P asked x = inr (x, refl)
@@ -240,7 +237,7 @@ prepares_says D asked x = inr (((device_acts D asked).prepares x).leaves, refl)
 reads_e : (asked : Asked) (g : ConsoleGroup) (status : ℕ) → ((device_acts E asked).reads g).says ≡ got.Refused status → ⊥
 unfolding read_of read_e editor_get.get_of editor_get.get_at
 reads_e asked g status =
-    let e = (text_of (display_of g)).editor in
+    let e = (text_of g).editor in
     choose_lt (λ (y : Answer Got Text). y.says ≡ got.Refused status → ⊥) (editor_get.column_of e.reading) (editor_get.end_of e.row g.screen) _ _
     (λ t e. omega (arith, ap got_number e))
     (λ t e. omega (arith, ap got_number e))
@@ -257,29 +254,29 @@ unfolding read_of read_s graphics.get_of
 screen_reads asked g h = rw (le-leb (shape_of g.console.mode).rows g.console.row h)
 
 abbrev no_character : ConsoleGroup → Type 0
-no_character g = KeysEnd (waiting_of (queue_of (keyed_of g))) (locks_of g.console.keyboard)
+no_character g = let k = g.console.keyboard in 256 ≤ translate_of k.code k.lock k.inverse
 
-reads_k : (asked : Asked) (g : ConsoleGroup) → FitGroup g → (status : ℕ) → ((device_acts K asked).reads g).says ≡ got.Refused status → (status ≡ 0x88) × no_character g
-reads_k asked g f status e = ends_of status (key_rule.each asked g f) e
+reads_k : (asked : Asked) (g : ConsoleGroup) (status : ℕ) → ((device_acts K asked).reads g).says ≡ got.Refused status → (status ≡ 0x88) × no_character g
+unfolding read_of read_k keys.get_of keys.struck_by
+reads_k asked g status =
+    let k = g.console.keyboard in
+    pick_lt (λ (y : Answer Got Keyboard). y.says ≡ got.Refused status → (status ≡ 0x88) × no_character g) (translate_of k.code k.lock k.inverse) 256 _ _
+    (λ h e. absurd (omega (arith, ap got_number e)))
+    (λ h e. (omega (arith, ap got_number e), h))
 
-keys_reads : (asked : Asked) (g : ConsoleGroup) → FitGroup g → no_character g → ((device_acts K asked).reads g).says ≡ got.Refused 0x88
-unfolding read_of read_k keys.get_of
-keys_reads asked g f h = let k = g.console.keyboard in of_ends (waiting_of (queue_of (keyed_of g))) k (record { lock = f.keys.lock; inverse = f.keys.inverse }) h
-
--- K's reads keep the group fit
-keys_fit_after : (asked : Asked) (k : ℕ) (g : ConsoleGroup) → FitGroup g → FitGroup (read_to (device_acts K asked) k g)
-keys_fit_after asked zero g f = f
-keys_fit_after asked (suc k) g f = keys_fit_after asked k ((device_acts K asked).reads g).leaves (read_fit g f console.K tt)
+keys_reads : (asked : Asked) (g : ConsoleGroup) → no_character g → ((device_acts K asked).reads g).says ≡ got.Refused 0x88
+unfolding read_of read_k keys.get_of keys.struck_by
+keys_reads asked g h = let k = g.console.keyboard in rw (le-ltb (translate_of k.code k.lock k.inverse) 256 h)
 
 writes_e : (asked : Asked) (byte : ℕ) (g : ConsoleGroup) (status : ℕ) → ((device_acts E asked).writes byte g).says ≡ done.Refused status → ⊥
-unfolding write_of write_on write_e controls.put_of
+unfolding write_of write_e controls.put_of
 writes_e asked byte g status e = omega (arith, ap done_number e)
 
 abbrev past_by : ℕ → ConsoleGroup → Type 0
 past_by byte g = (byte ≡ 0x7D → ⊥) × ((shape_of g.console.mode).rows ≤ g.console.row)
 
 writes_s : (asked : Asked) (byte : ℕ) (g : ConsoleGroup) (status : ℕ) → ((device_acts S asked).writes byte g).says ≡ done.Refused status → (status ≡ 0x8D) × past_by byte g
-unfolding write_of write_on write_s graphics.put_of
+unfolding write_of write_s graphics.put_of
 writes_s asked byte g status =
     let Q : Answer Done Picture → Type 0 = λ y. y.says ≡ done.Refused status → (status ≡ 0x8D) × past_by byte g in
     choose_eq Q byte 0x7D _ _
@@ -291,7 +288,7 @@ writes_s asked byte g status =
     (λ t e. absurd (omega (arith, ap done_number e)))))
 
 screen_writes : (asked : Asked) (byte : ℕ) (g : ConsoleGroup) → past_by byte g → ((device_acts S asked).writes byte g).says ≡ done.Refused 0x8D
-unfolding write_of write_on write_s graphics.put_of
+unfolding write_of write_s graphics.put_of
 screen_writes asked byte g p = rw (ne_eqb byte 0x7D p.0, le-leb (shape_of g.console.mode).rows g.console.row p.1)
 
 writes_p : (asked : Asked) (byte : ℕ) (g : PrinterGroup) (status : ℕ) → ((device_acts P asked).writes byte g).says ≡ done.Refused status → (status ≡ 0x90) × (paper_length ≤ g.used)
@@ -343,7 +340,7 @@ reads_bad : (asked : Asked) (g : CassetteGroup) → g.cassette.mark ≡ 1 → At
 reads_bad asked g m (bad_record r p s l w) = sym (ap (λ (b : Answer Got CassetteGroup). b.says) (read_only g m (answer (got.Refused 0x8F) g) (bad r p s l w refl)))
 
 writes_c : (asked : Asked) (byte : ℕ) (g : CassetteGroup) (status : ℕ) → g.cassette.mark ≡ 2 → ((device_acts C asked).writes byte g).says ≡ done.Refused status → (status ≡ 0x90) × (249 ≤ g.cassette.«record»)
-unfolding cassette.write_of write_on
+unfolding cassette.write_of
 writes_c asked byte g status m =
     let Q : Answer Done CassetteGroup → Type 0 = λ y. y.says ≡ done.Refused status → (status ≡ 0x90) × (249 ≤ g.cassette.«record») in
     pick_eq Q g.cassette.mark 2 _ _
@@ -351,7 +348,7 @@ writes_c asked byte g status m =
     (λ n e. absurd (n m))
 
 tape_writes : (asked : Asked) (byte : ℕ) (g : CassetteGroup) → g.cassette.mark ≡ 2 → 249 ≤ g.cassette.«record» → ((device_acts C asked).writes byte g).says ≡ done.Refused 0x90
-unfolding cassette.write_of write_on
+unfolding cassette.write_of
 tape_writes asked byte g m h = rw (eq-eqb g.cassette.mark 2 m, le-ltb g.cassette.«record» 249 h)
 
 -- characters leave the mark
@@ -929,22 +926,18 @@ module _ (c : Call) (l : Local) (s : Groups) where
         (λ (z : status ≡ 0xA4). let u : BadChain c l s = record { started = t; k = k; comes = q; at = r.broken.0 (e ∙ ap got.Refused z) } in subst Row (sym z) u)
         (disk_keeps.read_status p g.images status e)
 
-    -- K as it stands at its start is fit, and after each read
-    keys_stand : FitGroups s → (t : Started c l s true K) (k : ℕ) → FitGroup (read_to (acts_on c l s K) k t.stands)
-    keys_stand fg t k = keys_fit_after (asks_on l.number c.iocb) k t.stands (subst FitGroup (ap (λ (y : Answer Done ConsoleGroup). y.leaves) t.begins) (prepare_fit s.console fg.console console.K))
-
-    read_refused : FitGroups s → (device : Device) (t : Started c l s true device) (k status : ℕ) → ReadsTo (acts_on c l s device) t.way c.length t.stands k
+    read_refused : (device : Device) (t : Started c l s true device) (k status : ℕ) → ReadsTo (acts_on c l s device) t.way c.length t.stands k
         → read_says (acts_on c l s device) k t.stands ≡ got.Refused status → Row status
-    read_refused fg E t k status q e = absurd (reads_e (asks_on l.number c.iocb) (read_to (acts_on c l s E) k t.stands) status e)
-    read_refused fg S t k status q e =
+    read_refused E t k status q e = absurd (reads_e (asks_on l.number c.iocb) (read_to (acts_on c l s E) k t.stands) status e)
+    read_refused S t k status q e =
         let r = reads_s (asks_on l.number c.iocb) (read_to (acts_on c l s S) k t.stands) status e in
         subst Row (sym r.0) (inl (record { started = t; k = k; comes = q; at = r.1 }))
-    read_refused fg K t k status q e =
-        let r = reads_k (asks_on l.number c.iocb) (read_to (acts_on c l s K) k t.stands) (keys_stand fg t k) status e in
+    read_refused K t k status q e =
+        let r = reads_k (asks_on l.number c.iocb) (read_to (acts_on c l s K) k t.stands) status e in
         subst Row (sym r.0) (inl (record { started = t; k = k; comes = q; at = r.1 }))
-    read_refused fg P t k status q e = absurd (unread t.passed.directed)
-    read_refused fg C t k status q e = tape_row t k status q (reads_c tape_asks (read_to (acts_on c l s C) k t.stands) status (read_at_mark t k) e)
-    read_refused fg D t k status q e = disk_row t k status q e
+    read_refused P t k status q e = absurd (unread t.passed.directed)
+    read_refused C t k status q e = tape_row t k status q (reads_c tape_asks (read_to (acts_on c l s C) k t.stands) status (read_at_mark t k) e)
+    read_refused D t k status q e = disk_row t k status q e
 
     -- "other devices never give it"
     warned_row : (device : Device) (t : Started c l s true device) (k byte : ℕ) → ReadsTo (acts_on c l s device) t.way c.length t.stands k
@@ -968,11 +961,11 @@ module _ (c : Call) (l : Local) (s : Groups) where
       uncut = h;
     }
 
-    get_row : FitGroups s → (device : Device) (t : Started c l s true device) {status count : ℕ} {y : Part (group_of device)} → GetEnds (acts_on c l s device) t.way c.length t.stands status count y → Row status
-    get_row fg device t (get_refused k status q e h) = read_refused fg device t k status q e
-    get_row fg device t (get_whole k status byte q (plain e z) final h) = subst Row (sym z) tt
-    get_row fg device t (get_whole k status byte q (warns e z) final h) = subst Row (sym z) (warned_row device t k byte q e final h)
-    get_row fg device t (get_cut k status q e r h) = record { device = device; status = status; reads = record { started = t; k = k; comes = q; at = e }; way = r; stored = h }
+    get_row : (device : Device) (t : Started c l s true device) {status count : ℕ} {y : Part (group_of device)} → GetEnds (acts_on c l s device) t.way c.length t.stands status count y → Row status
+    get_row device t (get_refused k status q e h) = read_refused device t k status q e
+    get_row device t (get_whole k status byte q (plain e z) final h) = subst Row (sym z) tt
+    get_row device t (get_whole k status byte q (warns e z) final h) = subst Row (sym z) (warned_row device t k byte q e final h)
+    get_row device t (get_cut k status q e r h) = record { device = device; status = status; reads = record { started = t; k = k; comes = q; at = e }; way = r; stored = h }
 
     write_refused : (device : Device) (t : Started c l s false device) (k status : ℕ) → WritesTo (acts_on c l s device) t.way c.length (sent_by c l s t.way) t.stands k
         → write_says (acts_on c l s device) (sent_by c l s t.way) k t.stands ≡ done.Refused status → Row status
@@ -1017,7 +1010,7 @@ module _ (c : Call) (l : Local) (s : Groups) where
       start_row true device p x e =
           let t = started true device p x e in
           record {
-            line = subst Row (sym (ap reply_status (get_status device t.way x e))) (get_row fg device t (got_ends device fg t));
+            line = subst Row (sym (ap reply_status (get_status device t.way x e))) (get_row device t (got_ends device fg t));
             counts = counted_reply true device t;
             blocks = stays _ _ (transfer_table device _ x e) (no_close true device p.directed.transfer) (λ q r. no_open true device p.directed.transfer q);
           }
@@ -1311,7 +1304,7 @@ module _ (c : Call) (l : Local) (s : Groups) where
   line_a7 fg (status_locked number aux1 on h u) = entry_ends number aux1 0xA7 on h (disk_says.locked_says (place_in c l s s.disk) s.disk.images u)
 
   prepare_91 : s.console.console.mode ≡ 0 → ((acts_on c l s S).prepares (own S)).says ≡ done.Refused 0x91
-  unfolding prepare_of prepare_on prepare_s
+  unfolding prepare_of prepare_s
   prepare_91 e = rw e
 
   line_91 : NoMode c l s → ends 0x91
@@ -1371,7 +1364,7 @@ module _ (c : Call) (l : Local) (s : Groups) where
     line_88 : FitLocal l → MarkedAs l s → EndOfFile c l s → ends 0x88
     line_88 fl mk (inl r) =
         get_line K r.started
-        (get_refused r.k 0x88 r.comes (keys_reads (asks_on l.number c.iocb) (read_to (acts_on c l s K) r.k r.started.stands) (keys_stand fl mk fg r.started r.k) r.at) (omega arith))
+        (get_refused r.k 0x88 r.comes (keys_reads (asks_on l.number c.iocb) (read_to (acts_on c l s K) r.k r.started.stands) r.at) (omega arith))
     line_88 fl mk (inr (inl r)) =
         get_line C r.started
         (get_refused r.k 0x88 r.comes (reads_end (asks_on l.number c.iocb) (read_to (acts_on c l s C) r.k r.started.stands) (read_at_mark fl mk r.started r.k) r.at) (omega arith))

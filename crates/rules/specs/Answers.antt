@@ -1,9 +1,7 @@
--- Document 01, Calls: when each number is given: "each is given exactly then. Order: 2, 3, 1, the rest; fresh start gives 0 or 2 only."; and
--- document 02's 9 (Ask 6).
+-- Document 01, Calls: when each number is given: "each is given exactly then. Order: 2, 3, 1, the rest; fresh start gives 0 or 2 only."
 -- Assumes nothing.
-use Rattle.std.specs.Prelude.{◌≡◌, ◌↔◌, ◌⊎◌, Bool, true, false, List, [], ◌∷◌, ℕ, ◌<◌, ◌≤◌, eqb, length}
+use Rattle.std.specs.Prelude.{◌≡◌, ◌↔◌, ◌⊎◌, Bool, true, false, List, [], ◌∷◌, ℕ, ◌<◌, ◌≤◌, eqb}
 use Rattle.base.specs.Choice.{or}
-use Rattle.keyboard.specs.Queue.{waiting_in}
 use Rattle.blocks.specs.declared.Header.{Header}
 use Rattle.blocks.specs.declared.Phase.{Phase}
 use Rattle.blocks.specs.declared.Phase.TheVariants.{Gathering, Ready, Running, Replying}
@@ -89,24 +87,9 @@ pub record ConsoleHeld (s : Stick) (l : Lent) : Type 0 where
   pub held : Holds s.port0.phase groups.Console ⊎ Holds s.port1.phase groups.Console
 
 -- no request does
-abbrev pub ConsoleFree : Stick → Type 0
-ConsoleFree s = (Holds s.port0.phase groups.Console ⊎ Holds s.port1.phase groups.Console) → ⊥
-
--- the codes of the keys that wait
-abbrev pub keys_at : Stick → List ℕ
-keys_at s = waiting_in s.devices.console.keyboard s.devices.ring
-
--- 9: "A seventeenth press answers a new number 9, queue full, and changes nothing; number 6 is checked first."
-pub record QueueFull (s : Stick) (l : Lent) : Type 0 where
+pub record ConsoleFree (s : Stick) (l : Lent) : Type 0 where
   pub sound : Guarded s l
-  pub free : ConsoleFree s
-  pub full : length (keys_at s) ≡ 16
-
--- a key that finds a place
-pub record QueueOpen (s : Stick) (l : Lent) : Type 0 where
-  pub sound : Guarded s l
-  pub free : ConsoleFree s
-  pub room : length (keys_at s) < 16
+  pub free : (Holds s.port0.phase groups.Console ⊎ Holds s.port1.phase groups.Console) → ⊥
 
 -- the group that a port's ready message needs: "A CALL past the $82 check needs its device's group; CLOSE of a closed block, LOAD,
 -- FETCH and refused messages need none"
@@ -179,6 +162,5 @@ pub record PressAnswers (s : Stick) (l : Lent) (answer : ℕ) : Type 0 where
   pub damaged : (answer ≡ 3) ↔ Damaged s l
   -- "6 key pressed while a request holds the console"
   pub held : (answer ≡ 6) ↔ ConsoleHeld s l
-  pub full : (answer ≡ 9) ↔ QueueFull s l
-  pub done : (answer ≡ 0) ↔ QueueOpen s l
-  pub numbers : one_of (0 ∷ 2 ∷ 3 ∷ 6 ∷ 9 ∷ []) answer ≡ true
+  pub done : (answer ≡ 0) ↔ ConsoleFree s l
+  pub numbers : one_of (0 ∷ 2 ∷ 3 ∷ 6 ∷ []) answer ≡ true

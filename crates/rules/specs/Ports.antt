@@ -1,9 +1,9 @@
 -- What a call leaves alone: the other port; of a take, a give and a press also the port's own blocks and area, and the devices. (What
 -- a tick does to its own port and its group's device, and that it leaves the other groups, is demand 2.)
 -- Assumes nothing.
-use Rattle.std.specs.Prelude.{◌≡◌, ℕ, eqb}
+use Rattle.std.specs.Prelude.{◌≡◌, ◌⊎◌, ℕ, eqb}
 use Rattle.base.specs.Choice.{pick}
-use Rattle.console.specs.Group.{Keyed, keyed, pressed_of}
+use Rattle.console.specs.Group.{pressed_of}
 use Rattle.layout.specs.Stick.{Stick, Lent, port_at, other_at}
 use Rattle.calls.specs.Stick.{Outcome, area_at, room_at}
 
@@ -35,16 +35,11 @@ pub record OnlyPhase (port : ℕ) (s : Stick) (l : Lent) (o : Outcome) : Type 0 
   pub devices : o.stick.devices ≡ s.devices
   pub buffers : o.lent ≡ l
 
--- the console's numbers and its keys
-abbrev pub keyed_at : Stick → Keyed
-keyed_at s = keyed s.devices.console s.devices.ring
-
--- only the keys that wait are others, where the press is answered 0, and nothing where it is not
+-- only the key that waits on the keyboard is another, the pressed one, not its lock nor inverse
 pub record OnlyKey (code : ℕ) (s : Stick) (l : Lent) (o : Outcome) : Type 0 where
   pub port0 : o.stick.port0 ≡ s.port0
   pub port1 : o.stick.port1 ≡ s.port1
-  pub taken : o.answer ≡ 0 → keyed_at o.stick ≡ pressed_of code (keyed_at s)
-  pub refused : (o.answer ≡ 0 → ⊥) → keyed_at o.stick ≡ keyed_at s
+  pub console : (o.stick.devices.console ≡ s.devices.console) ⊎ (o.stick.devices.console ≡ pressed_of code s.devices.console)
   pub printer : o.stick.devices.printer ≡ s.devices.printer
   pub cassette : o.stick.devices.cassette ≡ s.devices.cassette
   pub pending : o.stick.devices.pending ≡ s.devices.pending

@@ -1,6 +1,6 @@
 -- Document 01, Statuses: the table and the order of the checks, a line each: a request alone ends with a status exactly when its line
--- says so. From the message, the port's blocks and area, and the device alone. With document 02's Asks 1, 6, 7 and 12: the lines of
--- the tape, of the keyboard's queue and of the diskettes.
+-- says so. From the message, the port's blocks and area, and the device alone. With document 02's Asks 1, 7 and 12: the lines of the
+-- tape and of the diskettes.
 -- Assumes nothing.
 use Rattle.std.specs.Prelude.{◌≡◌, ◌↔◌, ◌⊎◌, Bool, true, false, List, [], ◌∷◌, ℕ, ◌+◌, ◌*◌, ◌<◌, ◌≤◌, length, get_or, drop}
 use Rattle.base.specs.Choice.{bit}
@@ -12,10 +12,9 @@ use Rattle.names.specs.Read.{NameReads}
 use Rattle.handler.specs.declared.Done.TheVariants as done
 use Rattle.handler.specs.Answer.{answer, Gives}
 use Rattle.handler.specs.Acts.{Acts, asks_on}
-use Rattle.keyboard.specs.Queue.{waiting_of}
-use Rattle.keyboard.specs.Order.{locks_of, KeysEnd}
+use Rattle.keys.specs.Translation.{translate_of}
 use Rattle.cells.specs.Modes.{shape_of}
-use Rattle.console.specs.Group.{ConsoleGroup, keyed_of, queue_of}
+use Rattle.console.specs.Group.{ConsoleGroup}
 use Rattle.printer.specs.Printer.{paper_length, PrinterGroup}
 use Rattle.records.specs.Records.{record_at}
 use Rattle.records.specs.Kinds.{HoldsCharacters, Wrong}
@@ -310,11 +309,11 @@ module _ (c : Call) (l : Local) (s : Groups) where
     pub comes : WritesTo (acts_on device) started.way c.length (sent_by started.way) started.stands k
     pub at : At (get_or (sent_by started.way) k 0) (written_to (acts_on device) (sent_by started.way) k started.stands)
 
-  -- "$88 .. end of file from K": "gives $88 at end of file or empty queue", by what key translation says of the codes that wait; and from C and
-  -- D: "$03 and $88 come as from tape."
+  -- "$88 .. end of file from K": "Empty, above $BF, or no character: $88": key translation gives no character; and from C and D: "$03 and
+  -- $88 come as from tape."
   abbrev pub EndOfFile : Type 0
   EndOfFile =
-      ReadsAt K (λ (g : ConsoleGroup). KeysEnd (waiting_of (queue_of (keyed_of g))) (locks_of g.console.keyboard))
+      ReadsAt K (λ (g : ConsoleGroup). let k = g.console.keyboard in 256 ≤ translate_of k.code k.lock k.inverse)
       ⊎ (ReadsAt C AtEnd ⊎ ReadsAt D (λ (g : DiskGroup). DiskEnds (place_in g) g.images))
 
   -- "$8F" a bad record

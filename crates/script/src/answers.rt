@@ -38,10 +38,6 @@ fn answered(
             tape::write(state, tape);
             ops::read()
         }
-        Op::DumpKeys => {
-            dump::write_keys(state);
-            ops::read()
-        }
         Op::Doctor(n) => ops::read(),
         Op::Ticks(port, most, made) => {
             ticks::next(port, most, made, (number % 256) as u8, state)

@@ -5,14 +5,7 @@ use layout::places;
 
 const CONSOLE: usize = places::DEVICES + places::CONSOLE;
 
-const RING: usize = places::DEVICES + places::RING;
-
 const PRINTER: usize = places::DEVICES + places::PRINTER;
-
-// In the console's numbers the first place of the keys that wait, and how many wait.
-const FIRST: usize = CONSOLE + 7;
-
-const WAITING: usize = CONSOLE + 8;
 
 const CASSETTE: usize = places::DEVICES + places::CASSETTE;
 
@@ -52,39 +45,10 @@ fn write_table(table: &[u8]) {
     }
 }
 
-// The code of the key that so many are before, and 0 where fewer wait.
-fn waiting_at(state: &[u8], before: u8) -> u8 {
-    if before < base::byte_at(state, WAITING) {
-        let place = base::byte_at(state, FIRST) as usize + before as usize;
-        return base::byte_at(state, RING + place % (PRINTER - RING));
-    }
-    0
-}
-
-// The key byte of a dump: the oldest code that waits, $FF if there is none.
-fn oldest(waiting: u8, code: u8) -> u8 {
-    if waiting == 0 {
-        return 0xFF;
-    }
-    code
-}
-
-// How many keys wait, and sixteen codes, the oldest first and zeros behind them.
-pub fn write_keys(state: &[u8]) {
-    say::byte(base::byte_at(state, WAITING));
-    let mut before: u8 = 0;
-    while before < 16 {
-        say::byte(waiting_at(state, before));
-        before += 1;
-    }
-}
-
 fn write_state(state: &[u8]) {
     if state.len() == places::STATE {
         say::bytes(&state[PRINTER..CASSETTE]);
-        say::bytes(&state[CONSOLE..FIRST]);
-        say::byte(oldest(state[WAITING], waiting_at(state, 0)));
-        say::bytes(&state[WAITING + 1..RING]);
+        say::bytes(&state[CONSOLE..PRINTER]);
         write_table(&state[places::PHASE..]);
         write_table(&state[places::PORT + places::PHASE..]);
         say::byte(state[0]);

@@ -23,7 +23,6 @@ pub enum Op {
     Write(u8, u32, u16),
     Dump,
     DumpTape,
-    DumpKeys,
     Doctor(u8),
     Ticks(u8, u16, u16),
     Call(CallOp),
@@ -39,7 +38,6 @@ impl Op {
             Op::Write(which, at, count) => false,
             Op::Dump => false,
             Op::DumpTape => false,
-            Op::DumpKeys => false,
             Op::Doctor(n) => false,
             Op::Ticks(port, most, made) => false,
             Op::Call(call) => false,
@@ -55,7 +53,6 @@ impl Op {
             Op::Write(which, at, count) => CallOp::Nothing,
             Op::Dump => CallOp::Nothing,
             Op::DumpTape => CallOp::Nothing,
-            Op::DumpKeys => CallOp::Nothing,
             Op::Doctor(n) => CallOp::Nothing,
             Op::Ticks(port, most, made) => {
                 if made < most {
@@ -104,7 +101,6 @@ fn op_of(op: u8, first: u8, second: u8, third: u8, fourth: u8, fifth: u8, sixth:
         b'W' => Op::Write(first, long(second, third, fourth), word(fifth, sixth)),
         b'D' => Op::Dump,
         b'C' => Op::DumpTape,
-        b'Q' => Op::DumpKeys,
         b'R' => Op::Doctor(first),
         _ => Op::End,
     }

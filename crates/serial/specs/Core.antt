@@ -63,7 +63,7 @@ module _ (M : Machine) where
     gave : Byte → Answer
     not-gathering no_byte console-held idle group-held key-refused : Answer
 
-  -- the table's numbers, and of a console that refuses a key document 02's
+  -- the table's numbers; a console that refuses a key has one of its own, as none of document 01's does
   abbrev pub number : Answer → ℕ
   number done = 0
   number (gave b) = 0

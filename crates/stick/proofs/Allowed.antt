@@ -11,8 +11,7 @@ use Rattle.blocks.specs.declared.Port.{Port}
 use Rattle.layout.specs.Stick.{port_at}
 use Rattle.calls.specs.Port.{take_port}
 use Rattle.calls.specs.Stick.{Outcome, room_at}
-use Rattle.calls.specs.Calls.{take_at, press_at}
-use Rattle.calls.proofs.Pressing.{press_either}
+use Rattle.calls.specs.Calls.{take_at, press_at, console_held}
 use Rattle.calls.specs.Bytes.{Buffers, buffers, Left, left, left_of, stick_by, lent_by}
 
 -- an outcome that has no byte and leaves all but the state
@@ -34,4 +33,5 @@ take_leaves port b byte =
     ap (λ (n : ℕ). left o.answer n o.buffers) (no_byte mine.phase mine (room_at port (lent_by b)) byte)
 
 pub press_leaves : (b : Buffers) (code : ℕ) → Leaves b (left_of (press_at (stick_by b) (lent_by b) code))
-press_leaves b code = press_either (λ (o : Outcome). Leaves b (left_of o)) (stick_by b) (lent_by b) code (λ t. refl) (λ t u. refl) (λ t u. refl)
+unfolding press_at
+press_leaves b code = choose_go (λ (o : Outcome). Leaves b (left_of o)) (console_held (stick_by b)) _ _ (λ t. refl) (λ t. refl)

@@ -3,7 +3,7 @@ ghost use Rattle.std.specs.Prelude.{◌≡◌, ◌+◌, ◌*◌};
 ghost use Rattle.calls.specs.Calls.{take_at, give_at, press_at};
 ghost use Rattle.calls.specs.Returned.{returned, both_of};
 ghost use Rattle.calls.specs.Bytes.{buffers, left, left_of, stick_by, lent_by};
-ghost use Rattle.calls.specs.Parts.{Called, Rooms, console_held_on, key_left, key_on};
+ghost use Rattle.calls.specs.Parts.{Called, Rooms, console_held_on, key_on};
 
 use devices::Group;
 use layout::places::{DEVICES, ROOM, ROOMS};
@@ -82,12 +82,14 @@ fn holds_console(port: u8, state: &[u8]) -> bool
     false
 }
 
-// A key that the console may take: 0, or 9 where the queue is full.
-fn store_key(code: u8, state: &mut [u8]) -> u8
+// A pressed key, over an older one.
+fn store_key(code: u8, state: &mut [u8])
     requires { Rooms 0 state.old }
-    ensures { key_left result state.new ≡ key_on code state.old }
+    ensures { state.new ≡ key_on code state.old }
 {
-    devices::numbers::press(&mut state[DEVICES..ROOMS], code)
+    let console = devices::numbers::console_of(&state[DEVICES..ROOMS]);
+    let next = console.press(code);
+    devices::numbers::set_console(&mut state[DEVICES..ROOMS], next);
 }
 
 // A key of the console.
@@ -109,5 +111,6 @@ pub fn press_at(
     if holds_console(1, state) {
         return 6;
     }
-    store_key(code, state)
+    store_key(code, state);
+    0
 }

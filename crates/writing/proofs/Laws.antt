@@ -80,7 +80,7 @@ module _ (l : List ℕ) where
   run_written r k d e f = rw (e, f)
 
   pub console_written : (c : Console) (e r : ℕ) → e ≡ pick c.escape 1 0 → r ≡ reading_byte c.reading
-      → sets l 0 (c.mode ∷ c.row % 256 ∷ low_byte c.column ∷ high_byte c.column ∷ c.last ∷ e ∷ r ∷ c.keyboard.first ∷ c.keyboard.waiting ∷ c.keyboard.lock ∷ c.keyboard.inverse ∷ []) ≡ sets l 0 (console_bytes c)
+      → sets l 0 (c.mode ∷ c.row % 256 ∷ low_byte c.column ∷ high_byte c.column ∷ c.last ∷ e ∷ r ∷ c.keyboard.code ∷ c.keyboard.lock ∷ c.keyboard.inverse ∷ []) ≡ sets l 0 (console_bytes c)
   unfolding console_bytes
   console_written c e r p q = rw (p, q)
 

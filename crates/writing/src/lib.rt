@@ -216,10 +216,9 @@ pub fn console(bytes: &mut [u8], console: Console)
     bytes[4] = console.last;
     bytes[5] = escape_byte(console.escape);
     bytes[6] = reading_byte(reading);
-    bytes[7] = keyboard.first;
-    bytes[8] = keyboard.waiting;
-    bytes[9] = keyboard.lock;
-    bytes[10] = keyboard.inverse;
+    bytes[7] = keyboard.code;
+    bytes[8] = keyboard.lock;
+    bytes[9] = keyboard.inverse;
 }
 
 pub fn printer(bytes: &mut [u8], printer: Printer)

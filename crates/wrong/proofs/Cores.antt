@@ -10,8 +10,7 @@ use native.Mathlib.Omega.{arith}
 use lib.ListN.{length, get_or, replicate}
 use Rattle.keys.specs.Table as keys
 use Rattle.keys.specs.Translation as keys_to
-use Rattle.keyboard.specs.Queue as queue
-use Rattle.keyboard.specs.Keyboard as keyboard
+use Rattle.keys.specs.Keyboard as keyboard
 use Rattle.cells.specs.Modes.{modes, row_of, shape_of, count_of}
 use Rattle.cells.specs.Cells.{cell_of, with_cell, filled, reduced, scrolled}
 use Rattle.controls.specs.Decide as controls_acts
@@ -19,7 +18,7 @@ use Rattle.editor.specs.Text as editor
 use Rattle.controls.specs.Put as controls
 use Rattle.editor.specs.Get as editor_get
 use Rattle.printer.specs.Printer as printer
-use Rattle.console.specs.Handlers.{open_e, open_on, open_of, prepare_e, prepare_on, prepare_of, read_e, read_k, read_of, write_e, write_on, write_of}
+use Rattle.console.specs.Handlers.{open_e, open_of, prepare_e, prepare_of, read_e, read_k, read_of, write_e, write_of}
 use Rattle.blocks.specs.declared.Device.TheVariants.{P}
 use Rattle.blocks.specs.declared.Kind.TheVariants.{Put}
 use Rattle.blocks.specs.declared.Run.{Run}
@@ -98,11 +97,11 @@ abbrev pub load_e : Said
 load_e = load 0 (0x45 ∷ 0x3A ∷ 0x9B ∷ [])
 
 pub never_starting_wrong : WaitingRule real (with_call real (never_starts real)) → ⊥
-unfolding after feed fed_of good_field sense_of bad_status message_of errand_step plan_step move_by keys.keys keys_to.entry_of keys_to.key_answer keys_to.translate_of keyboard.obeyed keyboard.struck_of queue.codes_from queue.place_behind queue.cleared queue.press_of keyboard.get_of printer.put_of open_e open_on open_of prepare_e prepare_on prepare_of read_e read_k read_of write_e write_on write_of device_of number_of named_of specification_of offers_of bytes_at fetch_status fetch_reply moves.get_of moves.put_of moves.go_of moves.advance_of command_of way_of area_plan transfer_plan block_plan name_of named_for call_plan plan_in plan_of loaded_of load_status then_of opened_of opening_of transfer_of work_of onward_of record_of got_character got_of sent_byte sent_record sent_next sent_of loaded
+unfolding after feed fed_of good_field sense_of bad_status message_of errand_step plan_step move_by keys.keys keys_to.entry_of keys_to.key_answer keys_to.translate_of keyboard.obeyed keyboard.struck_by keyboard.get_of printer.put_of open_e open_of prepare_e prepare_of read_e read_k read_of write_e write_of device_of number_of named_of specification_of offers_of bytes_at fetch_status fetch_reply moves.get_of moves.put_of moves.go_of moves.advance_of command_of way_of area_plan transfer_plan block_plan name_of named_for call_plan plan_in plan_of loaded_of load_status then_of opened_of opening_of transfer_of work_of onward_of record_of got_character got_of sent_byte sent_record sent_next sent_of loaded
 never_starting_wrong w = (w.waits (led (never_starts real) asks_load) (leads (never_starts real) asks_load tt) port-0 load_e refl).0 refl
 
 pub pretending_wrong : WaitingRule real (with_call real (pretends real)) → ⊥
-unfolding after feed fed_of good_field sense_of bad_status message_of errand_step plan_step move_by keys.keys keys_to.entry_of keys_to.key_answer keys_to.translate_of keyboard.obeyed keyboard.struck_of queue.codes_from queue.place_behind queue.cleared queue.press_of keyboard.get_of printer.put_of open_e open_on open_of prepare_e prepare_on prepare_of read_e read_k read_of write_e write_on write_of device_of number_of named_of specification_of offers_of bytes_at fetch_status fetch_reply moves.get_of moves.put_of moves.go_of moves.advance_of command_of way_of area_plan transfer_plan block_plan name_of named_for call_plan plan_in plan_of loaded_of load_status then_of opened_of opening_of transfer_of work_of onward_of record_of got_character got_of sent_byte sent_record sent_next sent_of loaded
+unfolding after feed fed_of good_field sense_of bad_status message_of errand_step plan_step move_by keys.keys keys_to.entry_of keys_to.key_answer keys_to.translate_of keyboard.obeyed keyboard.struck_by keyboard.get_of printer.put_of open_e open_of prepare_e prepare_of read_e read_k read_of write_e write_of device_of number_of named_of specification_of offers_of bytes_at fetch_status fetch_reply moves.get_of moves.put_of moves.go_of moves.advance_of command_of way_of area_plan transfer_plan block_plan name_of named_for call_plan plan_in plan_of loaded_of load_status then_of opened_of opening_of transfer_of work_of onward_of record_of got_character got_of sent_byte sent_record sent_next sent_of loaded
 pretending_wrong w = (w.starts (led (pretends real) asks_load) (leads (pretends real) asks_load tt) port-0 load_e refl (λ h. h)).1
 
 -- "though demand 3 is met"
@@ -123,7 +122,7 @@ abbrev both_busy : List (CoreCall real)
 both_busy = loads port-1 4 (0x45 ∷ 0x3A ∷ []) ++ says port-1 (calls 0 0x03 0 0 0x0D) ++ opens port-0 0x50 0 8 ++ does port-0 prints_two 1 0
 
 pub one_lock_wrong : WaitingRule real (with_call real (one_lock real)) → ⊥
-unfolding after feed fed_of good_field sense_of bad_status message_of errand_step plan_step move_by keys.keys keys_to.entry_of keys_to.key_answer keys_to.translate_of keyboard.obeyed keyboard.struck_of queue.codes_from queue.place_behind queue.cleared queue.press_of keyboard.get_of printer.put_of open_e open_on open_of prepare_e prepare_on prepare_of read_e read_k read_of write_e write_on write_of device_of number_of named_of specification_of offers_of bytes_at fetch_status fetch_reply moves.get_of moves.put_of moves.go_of moves.advance_of command_of way_of area_plan transfer_plan block_plan name_of named_for call_plan plan_in plan_of loaded_of load_status then_of opened_of opening_of transfer_of work_of onward_of record_of got_character got_of sent_byte sent_record sent_next sent_of loaded
+unfolding after feed fed_of good_field sense_of bad_status message_of errand_step plan_step move_by keys.keys keys_to.entry_of keys_to.key_answer keys_to.translate_of keyboard.obeyed keyboard.struck_by keyboard.get_of printer.put_of open_e open_of prepare_e prepare_of read_e read_k read_of write_e write_of device_of number_of named_of specification_of offers_of bytes_at fetch_status fetch_reply moves.get_of moves.put_of moves.go_of moves.advance_of command_of way_of area_plan transfer_plan block_plan name_of named_for call_plan plan_in plan_of loaded_of load_status then_of opened_of opening_of transfer_of work_of onward_of record_of got_character got_of sent_byte sent_record sent_next sent_of loaded
 one_lock_wrong w = true≢false (sym ((w.waits (led (one_lock real) both_busy) (leads (one_lock real) both_busy tt) port-1 opens_e refl).0 refl))
 
 -- "Always refusing, or always status 1: demand 2 and cases 2, 3": every CALL is answered so
@@ -143,7 +142,7 @@ abbrev pub case_2 : List (CoreCall real)
 case_2 = loads port-0 5 (0x45 ∷ 0x3A ∷ 0x9B ∷ []) ++ says port-0 (calls 0 0x03 0 0 0x0D)
 
 pub always_refusing_wrong : AloneRule real (with_call real (always_status 0x84)) → ⊥
-unfolding after feed fed_of good_field sense_of bad_status message_of errand_step plan_step move_by keys.keys keys_to.entry_of keys_to.key_answer keys_to.translate_of keyboard.obeyed keyboard.struck_of queue.codes_from queue.place_behind queue.cleared queue.press_of keyboard.get_of printer.put_of open_e open_on open_of prepare_e prepare_on prepare_of read_e read_k read_of write_e write_on write_of device_of number_of named_of specification_of offers_of bytes_at fetch_status fetch_reply moves.get_of moves.put_of moves.go_of moves.advance_of command_of way_of area_plan transfer_plan block_plan name_of named_for call_plan plan_in plan_of loaded_of load_status then_of opened_of opening_of transfer_of work_of onward_of record_of got_character got_of sent_byte sent_record sent_next sent_of loaded ticked alone_of alone_plan alone_errand alone_work alone_transfer alone_opening transferred getting putting get_one put_one get_characters put_characters get_record put_record drop_line
+unfolding after feed fed_of good_field sense_of bad_status message_of errand_step plan_step move_by keys.keys keys_to.entry_of keys_to.key_answer keys_to.translate_of keyboard.obeyed keyboard.struck_by keyboard.get_of printer.put_of open_e open_of prepare_e prepare_of read_e read_k read_of write_e write_of device_of number_of named_of specification_of offers_of bytes_at fetch_status fetch_reply moves.get_of moves.put_of moves.go_of moves.advance_of command_of way_of area_plan transfer_plan block_plan name_of named_for call_plan plan_in plan_of loaded_of load_status then_of opened_of opening_of transfer_of work_of onward_of record_of got_character got_of sent_byte sent_record sent_next sent_of loaded ticked alone_of alone_plan alone_errand alone_work alone_transfer alone_opening transferred getting putting get_one put_one get_characters put_characters get_record put_record drop_line
 always_refusing_wrong a =
     let f = always_status 0x84 in
     let w = led f case_2 in
@@ -157,7 +156,7 @@ abbrev pub closes_eight : Said
 closes_eight = call (record { iocb = 8; command = 0x0C; address = 0; length = 0; aux1 = 0; aux2 = 0; a = 0 })
 
 pub always_one_wrong : AloneRule real (with_call real (always_status 0x01)) → ⊥
-unfolding after feed fed_of good_field sense_of bad_status message_of errand_step plan_step move_by keys.keys keys_to.entry_of keys_to.key_answer keys_to.translate_of keyboard.obeyed keyboard.struck_of queue.codes_from queue.place_behind queue.cleared queue.press_of keyboard.get_of printer.put_of open_e open_on open_of prepare_e prepare_on prepare_of read_e read_k read_of write_e write_on write_of device_of number_of named_of specification_of offers_of bytes_at fetch_status fetch_reply moves.get_of moves.put_of moves.go_of moves.advance_of command_of way_of area_plan transfer_plan block_plan name_of named_for call_plan plan_in plan_of loaded_of load_status then_of opened_of opening_of transfer_of work_of onward_of record_of got_character got_of sent_byte sent_record sent_next sent_of loaded ticked alone_of alone_plan alone_errand alone_work alone_transfer alone_opening transferred getting putting get_one put_one get_characters put_characters get_record put_record drop_line
+unfolding after feed fed_of good_field sense_of bad_status message_of errand_step plan_step move_by keys.keys keys_to.entry_of keys_to.key_answer keys_to.translate_of keyboard.obeyed keyboard.struck_by keyboard.get_of printer.put_of open_e open_of prepare_e prepare_of read_e read_k read_of write_e write_of device_of number_of named_of specification_of offers_of bytes_at fetch_status fetch_reply moves.get_of moves.put_of moves.go_of moves.advance_of command_of way_of area_plan transfer_plan block_plan name_of named_for call_plan plan_in plan_of loaded_of load_status then_of opened_of opening_of transfer_of work_of onward_of record_of got_character got_of sent_byte sent_record sent_next sent_of loaded ticked alone_of alone_plan alone_errand alone_work alone_transfer alone_opening transferred getting putting get_one put_one get_characters put_characters get_record put_record drop_line
 always_one_wrong a =
     let f = always_status 0x01 in
     let w = led f case_3 in
@@ -178,7 +177,7 @@ abbrev pub claims : Calls real
 claims = first_only real (reply_by (call_reply 0x01 2 0))
 
 pub first_only_wrong : AloneRule real (with_call real claims) → ⊥
-unfolding after feed fed_of good_field sense_of bad_status message_of errand_step plan_step move_by keys.keys keys_to.entry_of keys_to.key_answer keys_to.translate_of keyboard.obeyed keyboard.struck_of queue.codes_from queue.place_behind queue.cleared queue.press_of keyboard.get_of printer.put_of open_e open_on open_of prepare_e prepare_on prepare_of read_e read_k read_of write_e write_on write_of device_of number_of named_of specification_of offers_of bytes_at fetch_status fetch_reply moves.get_of moves.put_of moves.go_of moves.advance_of command_of way_of area_plan transfer_plan block_plan name_of named_for call_plan plan_in plan_of loaded_of load_status then_of opened_of opening_of transfer_of work_of onward_of record_of got_character got_of sent_byte sent_record sent_next sent_of loaded ticked alone_of alone_plan alone_errand alone_work alone_transfer alone_opening transferred getting putting get_one put_one get_characters put_characters get_record put_record drop_line
+unfolding after feed fed_of good_field sense_of bad_status message_of errand_step plan_step move_by keys.keys keys_to.entry_of keys_to.key_answer keys_to.translate_of keyboard.obeyed keyboard.struck_by keyboard.get_of printer.put_of open_e open_of prepare_e prepare_of read_e read_k read_of write_e write_of device_of number_of named_of specification_of offers_of bytes_at fetch_status fetch_reply moves.get_of moves.put_of moves.go_of moves.advance_of command_of way_of area_plan transfer_plan block_plan name_of named_for call_plan plan_in plan_of loaded_of load_status then_of opened_of opening_of transfer_of work_of onward_of record_of got_character got_of sent_byte sent_record sent_next sent_of loaded ticked alone_of alone_plan alone_errand alone_work alone_transfer alone_opening transferred getting putting get_one put_one get_characters put_characters get_record put_record drop_line
 first_only_wrong a =
     let w = led claims asks_print in
     let s = (claims (tick port-0) (claims (tick port-0) w).world).world in
@@ -188,7 +187,7 @@ first_only_wrong a =
 
 -- "Moving all in the start tick: one character a tick"
 pub all_at_once_wrong : OneCharacter real (with_call real (all_at_once real 3)) → ⊥
-unfolding after feed fed_of good_field sense_of bad_status message_of errand_step plan_step move_by keys.keys keys_to.entry_of keys_to.key_answer keys_to.translate_of keyboard.obeyed keyboard.struck_of queue.codes_from queue.place_behind queue.cleared queue.press_of keyboard.get_of printer.put_of open_e open_on open_of prepare_e prepare_on prepare_of read_e read_k read_of write_e write_on write_of device_of number_of named_of specification_of offers_of bytes_at fetch_status fetch_reply moves.get_of moves.put_of moves.go_of moves.advance_of command_of way_of area_plan transfer_plan block_plan name_of named_for call_plan plan_in plan_of loaded_of load_status then_of opened_of opening_of transfer_of work_of onward_of record_of got_character got_of sent_byte sent_record sent_next sent_of loaded ticked
+unfolding after feed fed_of good_field sense_of bad_status message_of errand_step plan_step move_by keys.keys keys_to.entry_of keys_to.key_answer keys_to.translate_of keyboard.obeyed keyboard.struck_by keyboard.get_of printer.put_of open_e open_of prepare_e prepare_of read_e read_k read_of write_e write_of device_of number_of named_of specification_of offers_of bytes_at fetch_status fetch_reply moves.get_of moves.put_of moves.go_of moves.advance_of command_of way_of area_plan transfer_plan block_plan name_of named_for call_plan plan_in plan_of loaded_of load_status then_of opened_of opening_of transfer_of work_of onward_of record_of got_character got_of sent_byte sent_record sent_next sent_of loaded ticked
 all_at_once_wrong o =
     let f = all_at_once real 3 in
     let e = o.start_tick (led f asks_print) (leads f asks_print tt) port-0 print_two refl (λ h. h) in
@@ -202,7 +201,7 @@ abbrev pub printing : Run
 printing = record { kind = Put Characters; device = P; iocb = 0; left = 2; place = 0; count = 0; a = 0 }
 
 pub moving_nothing_wrong : OneCharacter real (with_call real (moves_nothing real)) → ⊥
-unfolding after feed fed_of good_field sense_of bad_status message_of errand_step plan_step move_by keys.keys keys_to.entry_of keys_to.key_answer keys_to.translate_of keyboard.obeyed keyboard.struck_of queue.codes_from queue.place_behind queue.cleared queue.press_of keyboard.get_of printer.put_of open_e open_on open_of prepare_e prepare_on prepare_of read_e read_k read_of write_e write_on write_of device_of number_of named_of specification_of offers_of bytes_at fetch_status fetch_reply moves.get_of moves.put_of moves.go_of moves.advance_of command_of way_of area_plan transfer_plan block_plan name_of named_for call_plan plan_in plan_of loaded_of load_status then_of opened_of opening_of transfer_of work_of onward_of record_of got_character got_of sent_byte sent_record sent_next sent_of loaded
+unfolding after feed fed_of good_field sense_of bad_status message_of errand_step plan_step move_by keys.keys keys_to.entry_of keys_to.key_answer keys_to.translate_of keyboard.obeyed keyboard.struck_by keyboard.get_of printer.put_of open_e open_of prepare_e prepare_of read_e read_k read_of write_e write_of device_of number_of named_of specification_of offers_of bytes_at fetch_status fetch_reply moves.get_of moves.put_of moves.go_of moves.advance_of command_of way_of area_plan transfer_plan block_plan name_of named_for call_plan plan_in plan_of loaded_of load_status then_of opened_of opening_of transfer_of work_of onward_of record_of got_character got_of sent_byte sent_record sent_next sent_of loaded
 moving_nothing_wrong o =
     let f = moves_nothing real in
     let e = (o.move_tick (led f prints) (leads f prints tt) port-0 groups.Printer printing refl).1 in
@@ -231,7 +230,7 @@ abbrev record_back : Said
 record_back = call (record { iocb = 0; command = 0x05; address = 32; length = 10; aux1 = 0; aux2 = 0; a = 0 })
 
 pub made_up_wrong : AloneRule real (with_call real made_up) → ⊥
-unfolding after feed fed_of good_field sense_of bad_status message_of errand_step plan_step move_by keys.keys keys_to.entry_of keys_to.key_answer keys_to.translate_of keyboard.obeyed keyboard.struck_of queue.codes_from queue.place_behind queue.cleared queue.press_of keyboard.get_of printer.put_of open_e open_on open_of prepare_e prepare_on prepare_of read_e read_k read_of write_e write_on write_of device_of number_of named_of specification_of offers_of bytes_at fetch_status fetch_reply moves.get_of moves.put_of moves.go_of moves.advance_of command_of way_of area_plan transfer_plan block_plan name_of named_for call_plan plan_in plan_of loaded_of load_status then_of opened_of opening_of transfer_of work_of onward_of record_of got_character got_of sent_byte sent_record sent_next sent_of loaded ticked alone_of alone_plan alone_errand alone_work alone_transfer alone_opening transferred getting putting get_one put_one get_characters put_characters get_record put_record drop_line modes row_of shape_of count_of cell_of with_cell filled reduced scrolled controls_acts.plain_of controls_acts.act_of editor.new_row editor.open_of controls.less_of controls.more_of controls.clear_of controls.back_of controls.onward controls.data_of controls.doing controls.put_of editor_get.cells_held editor_get.end_of editor_get.get_at editor_get.get_of left_e left_k console_left
+unfolding after feed fed_of good_field sense_of bad_status message_of errand_step plan_step move_by keys.keys keys_to.entry_of keys_to.key_answer keys_to.translate_of keyboard.obeyed keyboard.struck_by keyboard.get_of printer.put_of open_e open_of prepare_e prepare_of read_e read_k read_of write_e write_of device_of number_of named_of specification_of offers_of bytes_at fetch_status fetch_reply moves.get_of moves.put_of moves.go_of moves.advance_of command_of way_of area_plan transfer_plan block_plan name_of named_for call_plan plan_in plan_of loaded_of load_status then_of opened_of opening_of transfer_of work_of onward_of record_of got_character got_of sent_byte sent_record sent_next sent_of loaded ticked alone_of alone_plan alone_errand alone_work alone_transfer alone_opening transferred getting putting get_one put_one get_characters put_characters get_record put_record drop_line modes row_of shape_of count_of cell_of with_cell filled reduced scrolled controls_acts.plain_of controls_acts.act_of editor.new_row editor.open_of controls.less_of controls.more_of controls.clear_of controls.back_of controls.onward controls.data_of controls.doing controls.put_of editor_get.cells_held editor_get.end_of editor_get.get_at editor_get.get_of left_e left_k console_left
 made_up_wrong a =
     let w = led made_up case_7 in
     let s = ticked real (with_call real made_up) 4 port-0 w in
@@ -259,14 +258,14 @@ abbrev given_across : List (CoreCall real)
 given_across = asks_load ++ (tick port-0 ∷ give port-1 ∷ [])
 
 pub mixed_out_wrong : GivenRule real (with_call real (crossed real)) → ⊥
-unfolding after feed fed_of good_field sense_of bad_status message_of errand_step plan_step move_by keys.keys keys_to.entry_of keys_to.key_answer keys_to.translate_of keyboard.obeyed keyboard.struck_of queue.codes_from queue.place_behind queue.cleared queue.press_of keyboard.get_of printer.put_of open_e open_on open_of prepare_e prepare_on prepare_of read_e read_k read_of write_e write_on write_of device_of number_of named_of specification_of offers_of bytes_at fetch_status fetch_reply moves.get_of moves.put_of moves.go_of moves.advance_of command_of way_of area_plan transfer_plan block_plan name_of named_for call_plan plan_in plan_of loaded_of load_status then_of opened_of opening_of transfer_of work_of onward_of record_of got_character got_of sent_byte sent_record sent_next sent_of loaded bytes_of_all
+unfolding after feed fed_of good_field sense_of bad_status message_of errand_step plan_step move_by keys.keys keys_to.entry_of keys_to.key_answer keys_to.translate_of keyboard.obeyed keyboard.struck_by keyboard.get_of printer.put_of open_e open_of prepare_e prepare_of read_e read_k read_of write_e write_of device_of number_of named_of specification_of offers_of bytes_at fetch_status fetch_reply moves.get_of moves.put_of moves.go_of moves.advance_of command_of way_of area_plan transfer_plan block_plan name_of named_for call_plan plan_in plan_of loaded_of load_status then_of opened_of opening_of transfer_of work_of onward_of record_of got_character got_of sent_byte sent_record sent_next sent_of loaded bytes_of_all
 mixed_out_wrong r =
     let e : ◌≡◌ {A = List ℕ} (0x91 ∷ []) [] = r first (begun (crossed real)) given_across (ok_by given_across tt) port-1 in
     let z : ◌≡◌ {A = ℕ} 1 0 = ap length e in omega arith
 
 -- "Choosing the reply port when the request ends"
 pub wrong_host_wrong : GivenRule real (with_call real (wrong_host real)) → ⊥
-unfolding after feed fed_of good_field sense_of bad_status message_of errand_step plan_step move_by keys.keys keys_to.entry_of keys_to.key_answer keys_to.translate_of keyboard.obeyed keyboard.struck_of queue.codes_from queue.place_behind queue.cleared queue.press_of keyboard.get_of printer.put_of open_e open_on open_of prepare_e prepare_on prepare_of read_e read_k read_of write_e write_on write_of device_of number_of named_of specification_of offers_of bytes_at fetch_status fetch_reply moves.get_of moves.put_of moves.go_of moves.advance_of command_of way_of area_plan transfer_plan block_plan name_of named_for call_plan plan_in plan_of loaded_of load_status then_of opened_of opening_of transfer_of work_of onward_of record_of got_character got_of sent_byte sent_record sent_next sent_of loaded bytes_of_all
+unfolding after feed fed_of good_field sense_of bad_status message_of errand_step plan_step move_by keys.keys keys_to.entry_of keys_to.key_answer keys_to.translate_of keyboard.obeyed keyboard.struck_by keyboard.get_of printer.put_of open_e open_of prepare_e prepare_of read_e read_k read_of write_e write_of device_of number_of named_of specification_of offers_of bytes_at fetch_status fetch_reply moves.get_of moves.put_of moves.go_of moves.advance_of command_of way_of area_plan transfer_plan block_plan name_of named_for call_plan plan_in plan_of loaded_of load_status then_of opened_of opening_of transfer_of work_of onward_of record_of got_character got_of sent_byte sent_record sent_next sent_of loaded bytes_of_all
 wrong_host_wrong r =
     let e : ◌≡◌ {A = List ℕ} (0x91 ∷ 1 ∷ 0 ∷ 1 ∷ []) [] = r first (begun (wrong_host real)) given_across (ok_by given_across tt) port-1 in
     let z : ◌≡◌ {A = ℕ} 4 0 = ap length e in omega arith
@@ -295,7 +294,7 @@ abbrev both_print : List (CoreCall real)
 both_print = opens port-0 0x50 0 8 ++ opens port-1 0x50 0 8 ++ does port-0 prints_two 1 0 ++ says port-1 prints_two
 
 pub never_waiting_wrong : WaitingRule real (with_call real never_waits) → ⊥
-unfolding after feed fed_of good_field sense_of bad_status message_of errand_step plan_step move_by keys.keys keys_to.entry_of keys_to.key_answer keys_to.translate_of keyboard.obeyed keyboard.struck_of queue.codes_from queue.place_behind queue.cleared queue.press_of keyboard.get_of printer.put_of open_e open_on open_of prepare_e prepare_on prepare_of read_e read_k read_of write_e write_on write_of device_of number_of named_of specification_of offers_of bytes_at fetch_status fetch_reply moves.get_of moves.put_of moves.go_of moves.advance_of command_of way_of area_plan transfer_plan block_plan name_of named_for call_plan plan_in plan_of loaded_of load_status then_of opened_of opening_of transfer_of work_of onward_of record_of got_character got_of sent_byte sent_record sent_next sent_of loaded
+unfolding after feed fed_of good_field sense_of bad_status message_of errand_step plan_step move_by keys.keys keys_to.entry_of keys_to.key_answer keys_to.translate_of keyboard.obeyed keyboard.struck_by keyboard.get_of printer.put_of open_e open_of prepare_e prepare_of read_e read_k read_of write_e write_of device_of number_of named_of specification_of offers_of bytes_at fetch_status fetch_reply moves.get_of moves.put_of moves.go_of moves.advance_of command_of way_of area_plan transfer_plan block_plan name_of named_for call_plan plan_in plan_of loaded_of load_status then_of opened_of opening_of transfer_of work_of onward_of record_of got_character got_of sent_byte sent_record sent_next sent_of loaded
 never_waiting_wrong w =
     let e = (w.waits (led never_waits both_print) (leads never_waits both_print tt) port-1 print_two refl).1 refl in
     let z : ◌≡◌ {A = ℕ} 0 8 = ap (number real) e in omega arith
@@ -310,7 +309,7 @@ statuses (r ∷ []) = get_or r.rest 2 0
 statuses (r ∷ q ∷ rs) = statuses (q ∷ rs)
 
 pub pressing_through_wrong : SerialRule real (with_call real (presses_through real)) → ⊥
-unfolding after feed fed_of good_field sense_of bad_status message_of errand_step plan_step move_by keys.keys keys_to.entry_of keys_to.key_answer keys_to.translate_of keyboard.obeyed keyboard.struck_of queue.codes_from queue.place_behind queue.cleared queue.press_of keyboard.get_of printer.put_of open_e open_on open_of prepare_e prepare_on prepare_of read_e read_k read_of write_e write_on write_of device_of number_of named_of specification_of offers_of bytes_at fetch_status fetch_reply moves.get_of moves.put_of moves.go_of moves.advance_of command_of way_of area_plan transfer_plan block_plan name_of named_for call_plan plan_in plan_of loaded_of load_status then_of opened_of opening_of transfer_of work_of onward_of record_of got_character got_of sent_byte sent_record sent_next sent_of loaded serial alone_of alone_plan alone_errand alone_work alone_transfer alone_opening transferred getting putting get_one put_one get_characters put_characters get_record put_record drop_line
+unfolding after feed fed_of good_field sense_of bad_status message_of errand_step plan_step move_by keys.keys keys_to.entry_of keys_to.key_answer keys_to.translate_of keyboard.obeyed keyboard.struck_by keyboard.get_of printer.put_of open_e open_of prepare_e prepare_of read_e read_k read_of write_e write_of device_of number_of named_of specification_of offers_of bytes_at fetch_status fetch_reply moves.get_of moves.put_of moves.go_of moves.advance_of command_of way_of area_plan transfer_plan block_plan name_of named_for call_plan plan_in plan_of loaded_of load_status then_of opened_of opening_of transfer_of work_of onward_of record_of got_character got_of sent_byte sent_record sent_next sent_of loaded serial alone_of alone_plan alone_errand alone_work alone_transfer alone_opening transferred getting putting get_one put_one get_characters put_characters get_record put_record drop_line
 pressing_through_wrong r =
     let e = r first (begun (presses_through real)) reads_late (ok_by reads_late tt) (tt, tt) in
     let z : ◌≡◌ {A = ℕ} 0x01 0x88 = ap (λ (y : Whole real). statuses y.made.zeroth) e in omega arith
@@ -336,7 +335,7 @@ running_still : (v : View real) (g : Group) (k : Run) → phase_at real port-0 v
 running_still v g k e = subst (Runs real) (sym e) tt
 
 pub never_ending_wrong : Bound real (with_call real (moves_nothing real)) → ⊥
-unfolding after feed fed_of good_field sense_of bad_status message_of errand_step plan_step move_by keys.keys keys_to.entry_of keys_to.key_answer keys_to.translate_of keyboard.obeyed keyboard.struck_of queue.codes_from queue.place_behind queue.cleared queue.press_of keyboard.get_of printer.put_of open_e open_on open_of prepare_e prepare_on prepare_of read_e read_k read_of write_e write_on write_of device_of number_of named_of specification_of offers_of bytes_at fetch_status fetch_reply moves.get_of moves.put_of moves.go_of moves.advance_of command_of way_of area_plan transfer_plan block_plan name_of named_for call_plan plan_in plan_of loaded_of load_status then_of opened_of opening_of transfer_of work_of onward_of record_of got_character got_of sent_byte sent_record sent_next sent_of loaded
+unfolding after feed fed_of good_field sense_of bad_status message_of errand_step plan_step move_by keys.keys keys_to.entry_of keys_to.key_answer keys_to.translate_of keyboard.obeyed keyboard.struck_by keyboard.get_of printer.put_of open_e open_of prepare_e prepare_of read_e read_k read_of write_e write_of device_of number_of named_of specification_of offers_of bytes_at fetch_status fetch_reply moves.get_of moves.put_of moves.go_of moves.advance_of command_of way_of area_plan transfer_plan block_plan name_of named_for call_plan plan_in plan_of loaded_of load_status then_of opened_of opening_of transfer_of work_of onward_of record_of got_character got_of sent_byte sent_record sent_next sent_of loaded
 never_ending_wrong b =
     let f = moves_nothing real in
     let w = led f prints in

@@ -10,11 +10,10 @@ use lib.Dec.{eqb}
 use Rattle.base.specs.Choice.{choose}
 use Rattle.keys.specs.Table as keys
 use Rattle.keys.specs.Translation as keys_to
-use Rattle.keyboard.specs.Queue as queue
-use Rattle.keyboard.specs.Keyboard as keyboard
+use Rattle.keys.specs.Keyboard as keyboard
 use Rattle.printer.specs.Printer as printer
 use Rattle.cassette.specs.Cassette as cassette
-use Rattle.console.specs.Handlers.{open_e, open_on, open_of, prepare_e, prepare_on, prepare_of, read_e, read_k, read_of, write_e, write_on, write_of}
+use Rattle.console.specs.Handlers.{open_e, open_of, prepare_e, prepare_of, read_e, read_k, read_of, write_e, write_of}
 use Rattle.blocks.specs.Opening.{device_of, number_of, named_of, specification_of, offers_of}
 use Rattle.wire.specs.Messages.{good_field, sense_of, bad_status, message_of}
 use Rattle.replies.specs.Replies.{bytes_at, fetch_status, fetch_reply, call_reply}
@@ -75,7 +74,7 @@ abbrev tape_and_console : List (CoreCall real)
 tape_and_console = loads port-1 4 (0x45 ∷ 0x3A ∷ []) ++ says port-1 (calls 0 0x03 0 0 0x0D) ++ opens port-0 0x43 0 8 ++ does port-0 writes_two 1 0
 
 pub tape_lock_wrong : WaitingRule real (with_call real tape_lock) → ⊥
-unfolding after feed fed_of good_field sense_of bad_status message_of errand_step plan_step move_by keys.keys keys_to.entry_of keys_to.key_answer keys_to.translate_of keyboard.obeyed keyboard.struck_of queue.codes_from queue.place_behind queue.cleared queue.press_of keyboard.get_of printer.put_of open_e open_on open_of prepare_e prepare_on prepare_of read_e read_k read_of write_e write_on write_of device_of number_of named_of specification_of offers_of bytes_at fetch_status fetch_reply moves.get_of moves.put_of moves.go_of moves.advance_of command_of way_of area_plan transfer_plan block_plan name_of named_for call_plan plan_in plan_of loaded_of load_status then_of opened_of opening_of transfer_of work_of onward_of record_of got_character got_of sent_byte sent_record sent_next sent_of loaded cassette.tape_opened cassette.write_of cassette.taken_of cassette.close_of
+unfolding after feed fed_of good_field sense_of bad_status message_of errand_step plan_step move_by keys.keys keys_to.entry_of keys_to.key_answer keys_to.translate_of keyboard.obeyed keyboard.struck_by keyboard.get_of printer.put_of open_e open_of prepare_e prepare_of read_e read_k read_of write_e write_of device_of number_of named_of specification_of offers_of bytes_at fetch_status fetch_reply moves.get_of moves.put_of moves.go_of moves.advance_of command_of way_of area_plan transfer_plan block_plan name_of named_for call_plan plan_in plan_of loaded_of load_status then_of opened_of opening_of transfer_of work_of onward_of record_of got_character got_of sent_byte sent_record sent_next sent_of loaded cassette.tape_opened cassette.write_of cassette.taken_of cassette.close_of
 tape_lock_wrong w = true≢false (sym ((w.waits (led tape_lock tape_and_console) (leads tape_lock tape_and_console tt) port-1 opens_e refl).0 refl))
 
 -- "$81 .. without the group": an opening of C is refused while the other port still writes on the tape
@@ -105,7 +104,7 @@ abbrev both_tape : List (CoreCall real)
 both_tape = asks_tape port-1 ++ opens port-0 0x43 0 8 ++ does port-0 writes_two 1 0
 
 pub hasty_wrong : WaitingRule real (with_call real hasty) → ⊥
-unfolding after feed fed_of good_field sense_of bad_status message_of errand_step plan_step move_by keys.keys keys_to.entry_of keys_to.key_answer keys_to.translate_of keyboard.obeyed keyboard.struck_of queue.codes_from queue.place_behind queue.cleared queue.press_of keyboard.get_of printer.put_of open_e open_on open_of prepare_e prepare_on prepare_of read_e read_k read_of write_e write_on write_of device_of number_of named_of specification_of offers_of bytes_at fetch_status fetch_reply moves.get_of moves.put_of moves.go_of moves.advance_of command_of way_of area_plan transfer_plan block_plan name_of named_for call_plan plan_in plan_of loaded_of load_status then_of opened_of opening_of transfer_of work_of onward_of record_of got_character got_of sent_byte sent_record sent_next sent_of loaded cassette.tape_opened cassette.write_of cassette.taken_of cassette.close_of
+unfolding after feed fed_of good_field sense_of bad_status message_of errand_step plan_step move_by keys.keys keys_to.entry_of keys_to.key_answer keys_to.translate_of keyboard.obeyed keyboard.struck_by keyboard.get_of printer.put_of open_e open_of prepare_e prepare_of read_e read_k read_of write_e write_of device_of number_of named_of specification_of offers_of bytes_at fetch_status fetch_reply moves.get_of moves.put_of moves.go_of moves.advance_of command_of way_of area_plan transfer_plan block_plan name_of named_for call_plan plan_in plan_of loaded_of load_status then_of opened_of opening_of transfer_of work_of onward_of record_of got_character got_of sent_byte sent_record sent_next sent_of loaded cassette.tape_opened cassette.write_of cassette.taken_of cassette.close_of
 hasty_wrong w =
     let e = (w.waits (led hasty both_tape) (leads hasty both_tape tt) port-1 opens_tape refl).1 refl in
     let z : ◌≡◌ {A = ℕ} 0 8 = ap (number real) e in omega arith
@@ -132,7 +131,7 @@ abbrev second_opens : List (CoreCall real)
 second_opens = opens port-1 0x43 0 4 ++ asks_tape port-0
 
 pub own_only_wrong : AloneRule real (with_call real own_only) → ⊥
-unfolding after feed fed_of good_field sense_of bad_status message_of errand_step plan_step move_by keys.keys keys_to.entry_of keys_to.key_answer keys_to.translate_of keyboard.obeyed keyboard.struck_of queue.codes_from queue.place_behind queue.cleared queue.press_of keyboard.get_of printer.put_of open_e open_on open_of prepare_e prepare_on prepare_of read_e read_k read_of write_e write_on write_of device_of number_of named_of specification_of offers_of bytes_at fetch_status fetch_reply moves.get_of moves.put_of moves.go_of moves.advance_of command_of way_of area_plan transfer_plan block_plan name_of named_for call_plan plan_in plan_of loaded_of load_status then_of opened_of opening_of transfer_of work_of onward_of record_of got_character got_of sent_byte sent_record sent_next sent_of loaded ticked alone_of alone_plan alone_errand alone_work alone_transfer alone_opening transferred getting putting get_one put_one get_characters put_characters get_record put_record drop_line cassette.tape_opened cassette.write_of cassette.taken_of cassette.close_of
+unfolding after feed fed_of good_field sense_of bad_status message_of errand_step plan_step move_by keys.keys keys_to.entry_of keys_to.key_answer keys_to.translate_of keyboard.obeyed keyboard.struck_by keyboard.get_of printer.put_of open_e open_of prepare_e prepare_of read_e read_k read_of write_e write_of device_of number_of named_of specification_of offers_of bytes_at fetch_status fetch_reply moves.get_of moves.put_of moves.go_of moves.advance_of command_of way_of area_plan transfer_plan block_plan name_of named_for call_plan plan_in plan_of loaded_of load_status then_of opened_of opening_of transfer_of work_of onward_of record_of got_character got_of sent_byte sent_record sent_next sent_of loaded ticked alone_of alone_plan alone_errand alone_work alone_transfer alone_opening transferred getting putting get_one put_one get_characters put_characters get_record put_record drop_line cassette.tape_opened cassette.write_of cassette.taken_of cassette.close_of
 own_only_wrong a =
     let w = led own_only second_opens in
     let q = replied_stays own_at (λ r v. refl) (own_only (tick port-0) w).world (reply_by (call_reply 0x01 0 0)) refl most_moves in

@@ -19,5 +19,4 @@ read_spec =
     (λ c. search read_e_lem)  -- returns
     (λ c. search rules)  -- same-length-2
     (λ c. search read_s_lem)  -- returns_2
-    (λ c. search rules)  -- same-length-3
     (λ c. search read_k_lem))  -- returns_3

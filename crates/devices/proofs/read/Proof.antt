@@ -11,7 +11,9 @@ read_spec =
     (tie.spec
     (λ c κs. search rules)  -- owner-of-requires
     (λ c. search rules)  -- enum-known-owner
+    (λ c κs. search rules)  -- console-of-requires
     (λ c κs. search rules)  -- read-requires
+    (λ c κs. search rules)  -- set-console-requires
     (λ c. search rules)  -- enum-told
     (λ c. search rules)  -- enum-told-2
     (λ c κs. search rules)  -- read-requires-2

@@ -18,7 +18,11 @@ console_spec =
     (λ c κs. search rules)  -- cursor-requires
     (λ c. search rules)  -- shared-slice-read-read-column
     (λ c κs. search rules)  -- read-column-requires
+    (λ c. search rules)  -- shared-slice-read-if3
+    (λ c. search rules)  -- shared-slice-read-if4
     (λ c. search rules)  -- shared_slice_read_result
     (λ c. search calls)  -- returns
     (λ c. search calls)  -- returns_2
-    (λ c. search calls))  -- returns_3
+    (λ c. search calls)  -- returns_3
+    (λ c. search calls)  -- returns_4
+    (λ c. search calls))  -- returns_5

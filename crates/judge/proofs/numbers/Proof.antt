@@ -13,6 +13,6 @@ numbers_spec =
     (λ c. search rules)  -- part-console-start
     (λ c. search rules)  -- part-console-end
     (λ c κs. search rules)  -- console-requires
-    (λ c κs. search rules)  -- keyed-requires
+    (λ c κs. search rules)  -- others-requires
     (λ c. search numbers_others)  -- returns
     (λ c. search numbers_console))  -- returns_2

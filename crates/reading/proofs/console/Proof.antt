@@ -10,7 +10,6 @@ console_spec =
     tie.close
     (tie.spec
     (λ c. search rules)  -- shared-slice-read-t4
-    (λ c. search rules)  -- shared-slice-read-t5
     (λ c. search rules)  -- shared-slice-read-word
     (λ c. search rules)  -- shared-slice-read-word-2
     (λ c. search rules)  -- shared-slice-read-t4-2

@@ -26,6 +26,5 @@ console_spec =
     (λ c. simp length-set (omega arith))  -- slice-write-bytes-8
     (λ c. simp length-set (omega arith))  -- slice-write-bytes-9
     (λ c. simp length-set (omega arith))  -- slice-write-bytes-10
-    (λ c. simp length-set (omega arith))  -- slice-write-bytes-11
     (λ c. simp length-set)  -- same-length
     (λ c. search console_written))  -- returns

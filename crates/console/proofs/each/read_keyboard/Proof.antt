@@ -10,5 +10,4 @@ read_keyboard_spec =
     tie.close
     (tie.spec
     (λ c κs. search rules)  -- get-requires
-    (λ c. search rules)  -- same-length
     (λ c. search read_k_lem))  -- returns

@@ -9,9 +9,14 @@ pub store_key_spec : {M : Type 1} → statement M
 store_key_spec =
     tie.close
     (tie.spec
-    (λ c. search rules)  -- sub-press
-    (λ c. search rules)  -- part-press-start
-    (λ c. search rules)  -- part-press-end
+    (λ c. search rules)  -- sub-console-of
+    (λ c. search rules)  -- part-console-of-start
+    (λ c. search rules)  -- part-console-of-end
+    (λ c κs. search rules)  -- console-of-requires
     (λ c κs. search rules)  -- press-requires
+    (λ c. search rules)  -- sub-set-console
+    (λ c. search rules)  -- part-set-console-start
+    (λ c. search rules)  -- part-set-console-end
+    (λ c κs. search rules)  -- set-console-requires
     (λ c. search rules)  -- same-length
     (λ c. search key_law))  -- returns

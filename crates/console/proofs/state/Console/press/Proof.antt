@@ -10,5 +10,4 @@ press_spec =
     tie.close
     (tie.spec
     (λ c κs. search rules)  -- press-requires
-    (λ c. search rules)  -- same-length
     (λ c. search press_law))  -- returns

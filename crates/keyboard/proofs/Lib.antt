@@ -1,5 +1,0 @@
-pub mod Places
-pub mod Keeps
-pub mod Order
-pub mod Cases
-pub mod Decided

@@ -1,4 +1,0 @@
-pub mod Queue
-pub mod Keyboard
-pub mod Fit
-pub mod Order
