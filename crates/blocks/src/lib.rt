@@ -1,5 +1,6 @@
 // A port's own state by value: its eight control blocks and its phase. And what an OPEN reads before any device is asked: its
 // device specification, and whether the device offers its AUX1.
+#![tactic(auto)]
 ghost use Rattle.std.specs.Prelude.{◌≡◌, ◌+◌};
 ghost use Rattle.blocks.specs.Blocks.{closed_table, fresh_gather, fresh_port};
 ghost use Rattle.blocks.specs.Opening.{device_of, highest_of, colon_of, number_of, named_of, specification_of, reads, writes, offers_of};
@@ -7,7 +8,7 @@ ghost use Rattle.blocks.specs.Opening.{device_of, highest_of, colon_of, number_o
 // The bytes of a port's own area.
 pub const AREA: usize = 16384;
 
-#[derive(Drop)]
+#[derive(Clone, Copy)]
 pub enum Device {
     E,
     S,
@@ -17,7 +18,7 @@ pub enum Device {
     D,
 }
 
-#[derive(Drop)]
+#[derive(Clone, Copy)]
 pub enum BlockState {
     Closed,
     Open {
@@ -27,7 +28,7 @@ pub enum BlockState {
     },
 }
 
-#[derive(Drop)]
+#[derive(Clone, Copy)]
 pub struct ControlBlock {
     pub state: BlockState,
 }
@@ -40,13 +41,13 @@ impl ControlBlock {
 }
 
 // A port's control blocks, IOCBs 0 to 7.
-#[derive(Drop)]
+#[derive(Clone, Copy)]
 pub struct Table {
     pub blocks: [ControlBlock; 8],
 }
 
 // How much a transfer moves: one character by A (length 0), so many characters, or a record.
-#[derive(Drop)]
+#[derive(Clone, Copy)]
 pub enum Way {
     One,
     Characters,
@@ -54,14 +55,14 @@ pub enum Way {
 }
 
 // What a running request transfers, and in which direction.
-#[derive(Drop)]
+#[derive(Clone, Copy)]
 pub enum Kind {
     Get(Way),
     Put(Way),
 }
 
 // A message of which some bytes are taken; `taken` counts the header's three too.
-#[derive(Drop)]
+#[derive(Clone, Copy)]
 pub struct Gather {
     pub tag: u8,
     pub length: u16,
@@ -69,14 +70,14 @@ pub struct Gather {
 }
 
 // A ready message's header.
-#[derive(Drop)]
+#[derive(Clone, Copy)]
 pub struct Header {
     pub tag: u8,
     pub length: u16,
 }
 
 // A running request: characters still to go, the area's next address, and how many are stored or taken so far.
-#[derive(Drop)]
+#[derive(Clone, Copy)]
 pub struct Run {
     pub kind: Kind,
     pub device: Device,
@@ -88,13 +89,13 @@ pub struct Run {
 }
 
 // A reply: all its bytes, and how many are given.
-#[derive(Drop)]
+#[derive(Clone, Copy)]
 pub struct Reply {
     pub length: u16,
     pub given: u16,
 }
 
-#[derive(Drop)]
+#[derive(Clone, Copy)]
 pub enum Phase {
     Gathering(Gather),
     Ready(Header),
@@ -102,7 +103,7 @@ pub enum Phase {
     Replying(Reply),
 }
 
-#[derive(Drop)]
+#[derive(Clone, Copy)]
 pub struct Port {
     pub table: Table,
     pub phase: Phase,
@@ -145,14 +146,14 @@ impl Port {
 }
 
 // A device's letter.
-#[derive(Drop)]
+#[derive(Clone, Copy)]
 pub enum Letter {
     Unknown,
     Known(Device),
 }
 
 // A device specification: refused with its status, or a device and its number.
-#[derive(Drop)]
+#[derive(Clone, Copy)]
 pub enum Specification {
     Refused(u8),
     Names(Device, u8),

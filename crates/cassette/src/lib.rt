@@ -1,4 +1,5 @@
 // The cassette C: how the lent tape is open, the record and the place that hold or take the next character; OPEN, CLOSE, GET and PUT.
+#![tactic(auto)]
 ghost use Rattle.std.specs.Prelude.{◌≡◌, ◌<◌};
 ghost use Rattle.handler.specs.Answer.{answer};
 ghost use Rattle.records.specs.Records.{WholeTape, Reel};
@@ -13,7 +14,7 @@ pub const TAPE: usize = 33000;
 
 // How the tape is open: 0 closed, 1 reading, 2 writing, 3 with neither bit. The record that holds or takes the next character, and
 // the place in it or the number of pending characters.
-#[derive(Drop)]
+#[derive(Clone, Copy)]
 pub struct Cassette {
     pub mark: u8,
     pub record: u8,
@@ -21,7 +22,7 @@ pub struct Cassette {
 }
 
 // Where the next character stands, and what its record is.
-#[derive(Drop)]
+#[derive(Clone, Copy)]
 pub struct Stand {
     pub record: u8,
     pub place: u8,
@@ -29,21 +30,21 @@ pub struct Stand {
 }
 
 // What an OPEN answers, and the cassette as it leaves it.
-#[derive(Drop)]
+#[derive(Clone, Copy)]
 pub struct Opened {
     pub cassette: Cassette,
     pub done: Done,
 }
 
 // What a GET gives, and the cassette as it leaves it.
-#[derive(Drop)]
+#[derive(Clone, Copy)]
 pub struct Read {
     pub cassette: Cassette,
     pub got: Got,
 }
 
 // What a PUT answers, and the cassette as it leaves it.
-#[derive(Drop)]
+#[derive(Clone, Copy)]
 pub struct Written {
     pub cassette: Cassette,
     pub done: Done,

@@ -1,12 +1,13 @@
 // The screen's cells, a byte each: what each mode has, and the cells of a mode read, written, filled, reduced and scrolled. Cells
 // past the mode stay.
+#![tactic(auto)]
 pub mod part;
 
 ghost use Rattle.std.specs.Prelude.{◌≡◌, ◌%◌, ◌<◌, ◌≤◌};
 ghost use Rattle.cells.specs.Modes.{is_mode, shape_of, count_of};
 ghost use Rattle.cells.specs.Cells.{Colours, Whole, place_of, cell_of, with_cell, filled, reduced, scrolled, scrolled_by};
 
-#[derive(Drop)]
+#[derive(Clone, Copy)]
 pub struct Shape {
     pub columns: u16,
     pub rows: u16,

@@ -1,5 +1,6 @@
 // The sectors of a diskette that a file keeps: its chain is walked as far as nothing stops it. What is claimed is remembered in marks, a
 // byte for each of the sectors 0 to 719.
+#![tactic(auto)]
 ghost use Rattle.std.specs.Prelude.{◌≡◌, length, set};
 ghost use Rattle.base.specs.Choice.{pick};
 ghost use Rattle.chains.specs.Chains.{is_reserved, all_free, is_free};
@@ -11,7 +12,7 @@ use image::Sector;
 pub const MARKS: usize = 720;
 
 // A walk: the last sector that is kept, 0 where none is, and how many are.
-#[derive(Drop)]
+#[derive(Clone, Copy)]
 pub struct Walk {
     pub last: u16,
     pub count: u16,

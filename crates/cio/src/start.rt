@@ -16,7 +16,7 @@ use transfer::Next;
 use wire::Call;
 
 // The block of the CALL's IOCB after the start, and what becomes of the request.
-#[derive(Drop)]
+#[derive(Clone, Copy)]
 pub struct Begin {
     pub block: ControlBlock,
     pub next: Next,

@@ -1,10 +1,11 @@
 // A CALL's command byte, and the way in which a transfer moves its characters.
+#![tactic(auto)]
 ghost use Rattle.std.specs.Prelude.{◌≡◌};
 ghost use Rattle.commands.specs.Commands.{command_of, way_of, kind_of};
 
 use blocks::{Kind, Way};
 
-#[derive(Drop)]
+#[derive(Clone, Copy)]
 pub enum Command {
     Bad,
     Open,

@@ -6,7 +6,7 @@ use editor::{Editor, ReadColumn};
 use graphics::Graphics;
 use keys::keyboard::Keyboard;
 
-#[derive(Drop)]
+#[derive(Clone, Copy)]
 pub struct Console {
     pub mode: u8,
     pub row: u16,

@@ -2,7 +2,7 @@
 ghost use Rattle.std.specs.Prelude.{◌≡◌};
 ghost use Rattle.controls.specs.Decide.{act_of, plain_of};
 
-#[derive(Drop)]
+#[derive(Clone, Copy)]
 pub enum Act {
     Escape,
     Up,

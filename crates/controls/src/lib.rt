@@ -1,4 +1,5 @@
 // E's PUT: what a byte asks of the editor, a control code's act on the cursor and the cells or data, and doing it.
+#![tactic(auto)]
 pub mod decide;
 
 ghost use Rattle.std.specs.Prelude.{◌≡◌};
@@ -12,7 +13,7 @@ use editor::{Editor, ReadColumn};
 use handler::Done;
 
 // What a PUT says, and the editor after it.
-#[derive(Drop)]
+#[derive(Clone, Copy)]
 pub struct Written {
     pub editor: Editor,
     pub done: Done,

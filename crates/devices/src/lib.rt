@@ -1,6 +1,7 @@
 // The devices: the one crate that calls a handler. Each act of a handler is one function with one match; an arm reads and
 // writes its own group's numbers, which are a part of the lent state, and is lent its own group's buffer alone. An arm of the console
 // that changes nothing writes back what it read.
+#![tactic(auto)]
 pub mod fresh;
 pub mod numbers;
 
@@ -15,7 +16,7 @@ use console::Handler;
 use handler::{Asked, Done, Got};
 
 // The groups that requests share; a message may need none.
-#[derive(Drop)]
+#[derive(Clone, Copy)]
 pub enum Group {
     Nobody,
     Console,
@@ -25,7 +26,7 @@ pub enum Group {
 }
 
 // A device's group, and its handler there.
-#[derive(Drop)]
+#[derive(Clone, Copy)]
 pub enum Owner {
     Console(Handler),
     Printer,

@@ -1,4 +1,5 @@
 // E, the screen editor: OPEN, GET and the new row over mode 0's 24 rows of 40 cells. Margins 2 and 39; each row is one line.
+#![tactic(auto)]
 pub mod line;
 
 ghost use Rattle.std.specs.Prelude.{◌≡◌};
@@ -10,13 +11,13 @@ ghost use Rattle.editor.specs.Get.{get_of};
 use handler::Got;
 
 // The column that the next GET reads.
-#[derive(Drop)]
+#[derive(Clone, Copy)]
 pub enum ReadColumn {
     Dropped,
     At(u16),
 }
 
-#[derive(Drop)]
+#[derive(Clone, Copy)]
 pub struct Editor {
     pub row: u16,
     pub column: u16,
@@ -38,7 +39,7 @@ impl Editor {
 }
 
 // What a GET gives, and the editor after it.
-#[derive(Drop)]
+#[derive(Clone, Copy)]
 pub struct Read {
     pub editor: Editor,
     pub got: Got,

@@ -1,4 +1,5 @@
 // S, the graphics screen: OPEN, GET and PUT in modes 3 to 8. Every cell is read and written through `cells`.
+#![tactic(auto)]
 ghost use Rattle.std.specs.Prelude.{◌≡◌, ◌<◌};
 ghost use Rattle.handler.specs.Answer.{answer};
 ghost use Rattle.cells.specs.Cells.{Whole};
@@ -7,7 +8,7 @@ ghost use Rattle.graphics.specs.Picture.{picture, placed, Drawn, onward, cells_o
 use cells::Shape;
 use handler::{Done, Got};
 
-#[derive(Drop)]
+#[derive(Clone, Copy)]
 pub struct Graphics {
     pub row: u16,
     pub column: u16,
@@ -16,14 +17,14 @@ pub struct Graphics {
 }
 
 // What a GET gives, and the screen's state after it.
-#[derive(Drop)]
+#[derive(Clone, Copy)]
 pub struct Read {
     pub graphics: Graphics,
     pub got: Got,
 }
 
 // What an OPEN or a PUT says, and the screen's state after it.
-#[derive(Drop)]
+#[derive(Clone, Copy)]
 pub struct Written {
     pub graphics: Graphics,
     pub done: Done,

@@ -1,5 +1,6 @@
 // What CIO tells a device handler, and what the handler answers: for a character read, and for a character written or a device
 // opened.
+#![tactic(auto)]
 ghost use Rattle.std.specs.Prelude.{◌≡◌};
 ghost use Rattle.handler.specs.Acts.{asks_on};
 
@@ -7,7 +8,7 @@ use names::Name;
 
 // What an act of a handler may know: the port and the IOCB that it is for; of an opening also the device's number, AUX1, AUX2 and the
 // name behind the specification, which a device without names does not have. Of an act on an open block there is none of these four.
-#[derive(Drop)]
+#[derive(Clone, Copy)]
 pub struct Asked {
     pub port: u8,
     pub iocb: u8,
@@ -32,7 +33,7 @@ pub fn on_block(port: u8, iocb: u8) -> Asked
 }
 
 // A GET: the character; the last one, after which the next would be refused with end of file; or a refusal with its status from $80.
-#[derive(Drop)]
+#[derive(Clone, Copy)]
 pub enum Got {
     Character(u8),
     Last(u8),
@@ -40,7 +41,7 @@ pub enum Got {
 }
 
 // A PUT, an OPEN or another act: success, or a refusal with its status from $80.
-#[derive(Drop)]
+#[derive(Clone, Copy)]
 pub enum Done {
     Success,
     Refused(u8),

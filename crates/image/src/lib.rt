@@ -1,5 +1,6 @@
 // The lent images of four diskettes: their sectors and entries, the first entry that a name matches, and where a file's next character
 // stands. A unit is a drive counted from 0: D1 is 0.
+#![tactic(auto)]
 ghost use Rattle.std.specs.Prelude.{◌≡◌, ◌*◌, ◌+◌, ◌-◌, set};
 ghost use Rattle.image.specs.Image.{sector_place, sector_byte, entry_byte, flag_of, in_use, locked, count_of, first_of, matches_entry, match_from, sector_of, stand_of};
 
@@ -14,7 +15,7 @@ pub const IMAGES: usize = 368640;
 const DIRECTORY: usize = 46080;
 
 // Where a file's next character stands: at its end, before a bad sector, or at a place of a sector, so many sectors passed.
-#[derive(Drop)]
+#[derive(Clone, Copy)]
 pub enum Stand {
     End,
     Bad,
@@ -22,7 +23,7 @@ pub enum Stand {
 }
 
 // A sector of a file: bad, or with so many characters and its link.
-#[derive(Drop)]
+#[derive(Clone, Copy)]
 pub enum Sector {
     Wrong,
     Holds(u8, u16),

@@ -39,7 +39,7 @@ pub const STATE: usize = ROOMS + 2 * ROOM;
 pub const AREA: usize = blocks::AREA;
 
 // All of them at once.
-#[derive(Drop)]
+#[derive(Clone, Copy)]
 struct Places {
     phase: usize,
     block: usize,

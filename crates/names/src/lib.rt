@@ -1,11 +1,12 @@
 // File names: a name read from an area, the pattern of eleven bytes that it comes to, and whether an entry's name matches it.
+#![tactic(auto)]
 ghost use Rattle.std.specs.Prelude.{◌≡◌, ◌+◌, ◌-◌, ◌<◌, ◌≤◌, length, get_or, drop};
 ghost use Rattle.base.specs.Parts.{part};
 ghost use Rattle.names.specs.Names.{no_name, bad_name, may_stand, CutIn, cut_of, field_at, pattern_of, name_of, extended_by, named_in, places_match};
 
 // A pattern: eight bytes of the name and three of the extension, where every byte of the name was good. An enum that holds a name
 // cannot hold an array.
-#[derive(Drop)]
+#[derive(Clone, Copy)]
 pub struct Name {
     pub good: bool,
     pub n0: u8,
@@ -22,7 +23,7 @@ pub struct Name {
 }
 
 // Where a field ends, and by what: it is past the area's end, has a bad byte, or ends with a dot or with the name, at this place.
-#[derive(Drop)]
+#[derive(Clone, Copy)]
 pub enum Cut {
     Past,
     Bad,
@@ -31,7 +32,7 @@ pub enum Cut {
 }
 
 // A name in an area: past the area's end, or with its pattern.
-#[derive(Drop)]
+#[derive(Clone, Copy)]
 pub enum Named {
     Past,
     Found(Name),

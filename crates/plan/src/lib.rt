@@ -1,4 +1,5 @@
 // What the checks before the group come to: a status at once, or work on a device; the checks of a specification and of a buffer.
+#![tactic(auto)]
 ghost use Rattle.std.specs.Prelude.{◌≡◌};
 ghost use Rattle.blocks.specs.Opening.{specification_of};
 ghost use Rattle.plan.specs.Plan.{planned_of, name_of, has_names, named_for, named_plan, open_plan, area_plan, transfer_plan, group_needed};
@@ -9,7 +10,7 @@ use names::{Name, Named};
 use wire::Call;
 
 // What follows an opening: the block stays open, or GET STATUS or SPECIAL answers and it is closed again.
-#[derive(Drop)]
+#[derive(Clone, Copy)]
 pub enum After {
     Stay,
     Status,
@@ -17,7 +18,7 @@ pub enum After {
 }
 
 // What is done with the group held; of an opening also the device's number, and the name behind the colon.
-#[derive(Drop)]
+#[derive(Clone, Copy)]
 pub enum Work {
     Close,
     Status,
@@ -27,7 +28,7 @@ pub enum Work {
 }
 
 // A CALL's work on its device.
-#[derive(Drop)]
+#[derive(Clone, Copy)]
 pub struct Job {
     pub device: Device,
     pub work: Work,
@@ -35,7 +36,7 @@ pub struct Job {
 }
 
 // What needs no group: a CALL's status and A, LOAD, FETCH, or a bad message's status.
-#[derive(Drop)]
+#[derive(Clone, Copy)]
 pub enum Errand {
     Status(u8, u8),
     Load { address: u16, size: u16 },
@@ -43,7 +44,7 @@ pub enum Errand {
     Bad(u8),
 }
 
-#[derive(Drop)]
+#[derive(Clone, Copy)]
 pub enum Plan {
     Free(Errand),
     On(Job),

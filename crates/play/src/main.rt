@@ -1,5 +1,6 @@
 // Plays a call script from standard input on the stick, an op at a time: each is answered on standard output before the next is
 // read. It ends with the input, with an op cut by its end, or with a byte that is no op.
+#![tactic(auto)]
 use layout::places;
 use script::answers;
 use script::lengths::LentLengths;

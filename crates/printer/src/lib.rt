@@ -1,4 +1,5 @@
 // The printer P: how much of the lent paper is used, and PUT, which appends a byte to it.
+#![tactic(auto)]
 ghost use Rattle.std.specs.Prelude.{◌≡◌};
 ghost use Rattle.handler.specs.Answer.{answer};
 ghost use Rattle.printer.specs.Printer.{fresh_printer, printer_group, put_of};
@@ -8,13 +9,13 @@ use handler::Done;
 // The bytes of the lent paper.
 pub const PAPER: u16 = 4096;
 
-#[derive(Drop)]
+#[derive(Clone, Copy)]
 pub struct Printer {
     pub used: u16,
 }
 
 // What a PUT answers, and the printer as it leaves it.
-#[derive(Drop)]
+#[derive(Clone, Copy)]
 pub struct Printed {
     pub printer: Printer,
     pub done: Done,

@@ -1,4 +1,5 @@
 // Replies, made in a port's room: a CALL's, a status alone, and a FETCH's with its bytes. A reply stands in the room from 0 on.
+#![tactic(auto)]
 ghost use Rattle.std.specs.Prelude.{◌≡◌, ◌/◌, ◌%◌, [], ◌∷◌};
 ghost use Rattle.std.proofs.lemmas.List.Edits.{sets};
 ghost use Rattle.replies.specs.Replies.{call_reply, status_reply, bytes_at, fetch_reply, replied, replied_of};
@@ -28,7 +29,7 @@ pub fn copy_bytes(to: &mut [u8], place: u16, from: &[u8], start: u16, count: u16
     let end = at + count as usize;
     if last <= from.len() {
         if end <= to.len() {
-            bytes::copy(&from[first..last], &mut to[at..end]);
+            to[at..end].copy_from_slice(&from[first..last]);
             return;
         }
     }

@@ -1,7 +1,7 @@
 // How much of each buffer is lent: its first so many bytes, at most its whole.
 use crate::ops::Op;
 
-#[derive(Drop)]
+#[derive(Clone, Copy)]
 pub struct LentLengths {
     pub area: u32,
     pub screen: u32,

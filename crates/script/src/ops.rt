@@ -2,7 +2,7 @@
 use libc::STDIN_FILENO;
 
 // What the stick is asked: one of the five calls, or none.
-#[derive(Drop)]
+#[derive(Clone, Copy)]
 pub enum CallOp {
     Nothing,
     Fresh,
@@ -15,7 +15,7 @@ pub enum CallOp {
 // `Start` stands before a script: a fresh start for which nothing is written. `Ticks` has a port, how many ticks there are at most,
 // while the port runs on, and how many there were. `Write` has a buffer, a place in it, and how many bytes follow. `Doctor` has the
 // image that the doctor is to treat.
-#[derive(Drop)]
+#[derive(Clone, Copy)]
 pub enum Op {
     Start,
     End,

@@ -1,4 +1,5 @@
 // A running request's next character: what is sent, what becomes of a character got or sent, and the reply where it was the last.
+#![tactic(auto)]
 ghost use Rattle.std.specs.Prelude.{◌≡◌};
 ghost use Rattle.transfer.specs.Spans.{Further, Spans};
 ghost use Rattle.transfer.specs.Transfer.{next_of, progress, further_of, onward_of, ended_of, record_of, got_character, got_of, sent_byte, sent_record, sent_next, sent_of, in_port, out_of, landed};
@@ -7,7 +8,7 @@ use blocks::{Phase, Run, Way};
 use handler::{Done, Got};
 
 // The request goes on, or ends with status, count and A.
-#[derive(Drop)]
+#[derive(Clone, Copy)]
 pub enum Next {
     On(Run),
     Off(u8, u16, u8),
@@ -15,7 +16,7 @@ pub enum Next {
 
 // A running request after a character: it goes on with so much left, at this place, with this count and A, or ends with status, count
 // and A. Its kind, device and IOCB stay.
-#[derive(Drop)]
+#[derive(Clone, Copy)]
 pub enum Carried {
     On(u16, u16, u16, u8),
     Off(u8, u16, u8),

@@ -1,5 +1,6 @@
 // A port's wire: gathering one message byte by byte, what a ready message says, and giving a reply. The port lends its room: while
 // it gathers, the room keeps the value's bytes from 0 on, and while it replies, the reply's.
+#![tactic(auto)]
 ghost use Rattle.std.specs.Prelude.{true, ◌≡◌};
 ghost use Rattle.wire.specs.Messages.{word_of, good_field, gathered, after_of, kept_of, take_of, goes_on, word_at, call_of, bad_status, message_of};
 ghost use Rattle.wire.specs.Fits.{gather_fits, reply_fits};
@@ -11,7 +12,7 @@ use blocks::{Gather, Header, Phase, Reply};
 pub const ROOM: usize = 260;
 
 // A CALL's request.
-#[derive(Drop)]
+#[derive(Clone, Copy)]
 pub struct Call {
     pub iocb: u8,
     pub command: u8,
@@ -23,7 +24,7 @@ pub struct Call {
 }
 
 // What a message says; of LOAD's data the size, its bytes stay in the room from 2 on. A bad one has its reply's status.
-#[derive(Drop)]
+#[derive(Clone, Copy)]
 pub enum Message {
     Call(Call),
     Load { address: u16, size: u16 },
@@ -32,7 +33,7 @@ pub enum Message {
 }
 
 // A reply's byte, and the port's phase once it is given.
-#[derive(Drop)]
+#[derive(Clone, Copy)]
 pub struct Given {
     pub byte: u8,
     pub phase: Phase,
