@@ -5,7 +5,7 @@ use mathlib.Core.Bool.{Bool, true, false}
 use Prim.Native.Nat.{ℕ, ◌<◌, ◌≤◌}
 use borrow.Author.Tests.{eqb-true, eqb-false, ltb-true, ltb-false, leb-true, leb-false}
 use lib.Dec.{T, eqb, ltb, leb}
-use Rattle.base.specs.Choice.{pick, choose, and, or}
+use Rattle.base.specs.Choice.{pick, choose, and}
 
 module _ {A : Type 0} (P : A → Type 0) where
   pub pick_go : (t : Bool) (a b : A) → (t ≡ true → P a) → (t ≡ false → P b) → P (pick t a b)

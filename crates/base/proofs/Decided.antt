@@ -1,9 +1,8 @@
 -- Each promise of this crate decides, and allows an outcome.
 -- Assumes nothing.
-use mathlib.Core.Path.{◌≡◌, refl, sym, ◌∙◌, ap}
+use mathlib.Core.Path.{refl, sym, ◌∙◌, ap}
 use mathlib.Core.List.{List}
 use Prim.Native.Nat.{ℕ}
-use lib.ListN.{get_or, set}
 use Rattle.base.specs.Decides.{Decides, Allows}
 use Rattle.base.proofs.byte_at.Kinds as byte_at_kinds
 use Rattle.base.proofs.byte_at.Reads as byte_at_reads

@@ -1,6 +1,7 @@
 // What several crates share: a byte of a lent buffer, read and written at any place; and, in specs/ and proofs/, the small
 // definitions and laws that would otherwise be said again in each.
 #![tactic(auto)]
+
 ghost use Rattle.std.specs.Prelude.{◌≡◌, get_or, set};
 
 // The byte at a place of a lent buffer, and 0 past its end.

@@ -1,19 +1,18 @@
 -- What holds of every shape of the modes' table, and where a cell of a shape lies.
 -- Assumes nothing.
-use mathlib.Core.Path.{◌≡◌, ◌∙◌, refl, sym, ap, subst}
-use mathlib.Core.Bool.{Bool, true, false}
+use mathlib.Core.Path.{◌≡◌, ◌∙◌, sym, subst}
+use mathlib.Core.Bool.{Bool, false}
 use borrow.Author.Tests.{lt-leb, ne_eqb}
 use Rattle.base.specs.Choice.{within}
 use Rattle.base.proofs.Choices.{by_lt, and_false}
-use Rattle.base.proofs.Lists.{default_any}
-use mathlib.Core.List.{List, [], ◌∷◌}
-use Prim.Native.Nat.{ℕ, zero, suc, ◌+◌, ◌*◌, ◌%◌, ◌<◌, ◌≤◌, ◌^◌}
+use mathlib.Core.List.{List}
+use Prim.Native.Nat.{ℕ, ◌+◌, ◌*◌, ◌%◌, ◌<◌, ◌≤◌}
 use native.Mathlib.Nat.{mul_comm, mul-le-mul, mul-le-mul_right, suc-mul, mod-lt, le_of_lt}
 use native.Mathlib.Omega.{arith}
 use mir.Syntax.{w8, w64}
 use mir.Val.{Fits}
 use lib.Dec.{T, leb, ltb, leb→le, ltb→lt}
-use lib.ListN.{length, get_or, set, get_or-eq_default}
+use lib.ListN.{get_or, set, get_or-eq_default}
 use Rattle.base.proofs.Table.{both, both_left, both_right, at}
 use Rattle.cells.specs.Modes.{shaped, modes, row_of, shape_of, count_of}
 use Rattle.cells.specs.Cells.{Colours, place_of, cell_of, with_cell}

@@ -1,6 +1,7 @@
 // The screen's cells, a byte each: what each mode has, and the cells of a mode read, written, filled, reduced and scrolled. Cells
 // past the mode stay.
 #![tactic(auto)]
+
 pub mod part;
 
 ghost use Rattle.std.specs.Prelude.{◌≡◌, ◌%◌, ◌<◌, ◌≤◌};

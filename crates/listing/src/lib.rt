@@ -1,5 +1,6 @@
 // A diskette's directory: the records that it is read as, and what a read at a directory block's place gives.
 #![tactic(auto)]
+
 ghost use Rattle.std.specs.Prelude.{◌≡◌, [], ◌∷◌, ◌+◌, ◌*◌, ◌<◌};
 ghost use Rattle.std.proofs.lemmas.List.Edits.{sets};
 ghost use Rattle.handler.specs.Answer.{answer};

@@ -12,14 +12,10 @@ use Rattle.replies.proofs.Keeps.{bytes_part}
 
 -- a part copied at once
 pub copy_part : (to from part : List ℕ) (at first n : ℕ) → first + n ≤ length from → at + n ≤ length to
-    → part ≡ take (length (take (first + n - first) (drop first from))) (take (first + n - first) (drop first from)) ++ drop (length (take (first + n - first) (drop first from))) (take (at + n - at) (drop at to))
+    → part ≡ take (first + n - first) (drop first from)
     → take at to ++ (part ++ drop (at + n - at) (drop at to)) ≡ sets to at (bytes_at from first n)
 copy_part to from part at first n h k e =
     let src = take (first + n - first) (drop first from) in
-    let dst = take (at + n - at) (drop at to) in
     let l : length src ≡ n = ap length (lent_part first n from) ∙ part_length first n from h in
-    let m : length dst ≡ n = ap length (lent_part at n to) ∙ part_length at n to k in
-    let past : length dst ≤ length src = omega arith in
-    let is : part ≡ src = e ∙ rw (take_all (length src) src (omega arith), drop_of_length-le dst past, append-nil src) in
-    lent_back at n part to k (ap length is ∙ l ∙ sym m)
-    ∙ ap (sets to at) (is ∙ lent_part first n from ∙ sym (bytes_part from first n h))
+    let m : length (take (at + n - at) (drop at to)) ≡ n = ap length (lent_part at n to) ∙ part_length at n to k in
+    lent_back at n part to k (ap length e ∙ l ∙ sym m) ∙ ap (sets to at) (e ∙ lent_part first n from ∙ sym (bytes_part from first n h))

@@ -16,7 +16,7 @@ use Rattle.serial.proofs.Bytes.{spelled_add, bytes_add}
 
 module _ (M : Machine) (L : Laws M) where
   open M use {Byte, Local, Gather, Message, feed, Group, Devs, Dev, put, Run, fuel, OkByte, OkRun}
-  open L use {get_put, clash_sym, get_apart, begun, more_is, Full-is}
+  open L use {get_put, clash_sym, get_apart, begun, more_is, full_is}
 
   pub record PortInv (ph : Phase M) (l : Local) (d : Devs) (u : PortSeen M) (ms : List Message) : Type 0 where
     pub pend : Pending M L ph l d
@@ -67,7 +67,7 @@ module _ (M : Machine) (L : Laws M) where
   -- a byte taken
   fed_still : (x : Gather) (b : Byte) (f : Fed Gather Message) (bs : List Byte) → OkByte b → feed x b ≡ f → Behind M (gathering x) bs → Behind M (fed_phase M f) (bs ++ (b ∷ []))
   fed_still x b (more y) bs ok e h = more_is bs x y b ok h e
-  fed_still x b (full m) bs ok e h = Full-is bs x m b ok h e
+  fed_still x b (full m) bs ok e h = full_is bs x m b ok h e
 
   fed_left : (f : Fed Gather Message) → left M (fed_phase M f) ≡ []
   fed_left (more y) = refl

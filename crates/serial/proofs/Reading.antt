@@ -11,7 +11,7 @@ use Rattle.serial.proofs.Bytes.{spelled_add}
 
 module _ (M : Machine) (L : Laws M) where
   open M use {Byte, Gather, Message, none_yet, feed, Gathered, Spells}
-  open L use {begun, more_is, Full-is, not_whole, decides, prefix_free}
+  open L use {begun, more_is, full_is, not_whole, decides, prefix_free}
 
   -- two fronts of the same bytes: one begins the other
   abbrev Begins : List Byte → List Byte → List Byte → List Byte → Type 0
@@ -78,7 +78,7 @@ module _ (M : Machine) (L : Laws M) where
           let q : ((front ++ (c ++ (b ∷ []))) ++ []) ++ bs ≡ (front ++ c) ++ (b ∷ bs) =
           ap (λ z. z ++ bs) (append-nil (front ++ (c ++ (b ∷ []))) ∙ sym (append_assoc front c (b ∷ []))) ∙ append_assoc (front ++ c) (b ∷ []) bs in
           subst (λ z. (ns : List Message) × (rest : List Byte) × Reads M ns rest z) q
-          (again (ms ++ (m ∷ [])) (front ++ (c ++ (b ∷ []))) [] none_yet (spelled_add M ms front (c ++ (b ∷ [])) m s (Full-is c x m b ok.0 h e)) begun)
+          (again (ms ++ (m ∷ [])) (front ++ (c ++ (b ∷ []))) [] none_yet (spelled_add M ms front (c ++ (b ∷ [])) m s (full_is c x m b ok.0 h e)) begun)
 
   nothing_spelled : Spelled M [] []
   unfolding Spelled

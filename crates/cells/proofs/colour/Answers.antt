@@ -1,7 +1,6 @@
 -- `colour` meets its contract, by `colour_is` and `colour_byte`.
 -- Assumes nothing.
 use Rattle.cells.proofs.Shapes.{colour_is, colour_byte}
-use borrow.Author.Rules.{rules}
 use Rattle.cells.proofs.colour.Goals as goal
 
 pub returns-then-colours-eq2 : goal.returns-then-colours-eq2

@@ -1,7 +1,6 @@
 -- `count` meets its contract, by `count_bound` and `count_of_lem`.
 -- Assumes nothing.
 use Rattle.cells.proofs.Shapes.{count_bound, count_of_lem}
-use borrow.Author.Rules.{rules}
 use Rattle.cells.proofs.count.Goals as goal
 
 pub overflow_mul-result : goal.overflow_mul-result

@@ -1,7 +1,6 @@
 -- `fill` meets its contract, by `count_in_lem`, `part_count` and `fill_law`.
 -- Assumes nothing.
 use Rattle.cells.proofs.Parts.{count_in_lem, part_count, fill_law}
-use borrow.Author.Rules.{rules}
 use Rattle.cells.proofs.fill.Goals as goal
 
 pub slice_bounds-paint-end : goal.slice_bounds-paint-end

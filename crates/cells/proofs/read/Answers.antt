@@ -1,7 +1,6 @@
 -- `read` meets its contract, by `read_law`.
 -- Assumes nothing.
 use Rattle.cells.proofs.Shapes.{read_law}
-use borrow.Author.Rules.{rules}
 use Rattle.cells.proofs.read.Goals as goal
 
 pub returns : goal.returns

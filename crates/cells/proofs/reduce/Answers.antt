@@ -2,7 +2,6 @@
 -- Assumes nothing.
 use Rattle.cells.proofs.Shapes.{shape_colours}
 use Rattle.cells.proofs.Parts.{count_in_lem, part_count, reduce_law}
-use borrow.Author.Rules.{rules}
 use Rattle.cells.proofs.reduce.Goals as goal
 
 pub slice_bounds-reduce_all-end : goal.slice_bounds-reduce_all-end

@@ -1,7 +1,6 @@
 -- `scroll` meets its contract, by `scroll_law`.
 -- Assumes nothing.
 use Rattle.cells.proofs.Scrolls.{scroll_law}
-use borrow.Author.Rules.{rules}
 use Rattle.cells.proofs.scroll.Goals as goal
 
 pub returns : goal.returns

@@ -2,7 +2,6 @@
 -- Assumes nothing.
 use native.Mathlib.Omega.{arith}
 use Rattle.cells.proofs.Parts.{rows_part, scroll_by_law}
-use borrow.Author.Rules.{rules}
 use Rattle.cells.proofs.scroll_by.Goals as goal
 
 pub slice_bounds-shift-end-2 : goal.slice_bounds-shift-end-2

@@ -2,7 +2,6 @@
 -- Assumes nothing.
 use Rattle.cells.specs.Modes.{modes, row_of, shape_of}
 use Rattle.cells.proofs.Shapes.{shape_by, shape_none}
-use borrow.Author.Rules.{rules}
 use Rattle.cells.proofs.shape_of.Goals as goal
 
 pub returns-then-mode-eq0 : goal.returns-then-mode-eq0

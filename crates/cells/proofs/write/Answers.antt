@@ -1,7 +1,6 @@
 -- `write` meets its contract, by `write_law`.
 -- Assumes nothing.
 use Rattle.cells.proofs.Shapes.{write_law}
-use borrow.Author.Rules.{rules}
 use Rattle.cells.proofs.write.Goals as goal
 
 pub returns : goal.returns

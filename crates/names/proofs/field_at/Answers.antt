@@ -1,6 +1,6 @@
 -- `field_at` meets its contract, by `at_first`, `at_turn`, `at_past`, `at_star` and `at_byte`.
 -- Assumes nothing.
-use Rattle.names.proofs.Laws.{Left, at_first, at_turn, at_past, at_star, at_byte}
+use Rattle.names.proofs.Laws.{at_first, at_turn, at_past, at_star, at_byte}
 use borrow.Author.Rules.{rules}
 use Rattle.names.proofs.field_at.Goals as goal
 

@@ -1,7 +1,6 @@
 -- `field_at` meets its contract, by `at_first`, `at_turn`, `at_past`, `at_star` and `at_byte`.
 -- Assumes nothing.
-use Rattle.names.proofs.Laws.{Left, at_first, at_turn, at_past, at_star, at_byte}
-use borrow.Author.Rules.{rules}
+use Rattle.names.proofs.Laws.{Left}
 use Rattle.names.proofs.field_at.Given as goal
 
 abbrev pub invariant-loop-left : goal.invariant-loop-left

@@ -1,9 +1,6 @@
 -- `field_end` meets its contract, by `end_holds`, `end_turn`, `eol_found`, `blank_found`, `dot_found`, `bad_found` and `past_found`.
 -- Assumes nothing.
-use Prim.Native.Nat.{◌-◌}
-use lib.ListN.{length}
-use Rattle.names.proofs.Laws.{Begun, end_holds, end_turn, eol_found, blank_found, dot_found, bad_found, past_found}
-use borrow.Author.Rules.{rules}
+use Rattle.names.proofs.Laws.{end_holds, end_turn, eol_found, blank_found, dot_found, bad_found, past_found}
 use Rattle.names.proofs.field_end.Goals as goal
 
 pub loop-i-init : goal.loop-i-init

@@ -2,8 +2,7 @@
 -- Assumes nothing.
 use Prim.Native.Nat.{◌-◌}
 use lib.ListN.{length}
-use Rattle.names.proofs.Laws.{Begun, end_holds, end_turn, eol_found, blank_found, dot_found, bad_found, past_found}
-use borrow.Author.Rules.{rules}
+use Rattle.names.proofs.Laws.{Begun}
 use Rattle.names.proofs.field_end.Given as goal
 
 abbrev pub invariant-loop-i : goal.invariant-loop-i

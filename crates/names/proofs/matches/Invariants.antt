@@ -1,8 +1,7 @@
 -- `matches` meets its contract, by `match_holds`, `match_any`, `match_itself`, `match_fails` and `match_last`.
 -- Assumes nothing.
 use Prim.Native.Nat.{◌-◌, ◌≤◌}
-use Rattle.names.proofs.Laws.{Rest, match_holds, match_any, match_itself, match_fails, match_last}
-use borrow.Author.Rules.{rules}
+use Rattle.names.proofs.Laws.{Rest}
 use Rattle.names.proofs.matches.Given as goal
 
 abbrev pub invariant-loop-i : goal.invariant-loop-i

@@ -1,7 +1,6 @@
 -- `name_at` meets its contract, by `named_past`, `named_bad`, `named_dot` and `named_end`.
 -- Assumes nothing.
 use Rattle.names.proofs.Laws.{inside_end, inside_dot, named_past, named_bad, named_dot, named_end}
-use borrow.Author.Rules.{rules}
 use Rattle.names.proofs.name_at.Goals as goal
 
 pub extended-requires : goal.extended-requires

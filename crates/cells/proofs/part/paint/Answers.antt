@@ -1,9 +1,6 @@
 -- `paint` meets its contract, by `paint_step` and `painted`.
 -- Assumes nothing.
-use Prim.Native.Nat.{◌≤◌, ◌-◌}
-use mathlib.Core.Path.{◌≡◌, refl}
-use mathlib.Core.List.{◌++◌}
-use lib.ListN.{length, drop, replicate}
+use mathlib.Core.Path.{refl}
 use Rattle.cells.proofs.Parts.{paint_step, painted}
 use borrow.Author.Rules.{rules}
 use Rattle.cells.proofs.part.paint.Goals as goal

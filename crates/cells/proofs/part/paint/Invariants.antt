@@ -1,11 +1,9 @@
 -- `paint` meets its contract, by `paint_step` and `painted`.
 -- Assumes nothing.
 use Prim.Native.Nat.{◌≤◌, ◌-◌}
-use mathlib.Core.Path.{◌≡◌, refl}
+use mathlib.Core.Path.{◌≡◌}
 use mathlib.Core.List.{◌++◌}
 use lib.ListN.{length, drop, replicate}
-use Rattle.cells.proofs.Parts.{paint_step, painted}
-use borrow.Author.Rules.{rules}
 use Rattle.cells.proofs.part.paint.Given as goal
 
 abbrev pub invariant-loop-i : goal.invariant-loop-i

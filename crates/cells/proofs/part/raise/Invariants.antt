@@ -1,11 +1,9 @@
 -- `raise` meets its contract, by `raise_step`, `raised_all` and `raised_end`.
 -- Assumes nothing.
-use Prim.Native.Nat.{◌≤◌, ◌-◌, ◌+◌}
-use mathlib.Core.Path.{◌≡◌, refl}
+use Prim.Native.Nat.{◌≤◌, ◌-◌}
+use mathlib.Core.Path.{◌≡◌}
 use mathlib.Core.List.{◌++◌}
 use lib.ListN.{length, take, drop}
-use Rattle.cells.proofs.Parts.{raise_step, raised_all, raised_end}
-use borrow.Author.Rules.{rules}
 use Rattle.cells.proofs.part.raise.Given as goal
 
 abbrev pub invariant-loop-i : goal.invariant-loop-i

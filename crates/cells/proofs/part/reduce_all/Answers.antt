@@ -1,11 +1,7 @@
 -- `reduce_all` meets its contract, by `cell_byte`, `reduce_step` and `reduced_all_lem`.
 -- Assumes nothing.
-use Prim.Native.Nat.{◌≤◌, ◌-◌}
-use mathlib.Core.Path.{◌≡◌, refl}
-use mathlib.Core.List.{◌++◌}
+use mathlib.Core.Path.{refl}
 use native.Mathlib.Omega.{arith}
-use lib.ListN.{length, take, drop}
-use Rattle.cells.specs.Cells.{reduced_all}
 use Rattle.cells.proofs.Shapes.{cell_byte}
 use Rattle.cells.proofs.Parts.{reduce_step, reduced_all_lem}
 use borrow.Author.Rules.{rules}

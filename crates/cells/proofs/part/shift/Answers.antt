@@ -1,7 +1,6 @@
 -- `shift` meets its contract, by `shift_law`.
 -- Assumes nothing.
 use Rattle.cells.proofs.Parts.{shift_law}
-use borrow.Author.Rules.{rules}
 use Rattle.cells.proofs.part.shift.Goals as goal
 
 pub returns : goal.returns

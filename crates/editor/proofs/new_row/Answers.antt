@@ -1,0 +1,11 @@
+-- `new_row` meets its contract, by `new_row_last` and `new_row_next`.
+-- Assumes nothing.
+use Rattle.editor.proofs.Rows.{new_row_last, new_row_next}
+use borrow.Author.Rules.{rules}
+use Rattle.editor.proofs.new_row.Goals as goal
+
+pub returns-then-row-ge23 : goal.returns-then-row-ge23
+returns-then-row-ge23 c = search new_row_last
+
+pub returns : goal.returns
+returns c = search new_row_next

@@ -1,0 +1,15 @@
+-- `get` meets its contract, by `shape_colours`, `get_cell` and `get_past`.
+-- Assumes nothing.
+use Rattle.cells.proofs.Shapes.{shape_colours}
+use Rattle.graphics.proofs.Acts.{get_cell, get_past}
+use borrow.Author.Rules.{rules}
+use Rattle.graphics.proofs.get.Goals as goal
+
+pub read-cell-requires : goal.read-cell-requires
+read-cell-requires c = search shape_colours
+
+pub returns-then-row-shape : goal.returns-then-row-shape
+returns-then-row-shape c = search get_cell
+
+pub returns : goal.returns
+returns c = search get_past
