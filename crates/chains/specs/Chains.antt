@@ -2,7 +2,7 @@
 -- 368), already claimed or bad by Ask 12": the sectors that each file of an image keeps, and those that are free then. An image alone is
 -- that of unit 0.
 -- Assumes nothing.
-use Rattle.std.specs.Prelude.{Bool, true, false, not, List, [], ◌∷◌, ◌++◌, ℕ, zero, suc, ◌+◌, eqb}
+use Rattle.std.specs.Prelude.{Bool, false, not, List, [], ◌∷◌, ◌++◌, ℕ, zero, suc, ◌+◌, eqb}
 use Rattle.base.specs.Choice.{choose, or, within}
 use Rattle.image.specs.Image.{flag_of, in_use, first_of, next_of, bad_sector}
 

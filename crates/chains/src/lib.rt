@@ -1,6 +1,7 @@
 // The sectors of a diskette that a file keeps: its chain is walked as far as nothing stops it. What is claimed is remembered in marks, a
 // byte for each of the sectors 0 to 719.
 #![tactic(auto)]
+
 ghost use Rattle.std.specs.Prelude.{◌≡◌, length, set};
 ghost use Rattle.base.specs.Choice.{pick};
 ghost use Rattle.chains.specs.Chains.{is_reserved, all_free, is_free};

@@ -1,6 +1,7 @@
 // A list of changes of a diskette's image, five bytes each: sector (2), place, old, new. A change is noted in it if it is one, and the
 // image becomes what the list says.
 #![tactic(auto)]
+
 ghost use Rattle.std.specs.Prelude.{◌≡◌, ◌∷◌, [], ◌*◌, ◌+◌, ◌<◌, get_or, set};
 ghost use Rattle.std.proofs.lemmas.List.Edits.{sets};
 ghost use Rattle.image.specs.Image.{sector_place};

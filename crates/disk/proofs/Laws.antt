@@ -17,7 +17,6 @@ use Rattle.names.specs.declared.Name.{Name}
 use Rattle.handler.specs.Answer.{Answer, answer}
 use Rattle.handler.specs.declared.Asked.{Asked}
 use Rattle.handler.specs.declared.Got.{Got}
-use Rattle.handler.specs.declared.Got.TheVariants as got
 use Rattle.handler.specs.declared.Done.{Done}
 use Rattle.handler.specs.declared.Done.TheVariants.{Success, Refused}
 use Rattle.image.specs.Image.{flag_of, in_use, locked, first_of, match_from}

@@ -1,7 +1,7 @@
 -- An opening answers and leaves what the image's bytes say.
 -- Assumes nothing.
 use mathlib.Core.Path.{◌≡◌, ◌∙◌, refl, sym, subst}
-use mathlib.Core.Bool.{true, false}
+use mathlib.Core.Bool.{true}
 use mathlib.Core.List.{List}
 use Prim.Native.Nat.{ℕ, ◌-◌, ◌<◌, ◌≤◌}
 use native.Mathlib.Omega.{arith}
@@ -14,7 +14,7 @@ use Rattle.handler.specs.declared.Done.TheVariants.{Success, Refused}
 use Rattle.image.specs.Image.{first_of, match_from}
 use Rattle.image.specs.Chain.{FirstMatch}
 use Rattle.image.proofs.Standing.{match_low}
-use Rattle.image.proofs.Chain.{first_is, first_rule}
+use Rattle.image.proofs.Chain.{first_rule}
 use Rattle.disk.specs.Disk.{file_place, directory_place, place_opened}
 use Rattle.disk.specs.Opens.{OpensPlace, named_badly, lists, none_there, finds, OpenRule}
 use Rattle.disk.proofs.Laws.{open_found, open_none, open_directory_is, open_file_is, open_bad}

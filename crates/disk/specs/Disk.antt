@@ -2,7 +2,7 @@
 -- Assumes nothing.
 use Rattle.std.specs.Prelude.{ℕ, ◌+◌, ◌*◌, ◌-◌, ◌/◌, ◌%◌, List, [], ◌∷◌, eqb, ltb, replicate}
 use Rattle.std.proofs.lemmas.List.Edits.{sets}
-use Rattle.base.specs.Choice.{pick, choose, and}
+use Rattle.base.specs.Choice.{pick, choose}
 use Rattle.base.specs.Parts.{part}
 use Rattle.names.specs.declared.Name.{Name}
 use Rattle.names.specs.Names.{pattern_of}

@@ -1,6 +1,6 @@
 -- Document 02, Ask 12: which places of open blocks are not damaged.
 -- Assumes nothing.
-use Rattle.std.specs.Prelude.{◌≡◌, Bool, not, List, ℕ, ◌-◌, eqb, leb, ltb, length, get_or}
+use Rattle.std.specs.Prelude.{◌≡◌, Bool, List, ℕ, ◌-◌, eqb, leb, ltb, length, get_or}
 use Rattle.base.specs.Choice.{pick, and}
 use Rattle.image.specs.Image.{images_length}
 use Rattle.image.specs.Place.{unit_of, entry_of, place_of, passed_in}

@@ -1,6 +1,6 @@
 -- Document 02, Ask 12: what a read of a diskette gives, said of the image's bytes and not of each act.
 -- Assumes nothing.
-use Rattle.std.specs.Prelude.{◌≡◌, List, [], ◌∷◌, ◌++◌, ℕ, zero, suc, ◌+◌, ◌-◌, eqb, length, replicate}
+use Rattle.std.specs.Prelude.{◌≡◌, List, [], ◌∷◌, ◌++◌, ℕ, zero, suc, ◌+◌, eqb, length, replicate}
 use Rattle.base.specs.Choice.{choose}
 use Rattle.names.specs.declared.Name.{Name}
 use Rattle.handler.specs.Answer.{Answer, answer, Gives}

@@ -25,8 +25,7 @@ pub const IMAGE: usize = doctor::IMAGE;
 pub const LIST: usize = doctor::LIST;
 
 // uint16_t fixlomand_translate(uint8_t code, uint8_t lock, uint8_t inverse)
-#[unsafe(no_mangle)]
-pub extern "C" fn fixlomand_translate(code: u8, lock: u8, inverse: u8) -> u16
+pub fn fixlomand_translate(code: u8, lock: u8, inverse: u8) -> u16
     ensures { result ≡ translate_of code lock inverse }
 {
     keys::translate(code, lock, inverse)
@@ -34,8 +33,7 @@ pub extern "C" fn fixlomand_translate(code: u8, lock: u8, inverse: u8) -> u16
 
 // uint32_t fixlomand_doctor(image, list), each a pointer and a length
 // The diskette doctor on one image: the answer in the low byte, the number of changes above it.
-#[unsafe(no_mangle)]
-pub extern "C" fn fixlomand_doctor(image: &mut [u8], list: &mut [u8]) -> u32
+pub fn fixlomand_doctor(image: &mut [u8], list: &mut [u8]) -> u32
     ensures { leaving result image.new list.new ≡ doctor_of image.old list.old }
 {
     doctor::repair(image, list)
@@ -109,8 +107,7 @@ fn guard(
 
 // uint8_t fixlomand_fresh(state, area, screen, paper, tape, images), each a pointer and a length; the same twelve in each call
 // Everything as it is when the stick is plugged in, whatever the state held.
-#[unsafe(no_mangle)]
-pub extern "C" fn fixlomand_fresh(
+pub fn fixlomand_fresh(
     state: &mut [u8],
     area: &mut [u8],
     screen: &mut [u8],
@@ -136,8 +133,7 @@ pub extern "C" fn fixlomand_fresh(
 
 // uint8_t fixlomand_take(.., uint8_t port, uint8_t byte)
 // A byte offered by a port's host.
-#[unsafe(no_mangle)]
-pub extern "C" fn fixlomand_take(
+pub fn fixlomand_take(
     state: &mut [u8],
     area: &mut [u8],
     screen: &mut [u8],
@@ -158,8 +154,7 @@ pub extern "C" fn fixlomand_take(
 
 // uint8_t fixlomand_tick(.., uint8_t port)
 // A ready request starts, or a running one moves one character.
-#[unsafe(no_mangle)]
-pub extern "C" fn fixlomand_tick(
+pub fn fixlomand_tick(
     state: &mut [u8],
     area: &mut [u8],
     screen: &mut [u8],
@@ -179,8 +174,7 @@ pub extern "C" fn fixlomand_tick(
 
 // uint16_t fixlomand_give(.., uint8_t port)
 // The next byte of a port's reply: the answer in the low byte, the reply byte in the high.
-#[unsafe(no_mangle)]
-pub extern "C" fn fixlomand_give(
+pub fn fixlomand_give(
     state: &mut [u8],
     area: &mut [u8],
     screen: &mut [u8],
@@ -200,8 +194,7 @@ pub extern "C" fn fixlomand_give(
 
 // uint8_t fixlomand_press(.., uint8_t code)
 // A key of the console.
-#[unsafe(no_mangle)]
-pub extern "C" fn fixlomand_press(
+pub fn fixlomand_press(
     state: &mut [u8],
     area: &mut [u8],
     screen: &mut [u8],

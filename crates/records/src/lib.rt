@@ -1,5 +1,6 @@
 // A tape's records of 132 bytes: their checksum, what each of them is as it lies, and a record made of characters.
 #![tactic(auto)]
+
 ghost use Rattle.std.specs.Prelude.{◌≡◌, length, get_or, take};
 ghost use Rattle.base.specs.Parts.{part};
 ghost use Rattle.records.specs.Records.{checksum_of, judged_by, judged_of, found_at, record_data, sealed_record, record_made, laid_at, WholeTape, Reel};

@@ -1,7 +1,6 @@
 -- `before` meets its contract, by `before_end`, `before_bad` and `before_at`.
 -- Assumes nothing.
 use Rattle.files.proofs.Laws.{before_end, before_bad, before_at}
-use borrow.Author.Rules.{rules}
 use Rattle.files.proofs.before.Goals as goal
 
 pub returns-in-End : goal.returns-in-End

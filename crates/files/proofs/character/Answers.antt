@@ -1,7 +1,6 @@
 -- `character` meets its contract, by `character_is`.
 -- Assumes nothing.
 use Rattle.files.proofs.Laws.{character_is}
-use borrow.Author.Rules.{rules}
 use Rattle.files.proofs.character.Goals as goal
 
 pub returns : goal.returns

@@ -1,7 +1,6 @@
 -- `read` meets its contract, by `place_low`, `place_fits_lem`, `read_end`, `read_bad` and `read_character`.
 -- Assumes nothing.
 use Rattle.files.proofs.Laws.{place_low, place_fits_lem, read_end, read_bad, read_character}
-use borrow.Author.Rules.{rules}
 use Rattle.files.proofs.read.Goals as goal
 
 pub character-got-requires : goal.character-got-requires

@@ -1,7 +1,6 @@
 -- `set_word` meets its contract, by `word_stored`.
 -- Assumes nothing.
 use Rattle.files.proofs.Laws.{word_stored}
-use borrow.Author.Rules.{rules}
 use Rattle.files.proofs.set_word.Goals as goal
 
 pub returns : goal.returns

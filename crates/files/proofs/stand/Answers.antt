@@ -1,7 +1,6 @@
 -- `stand` meets its contract, by `stand_is`.
 -- Assumes nothing.
 use Rattle.files.proofs.Laws.{stand_is}
-use borrow.Author.Rules.{rules}
 use Rattle.files.proofs.stand.Goals as goal
 
 pub returns : goal.returns

@@ -1,7 +1,6 @@
 -- `character` meets its contract, by `character_in` and `character_past`.
 -- Assumes nothing.
 use Rattle.records.proofs.Laws.{character_in, character_past}
-use borrow.Author.Rules.{rules}
 use Rattle.records.proofs.character.Goals as goal
 
 pub returns-then-place-count : goal.returns-then-place-count

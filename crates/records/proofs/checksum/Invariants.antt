@@ -2,12 +2,9 @@
 -- Assumes nothing.
 use mathlib.Core.Path.{◌≡◌}
 use Prim.Native.Nat.{◌≤◌, ◌-◌, ◌*◌}
-use native.Mathlib.Omega.{arith}
 use lib.ListN.{length, take}
 use Rattle.records.specs.Records.{checksum_of}
 use Rattle.records.specs.Sums.{folded}
-use Rattle.records.proofs.Sums.{sum_none, sum_turn, sum_zero, sum_some, fold_byte}
-use borrow.Author.Rules.{rules}
 use Rattle.records.proofs.checksum.Given as goal
 
 abbrev pub invariant-loop-i : goal.invariant-loop-i

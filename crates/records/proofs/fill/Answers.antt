@@ -1,10 +1,6 @@
 -- `fill` meets its contract, by `fill_turn` and `filled`.
 -- Assumes nothing.
-use mathlib.Core.Path.{◌≡◌, refl}
-use mathlib.Core.List.{◌++◌}
-use Prim.Native.Nat.{◌≤◌, ◌-◌}
-use lib.ListN.{length, take, drop}
-use Rattle.records.specs.Records.{record_data}
+use mathlib.Core.Path.{refl}
 use Rattle.records.proofs.Laws.{fill_turn, filled}
 use borrow.Author.Rules.{rules}
 use Rattle.records.proofs.fill.Goals as goal

@@ -1,12 +1,10 @@
 -- `fill` meets its contract, by `fill_turn` and `filled`.
 -- Assumes nothing.
-use mathlib.Core.Path.{◌≡◌, refl}
+use mathlib.Core.Path.{◌≡◌}
 use mathlib.Core.List.{◌++◌}
 use Prim.Native.Nat.{◌≤◌, ◌-◌}
 use lib.ListN.{length, take, drop}
 use Rattle.records.specs.Records.{record_data}
-use Rattle.records.proofs.Laws.{fill_turn, filled}
-use borrow.Author.Rules.{rules}
 use Rattle.records.proofs.fill.Given as goal
 
 abbrev pub invariant-loop-i : goal.invariant-loop-i

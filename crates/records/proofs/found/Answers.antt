@@ -1,7 +1,6 @@
 -- `found` meets its contract, by `found_there` and `found_past`.
 -- Assumes nothing.
 use Rattle.records.proofs.Laws.{found_there, found_past}
-use borrow.Author.Rules.{rules}
 use Rattle.records.proofs.found.Goals as goal
 
 pub returns-then-number-lt-RECORDS : goal.returns-then-number-lt-RECORDS

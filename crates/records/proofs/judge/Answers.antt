@@ -1,7 +1,6 @@
 -- `judge` meets its contract, by `judge_right` and `judge_wrong`.
 -- Assumes nothing.
 use Rattle.records.proofs.Laws.{judge_right, judge_wrong}
-use borrow.Author.Rules.{rules}
 use Rattle.records.proofs.judge.Goals as goal
 
 pub returns-then-sum-last : goal.returns-then-sum-last

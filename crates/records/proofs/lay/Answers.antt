@@ -1,7 +1,6 @@
 -- `lay` meets its contract, by `lay_there` and `lay_past`.
 -- Assumes nothing.
 use Rattle.records.proofs.Laws.{lay_there, lay_past}
-use borrow.Author.Rules.{rules}
 use Rattle.records.proofs.lay.Goals as goal
 
 pub returns-then-number-lt-RECORDS : goal.returns-then-number-lt-RECORDS

@@ -1,7 +1,6 @@
 -- `make` meets its contract, by `make_partial` and `make_other`.
 -- Assumes nothing.
 use Rattle.records.proofs.Laws.{make_partial, make_other}
-use borrow.Author.Rules.{rules}
 use Rattle.records.proofs.make.Goals as goal
 
 pub returns-then-control-eq250 : goal.returns-then-control-eq250

@@ -1,7 +1,6 @@
 -- `seal` meets its contract, by `three_stores`, `four_stores` and `sealed`.
 -- Assumes nothing.
 use Rattle.records.proofs.Laws.{three_stores, four_stores, sealed}
-use borrow.Author.Rules.{rules}
 use Rattle.records.proofs.seal.Goals as goal
 
 pub slice_bounds-checksum-end : goal.slice_bounds-checksum-end

@@ -1,0 +1,21 @@
+-- `keep` meets its contract, by `walk_ended`, `walk_stopped`, `walk_turn` and `walk_spent`.
+-- Assumes nothing.
+use mathlib.Core.Path.{refl}
+use Rattle.chains.proofs.Laws.{walk_ended, walk_stopped, walk_turn, walk_spent, marks_length}
+use borrow.Author.Rules.{rules}
+use Rattle.chains.proofs.keep.Goals as goal
+
+pub loop-count-init : goal.loop-count-init
+loop-count-init c = (refl, (search rules, refl))
+
+pub returns-then-at-eq0 : goal.returns-then-at-eq0
+returns-then-at-eq0 c = search walk_ended
+
+pub returns-in-Wrong : goal.returns-in-Wrong
+returns-in-Wrong c = search walk_stopped
+
+pub loop-count-preserved : goal.loop-count-preserved
+loop-count-preserved c = (search walk_turn, (search marks_length, search rules))
+
+pub returns : goal.returns
+returns c = search walk_spent
