@@ -4,25 +4,23 @@ use mathlib.Core.Path.{◌≡◌, refl}
 use mathlib.Core.Bool.{false}
 use mathlib.Core.List.{List, [], ◌∷◌, ◌++◌, map}
 use Prim.Native.Nat.{ℕ}
-use lib.ListN.{get_or, set, replicate}
+use lib.ListN.{set, replicate}
 use Rattle.handler.specs.declared.Got.{Got}
 use Rattle.handler.specs.declared.Got.TheVariants as got
 use Rattle.handler.specs.declared.Done.{Done}
-use Rattle.handler.specs.declared.Done.TheVariants.{Success, Refused}
+use Rattle.handler.specs.declared.Done.TheVariants.{Success}
 use Rattle.handler.specs.Answer.{Answer}
 use Rattle.cells.specs.Modes.{modes, row_of, shape_of, count_of}
 use Rattle.cells.specs.Cells.{cell_of, with_cell, filled, reduced, scrolled}
 use Rattle.keys.specs.Table as keys
 use Rattle.keys.specs.Translation as keys_to
 use Rattle.keys.specs.Keyboard as keyboard
-use Rattle.keys.specs.declared.keyboard.Keyboard.{Keyboard}
 use Rattle.controls.specs.Decide as controls_acts
 use Rattle.editor.specs.Text as editor
 use Rattle.controls.specs.Put as controls
 use Rattle.editor.specs.Get as editor_get
 use Rattle.editor.specs.declared.ReadColumn.TheVariants.{Dropped}
 use Rattle.graphics.specs.Picture as graphics
-use Rattle.console.specs.declared.state.Console.{Console}
 use Rattle.console.specs.declared.Handler.{Handler}
 use Rattle.console.specs.declared.Handler.TheVariants.{E, S, K}
 use Rattle.console.specs.Group.{ConsoleGroup, group, fresh_group, pressed_of}

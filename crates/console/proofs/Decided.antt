@@ -1,16 +1,12 @@
 -- Each promise of this crate decides: two outcomes that it allows are equal, and it allows one.
 -- Assumes nothing.
-use mathlib.Core.Path.{◌≡◌, refl, sym, ◌∙◌, ap}
-use mathlib.Core.List.{List}
-use Prim.Native.Nat.{ℕ}
+use mathlib.Core.Path.{refl, sym, ◌∙◌, ap}
 use Rattle.base.specs.Decides.{Decides, Allows}
 use Rattle.handler.specs.declared.Got.{Got}
 use Rattle.handler.specs.declared.Done.{Done}
 use Rattle.handler.specs.Answer.{Answer}
 use Rattle.console.specs.Group.{ConsoleGroup}
 use Rattle.console.specs.declared.state.Console.{Console}
-use Rattle.console.specs.declared.ConsoleGot.{ConsoleGot}
-use Rattle.console.specs.declared.ConsoleDone.{ConsoleDone}
 use Rattle.console.proofs.state.Console.fresh.Kinds as state_fresh_kinds
 use Rattle.console.proofs.state.Console.fresh.Reads as state_fresh_reads
 use Rattle.console.proofs.state.Console.editor.Kinds as editor_kinds

@@ -1,7 +1,7 @@
 -- Document 02, Ask 13: the diskette doctor: "it walks every file's chain in directory order, .. and lists each changed byte with sector, place,
 -- old and new".
 -- Assumes nothing.
-use Rattle.std.specs.Prelude.{Bool, List, [], ◌∷◌, ℕ, ◌+◌, ◌*◌, eqb, length}
+use Rattle.std.specs.Prelude.{List, ℕ, ◌+◌, ◌*◌, eqb, length}
 use Rattle.std.proofs.lemmas.List.Edits.{sets}
 use Rattle.base.specs.Choice.{choose, and}
 use Rattle.image.specs.Image.{image_length}

@@ -3,8 +3,8 @@
 use Rattle.std.specs.Prelude.{Bool, List, [], ◌∷◌, ℕ}
 use Rattle.base.specs.Choice.{choose}
 use Rattle.image.specs.Image.{flag_of, in_use}
-use Rattle.chains.specs.Chains.{File, kept_by, files_in, sectors_of}
-use Rattle.chains.specs.Marks.{marked, mark_all}
+use Rattle.chains.specs.Chains.{File, kept_by, sectors_of}
+use Rattle.chains.specs.Marks.{mark_all}
 use Rattle.changes.specs.Changes.{Listed, as_listed, differing, listed_on}
 use Rattle.repairs.specs.Repairs.{files_changes}
 

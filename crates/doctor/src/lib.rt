@@ -1,6 +1,7 @@
 // The diskette doctor. It walks every file's chain over an image that it does not change, notes each byte that is not right, and then makes
 // the image what the list says.
 #![tactic(auto)]
+
 ghost use Rattle.std.specs.Prelude.{◌≡◌, ◌∷◌, [], ◌+◌, ◌*◌, ◌<◌, ◌≤◌, length};
 ghost use Rattle.image.specs.Image.{flag_of};
 ghost use Rattle.chains.specs.Chains.{files_in};

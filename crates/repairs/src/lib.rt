@@ -1,6 +1,7 @@
 // Each byte of an image that shall be right is noted where it is not: of a file's last sector and of its entry, of the free count and of
 // the map. The image stays.
 #![tactic(auto)]
+
 ghost use Rattle.std.specs.Prelude.{◌≡◌, ◌∷◌, [], ◌+◌, ◌*◌, ◌<◌, ◌≤◌, length};
 ghost use Rattle.chains.specs.Marks.{marked};
 ghost use Rattle.changes.specs.Changes.{differing, as_listed, listed_on};
