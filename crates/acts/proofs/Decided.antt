@@ -6,8 +6,6 @@ use Rattle.handler.specs.declared.Got.{Got}
 use Rattle.handler.specs.declared.Done.{Done}
 use Rattle.handler.specs.Answer.{Answer}
 use Rattle.console.specs.Group.{ConsoleGroup}
-use Rattle.console.specs.declared.ConsoleGot.{ConsoleGot}
-use Rattle.console.specs.declared.ConsoleDone.{ConsoleDone}
 use Rattle.acts.proofs.fresh.Kinds as fresh_kinds
 use Rattle.acts.proofs.fresh.Reads as fresh_reads
 use Rattle.acts.proofs.open.Kinds as open_kinds

@@ -1,5 +1,6 @@
 // The console's acts: a fresh start, OPEN, the start of a transfer, GET and PUT, each one match on its handlers E, S and K.
 #![tactic(auto)]
+
 ghost use Rattle.std.specs.Prelude.{◌≡◌};
 ghost use Rattle.handler.specs.Answer.{answer};
 ghost use Rattle.cells.specs.Cells.{Whole};

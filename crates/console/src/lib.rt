@@ -1,5 +1,6 @@
 // The console, one of the groups: its state by value, and each of its handlers E, S and K over it and the lent screen.
 #![tactic(auto)]
+
 pub mod each;
 pub mod state;
 
