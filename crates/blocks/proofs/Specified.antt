@@ -14,7 +14,6 @@ use Rattle.base.specs.Choice.{and, or, within, bit}
 use Rattle.base.proofs.Choices.{by_eq, by_lt, and_false}
 use Rattle.blocks.specs.declared.Device.{Device}
 use Rattle.blocks.specs.declared.Device.TheVariants.{E, S, K, P, C, D}
-use Rattle.blocks.specs.declared.Letter.{Letter}
 use Rattle.blocks.specs.declared.Letter.TheVariants.{Unknown, Known}
 use Rattle.blocks.specs.declared.Specification.{Specification}
 use Rattle.blocks.specs.declared.Specification.TheVariants.{Refused, Names}

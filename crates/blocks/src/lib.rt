@@ -1,6 +1,7 @@
 // A port's own state by value: its eight control blocks and its phase. And what an OPEN reads before any device is asked: its
 // device specification, and whether the device offers its AUX1.
 #![tactic(auto)]
+
 ghost use Rattle.std.specs.Prelude.{◌≡◌, ◌+◌};
 ghost use Rattle.blocks.specs.Blocks.{closed_table, fresh_gather, fresh_port};
 ghost use Rattle.blocks.specs.Opening.{device_of, highest_of, colon_of, number_of, named_of, specification_of, reads, writes, offers_of};

@@ -17,7 +17,7 @@ use Rattle.handler.specs.declared.Got.{Got}
 use Rattle.handler.specs.declared.Got.TheVariants as got
 use Rattle.cassette.specs.declared.Cassette.{Cassette}
 use Rattle.records.specs.declared.Judged.{Judged}
-use Rattle.records.specs.declared.Judged.TheVariants.{Bad, End, Characters}
+use Rattle.records.specs.declared.Judged.TheVariants.{End, Characters}
 use Rattle.records.specs.Records.{tape_length, record_at, found_at}
 use Rattle.cassette.specs.Cassette.{CassetteGroup, cassette_group, cassette_at, with_cassette, behind, comes_with, given_with, read_of}
 use Rattle.cassette.specs.Reads.{here}

@@ -8,7 +8,7 @@ use native.Mathlib.Omega.{arith}
 use borrow.Author.Tests.{eq-eqb, ne_eqb}
 use lib.ListN.{length, take, drop, set, replicate, length-append, length-set}
 use lib.Seq.{length-sets, take-take, take-add, take_all, take-suc-set, drop_at, length-take-le}
-use Rattle.base.specs.Parts.{part, before, behind}
+use Rattle.base.specs.Parts.{part, before}
 use Rattle.base.proofs.Parts.{take_before, drop_behind, part_same, part_other}
 use Rattle.base.proofs.Choices.{by_lt, by_eq}
 use Rattle.handler.specs.Answer.{Answer, answer}

@@ -1,5 +1,6 @@
 // The cassette C: how the lent tape is open, the record and the place that hold or take the next character; OPEN, CLOSE, GET and PUT.
 #![tactic(auto)]
+
 ghost use Rattle.std.specs.Prelude.{◌≡◌, ◌<◌};
 ghost use Rattle.handler.specs.Answer.{answer};
 ghost use Rattle.records.specs.Records.{WholeTape, Reel};

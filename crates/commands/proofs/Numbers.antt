@@ -1,12 +1,11 @@
 -- A byte is a command exactly when it has its number; a transfer has a way exactly when its command and its length say so.
 -- Assumes nothing.
-use mathlib.Core.Path.{◌≡◌, refl, sym, subst}
+use mathlib.Core.Path.{◌≡◌, refl, subst}
 use mathlib.Core.Logic.{◌↔◌, inl, inr}
 use mathlib.Core.Bool.{Bool, true, false}
 use Prim.Native.Nat.{ℕ, ◌<◌, ◌≤◌}
 use native.Mathlib.Omega.{arith}
-use lib.Dec.{eqb, ltb}
-use borrow.Author.Tests.{lt-ltb, le-ltb, eq-eqb, ne_eqb}
+use borrow.Author.Tests.{lt-ltb, le-ltb, ne_eqb}
 use Rattle.base.specs.Choice.{pick}
 use Rattle.base.proofs.Choices.{pick_eq, pick_lt, by_eq, by_lt}
 use Rattle.blocks.specs.declared.Way.{Way}

@@ -1,5 +1,6 @@
 // A CALL's command byte, and the way in which a transfer moves its characters.
 #![tactic(auto)]
+
 ghost use Rattle.std.specs.Prelude.{◌≡◌};
 ghost use Rattle.commands.specs.Commands.{command_of, way_of, kind_of};
 

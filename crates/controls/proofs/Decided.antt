@@ -5,7 +5,6 @@ use Rattle.base.specs.Decides.{Decides, Allows}
 use Rattle.handler.specs.declared.Done.{Done}
 use Rattle.handler.specs.Answer.{Answer}
 use Rattle.editor.specs.Text.{Text}
-use Rattle.controls.specs.declared.Written.{Written}
 use Rattle.controls.proofs.decide.plain.Kinds as plain_kinds
 use Rattle.controls.proofs.decide.plain.Reads as plain_reads
 use Rattle.controls.proofs.decide.act_of.Kinds as act_of_kinds

@@ -6,10 +6,9 @@ use Prim.Native.Nat.{ℕ, ◌+◌, ◌-◌, ◌≤◌}
 use native.Mathlib.Omega.{arith}
 use lib.ListN.{set, length-set}
 use Rattle.base.proofs.Choices.{pick_le, choose_lt, choose_le}
-use Rattle.handler.specs.Answer.{Answer}
 use Rattle.cells.specs.Cells.{Whole}
 use Rattle.editor.specs.Text.{Text, text, placed, with_escape, move_to, cell_at, new_row}
-use Rattle.editor.specs.Fit.{FitEditor, FitText}
+use Rattle.editor.specs.Fit.{FitText}
 use Rattle.editor.proofs.Keeps.{whole_by, blank_whole, moved_fit, new_row_fit}
 use Rattle.controls.specs.Decide.{act_of}
 use Rattle.controls.specs.Put.{with_last, less_of, more_of, clear_of, back_of, onward, data_of, doing, put_of}

@@ -1,5 +1,6 @@
 // E's PUT: what a byte asks of the editor, a control code's act on the cursor and the cells or data, and doing it.
 #![tactic(auto)]
+
 pub mod decide;
 
 ghost use Rattle.std.specs.Prelude.{◌≡◌};

@@ -1,13 +1,10 @@
 -- Each promise of this crate decides: two outcomes that it allows are equal, and it allows one.
 -- Assumes nothing.
-use mathlib.Core.Path.{◌≡◌, refl, sym, ◌∙◌, ap}
-use mathlib.Core.List.{List}
-use Prim.Native.Nat.{ℕ}
+use mathlib.Core.Path.{refl, sym, ◌∙◌, ap}
 use Rattle.base.specs.Decides.{Decides, Allows}
 use Rattle.handler.specs.declared.Got.{Got}
 use Rattle.handler.specs.Answer.{Answer}
 use Rattle.editor.specs.Text.{Text}
-use Rattle.editor.specs.declared.Read.{Read}
 use Rattle.editor.proofs.Editor.place.Kinds as place_kinds
 use Rattle.editor.proofs.Editor.place.Reads as place_reads
 use Rattle.editor.proofs.new_row.Kinds as new_row_kinds

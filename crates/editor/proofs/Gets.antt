@@ -1,13 +1,13 @@
 -- What a GET returns and leaves is what its definition says.
 -- Assumes nothing.
-use mathlib.Core.Path.{◌≡◌, ◌∙◌, refl, sym, ap}
+use mathlib.Core.Path.{◌≡◌}
 use mathlib.Core.List.{List}
 use Prim.Native.Nat.{ℕ, ◌+◌, ◌*◌, ◌<◌, ◌≤◌}
 use lib.ListN.{get_or}
 use borrow.Author.Tests.{lt-ltb, le-ltb}
 use Rattle.handler.specs.declared.Got.TheVariants.{Character}
 use Rattle.handler.specs.Answer.{answer}
-use Rattle.editor.specs.Text.{Text, text, cell_at, unread, new_row}
+use Rattle.editor.specs.Text.{text, unread, new_row}
 use Rattle.editor.specs.Get.{column_of, end_of, read_on, get_at, get_of}
 use Rattle.editor.specs.declared.Editor.{Editor}
 

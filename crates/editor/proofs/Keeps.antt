@@ -2,7 +2,7 @@
 -- Assumes nothing.
 use mathlib.Core.Path.{◌≡◌, ◌∙◌, refl}
 use mathlib.Core.List.{List}
-use Prim.Native.Nat.{ℕ, zero, suc, ◌+◌, ◌<◌, ◌≤◌}
+use Prim.Native.Nat.{ℕ, zero, suc, ◌+◌, ◌≤◌}
 use native.Mathlib.Nat.{le_trans}
 use native.Mathlib.Omega.{arith}
 use lib.ListN.{length, get_or}
@@ -13,11 +13,10 @@ use Rattle.cells.specs.Modes.{modes, row_of, shape_of}
 use Rattle.cells.specs.Cells.{Whole, place_of, filled, scrolled}
 use Rattle.cells.proofs.Parts.{filled_length, scrolled_length}
 use Rattle.editor.specs.Text.{Text, text, placed, move_to, cell_at, new_row, open_of}
-use Rattle.editor.specs.Get.{column_of, cells_held, end_of, read_on, get_at, get_of}
-use Rattle.editor.specs.Fit.{FitReading, FitEditor, FitText}
+use Rattle.editor.specs.Get.{column_of, cells_held, end_of, get_at, get_of}
+use Rattle.editor.specs.Fit.{FitReading, FitText}
 use Rattle.editor.specs.declared.ReadColumn.{ReadColumn}
 use Rattle.editor.specs.declared.ReadColumn.TheVariants.{Dropped, At}
-use Rattle.editor.specs.declared.Editor.{Editor}
 
 -- E's cells are those of mode 0 in the modes' table
 pub cell_at_lem : (row column : ℕ) → cell_at row column ≡ place_of (shape_of 0) row column

@@ -1,5 +1,6 @@
 // E, the screen editor: OPEN, GET and the new row over mode 0's 24 rows of 40 cells. Margins 2 and 39; each row is one line.
 #![tactic(auto)]
+
 pub mod line;
 
 ghost use Rattle.std.specs.Prelude.{◌≡◌};

@@ -1,13 +1,10 @@
 -- What each function returns and leaves is what its definition says.
 -- Assumes nothing.
-use mathlib.Core.Path.{◌≡◌, ◌∙◌, refl, sym, ap}
-use mathlib.Core.Bool.{Bool, true, false}
+use mathlib.Core.Path.{◌≡◌, ◌∙◌}
 use mathlib.Core.List.{List}
 use Prim.Native.Nat.{ℕ, ◌+◌, ◌/◌, ◌%◌, ◌<◌, ◌≤◌}
 use native.Mathlib.Omega.{arith}
 use borrow.Author.Tests.{lt-ltb, le-ltb, le-leb, lt-leb, eq-eqb, ne_eqb}
-use Rattle.base.specs.Choice.{and}
-use Rattle.base.proofs.Choices.{and_false}
 use Rattle.handler.specs.declared.Got.TheVariants as got
 use Rattle.handler.specs.declared.Done.TheVariants.{Success, Refused}
 use Rattle.handler.specs.Answer.{answer}
@@ -15,7 +12,7 @@ use Rattle.cells.specs.declared.Shape.{Shape}
 use Rattle.cells.specs.Modes.{shape_of}
 use Rattle.cells.specs.Cells.{cell_of, with_cell, filled, reduced}
 use Rattle.cells.proofs.Shapes.{good_shape, shape_colours}
-use Rattle.graphics.specs.Picture.{Picture, picture, placed, with_last, Drawn, onward, cells_opened, in_mode, open_of, past_last_row, get_of, clear_of, data_of, put_of}
+use Rattle.graphics.specs.Picture.{picture, placed, with_last, Drawn, onward, cells_opened, in_mode, open_of, get_of, clear_of, data_of, put_of}
 use Rattle.graphics.specs.declared.Graphics.{Graphics}
 
 module _ (shape : Shape) (g r : Graphics) where

@@ -1,16 +1,12 @@
 -- Each promise of this crate decides: two outcomes that it allows are equal, and it allows one.
 -- Assumes nothing.
-use mathlib.Core.Path.{◌≡◌, refl, sym, ◌∙◌, ap}
-use mathlib.Core.List.{List}
-use Prim.Native.Nat.{ℕ}
+use mathlib.Core.Path.{refl, sym, ◌∙◌, ap}
 use Rattle.base.specs.Decides.{Decides, Allows}
 use Rattle.handler.specs.declared.Got.{Got}
 use Rattle.handler.specs.declared.Done.{Done}
 use Rattle.handler.specs.Answer.{Answer}
 use Rattle.graphics.specs.Picture.{Picture}
-use Rattle.graphics.specs.declared.Read.{Read}
 use Rattle.graphics.specs.declared.Graphics.{Graphics}
-use Rattle.graphics.specs.declared.Written.{Written}
 use Rattle.graphics.proofs.Graphics.place.Kinds as place_kinds
 use Rattle.graphics.proofs.Graphics.place.Reads as place_reads
 use Rattle.graphics.proofs.open.Kinds as open_kinds

@@ -1,14 +1,14 @@
 -- OPEN, GET and PUT keep the screen's state in range and the screen's length.
 -- Assumes nothing.
-use mathlib.Core.Path.{◌≡◌, ◌∙◌, refl, sym, ap, subst}
+use mathlib.Core.Path.{◌≡◌, ◌∙◌, refl, subst}
 use mathlib.Core.Bool.{Bool, true, false, not}
 use mathlib.Core.List.{List}
-use Prim.Native.Nat.{ℕ, zero, suc, ◌+◌, ◌<◌, ◌≤◌}
+use Prim.Native.Nat.{ℕ, ◌+◌, ◌<◌, ◌≤◌}
 use native.Mathlib.Omega.{arith}
 use lib.Dec.{T, ltb, leb, ltb→lt}
-use lib.ListN.{length, set, length-set}
+use lib.ListN.{length-set}
 use Rattle.base.specs.Choice.{or, within, bit}
-use Rattle.base.proofs.Table.{both, upto, on}
+use Rattle.base.proofs.Table.{on}
 use Rattle.base.proofs.Choices.{pick_lt, choose_go, choose_eq, choose_le, and_left, and_right}
 use borrow.Author.Tests.{leb-true}
 use Rattle.handler.specs.declared.Got.{Got}

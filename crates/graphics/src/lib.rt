@@ -1,5 +1,6 @@
 // S, the graphics screen: OPEN, GET and PUT in modes 3 to 8. Every cell is read and written through `cells`.
 #![tactic(auto)]
+
 ghost use Rattle.std.specs.Prelude.{◌≡◌, ◌<◌};
 ghost use Rattle.handler.specs.Answer.{answer};
 ghost use Rattle.cells.specs.Cells.{Whole};

@@ -4,7 +4,6 @@ use mathlib.Core.Path.{◌≡◌, ap}
 use Prim.Native.Nat.{ℕ}
 use Rattle.names.specs.declared.Name.{Name}
 use Rattle.names.specs.Names.{no_name}
-use Rattle.handler.specs.declared.Asked.{Asked}
 use Rattle.handler.specs.Acts.{asks_open, asks_on}
 
 pub asks_on_lem : (port iocb : ℕ) (name : Name) → name ≡ no_name → asks_open port iocb 0 0 0 name ≡ asks_on port iocb

@@ -1,6 +1,6 @@
 -- Each promise of this crate decides: two outcomes that it allows are equal, and it allows one.
 -- Assumes nothing.
-use mathlib.Core.Path.{◌≡◌, refl, sym, ◌∙◌}
+use mathlib.Core.Path.{refl, sym, ◌∙◌}
 use Rattle.base.specs.Decides.{Decides, Allows}
 use Rattle.handler.proofs.on_block.Kinds as on_block_kinds
 use Rattle.handler.proofs.on_block.Reads as on_block_reads

@@ -6,7 +6,7 @@ use Rattle.names.specs.Names.{no_name}
 use Rattle.handler.specs.declared.Asked.{Asked}
 use Rattle.handler.specs.declared.Got.{Got}
 use Rattle.handler.specs.declared.Done.{Done}
-use Rattle.handler.specs.Answer.{Answer, answer, seen}
+use Rattle.handler.specs.Answer.{Answer, seen}
 
 -- for the opening of a block
 abbrev pub asks_open : (port iocb number aux1 aux2 : ℕ) → Name → Asked

@@ -1,6 +1,7 @@
 // What CIO tells a device handler, and what the handler answers: for a character read, and for a character written or a device
 // opened.
 #![tactic(auto)]
+
 ghost use Rattle.std.specs.Prelude.{◌≡◌};
 ghost use Rattle.handler.specs.Acts.{asks_on};
 

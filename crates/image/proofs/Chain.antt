@@ -3,12 +3,12 @@
 use mathlib.Core.Path.{◌≡◌, ◌∙◌, refl, sym, ap, subst}
 use mathlib.Core.Bool.{Bool, true, false, not}
 use mathlib.Core.List.{List, [], ◌++◌}
-use Prim.Native.Nat.{ℕ, zero, suc, ◌+◌, ◌-◌, ◌≤◌}
+use Prim.Native.Nat.{ℕ, zero, suc, ◌+◌, ◌≤◌}
 use native.Mathlib.Nat.{add-suc}
 use native.Mathlib.Omega.{arith}
 use borrow.Author.Tests.{lt-ltb, le-ltb, eq-eqb, ne_eqb, eqb-false, ltb-true}
 use lib.Dec.{eqb, ltb}
-use Rattle.base.specs.Choice.{and, or}
+use Rattle.base.specs.Choice.{or}
 use Rattle.base.proofs.Choices.{by_lt, by_eq, by_test, and_left, and_right}
 use Rattle.names.specs.declared.Name.{Name}
 use Rattle.names.specs.Names.{pattern_of, places_match}

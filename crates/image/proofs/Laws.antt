@@ -9,7 +9,7 @@ use native.Mathlib.Numerals.{add-one}
 use borrow.Author.Tests.{lt-ltb, le-ltb, eq-eqb, ne_eqb}
 use lib.Dec.{eqb, ltb}
 use lib.ListN.{get_or, set}
-use Rattle.base.specs.Choice.{pick, choose, and}
+use Rattle.base.specs.Choice.{pick, choose}
 use Rattle.base.proofs.Choices.{by_test}
 use Rattle.names.specs.declared.Name.{Name}
 use Rattle.names.specs.Names.{pattern_of, places_match}

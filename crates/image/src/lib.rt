@@ -1,6 +1,7 @@
 // The lent images of four diskettes: their sectors and entries, the first entry that a name matches, and where a file's next character
 // stands. A unit is a drive counted from 0: D1 is 0.
 #![tactic(auto)]
+
 ghost use Rattle.std.specs.Prelude.{◌≡◌, ◌*◌, ◌+◌, ◌-◌, set};
 ghost use Rattle.image.specs.Image.{sector_place, sector_byte, entry_byte, flag_of, in_use, locked, count_of, first_of, matches_entry, match_from, sector_of, stand_of};
 

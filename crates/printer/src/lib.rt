@@ -1,5 +1,6 @@
 // The printer P: how much of the lent paper is used, and PUT, which appends a byte to it.
 #![tactic(auto)]
+
 ghost use Rattle.std.specs.Prelude.{◌≡◌};
 ghost use Rattle.handler.specs.Answer.{answer};
 ghost use Rattle.printer.specs.Printer.{fresh_printer, printer_group, put_of};

@@ -1,11 +1,10 @@
 -- Bytes copied a part at a time are the bytes copied one by one.
 -- Assumes nothing.
-use mathlib.Core.Path.{◌≡◌, ◌∙◌, refl, sym, ap}
-use mathlib.Core.List.{List, ◌++◌, append-nil}
+use mathlib.Core.Path.{◌≡◌, ◌∙◌, sym, ap}
+use mathlib.Core.List.{List, ◌++◌}
 use Prim.Native.Nat.{ℕ, ◌+◌, ◌-◌, ◌≤◌}
-use native.Mathlib.Omega.{arith}
-use lib.ListN.{length, take, drop, drop_of_length-le}
-use lib.Seq.{sets, take_all}
+use lib.ListN.{length, take, drop}
+use lib.Seq.{sets}
 use Rattle.base.proofs.Parts.{lent_part, lent_back, part_length}
 use Rattle.replies.specs.Replies.{bytes_at}
 use Rattle.replies.proofs.Keeps.{bytes_part}

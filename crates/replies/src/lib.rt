@@ -1,5 +1,6 @@
 // Replies, made in a port's room: a CALL's, a status alone, and a FETCH's with its bytes. A reply stands in the room from 0 on.
 #![tactic(auto)]
+
 ghost use Rattle.std.specs.Prelude.{◌≡◌, ◌/◌, ◌%◌, [], ◌∷◌};
 ghost use Rattle.std.proofs.lemmas.List.Edits.{sets};
 ghost use Rattle.replies.specs.Replies.{call_reply, status_reply, bytes_at, fetch_reply, replied, replied_of};

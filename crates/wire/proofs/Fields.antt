@@ -1,14 +1,14 @@
 -- A field is refused exactly as document 01's Messages say.
 -- Assumes nothing.
 use mathlib.Core.Path.{◌≡◌, ◌∙◌, refl, sym, ap, subst}
-use mathlib.Core.Logic.{◌⊎◌, inl, inr, ⊎_elim}
+use mathlib.Core.Logic.{inl, inr, ⊎_elim}
 use mathlib.Core.Bool.{Bool, true, false}
 use mathlib.Core.List.{List}
 use Prim.Native.Nat.{ℕ, suc, ◌-◌}
 use native.Mathlib.Omega.{arith}
 use borrow.Author.Tests.{eqb-true, leb-true, lt-leb, le-leb}
 use lib.Dec.{T, eqb, leb}
-use Rattle.base.specs.Choice.{and, within}
+use Rattle.base.specs.Choice.{within}
 use Rattle.base.proofs.Choices.{pick_go, pick_eq, by_eq, by_lt, by_test, and_left, and_right, and_false}
 use Rattle.wire.specs.declared.Message.{Message}
 use Rattle.wire.specs.declared.Message.TheVariants as says

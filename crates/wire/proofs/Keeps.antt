@@ -1,16 +1,15 @@
 -- What callers cite: what a byte taken and a byte given keep, and that each reply made fits.
 -- Assumes nothing.
-use mathlib.Core.Path.{◌≡◌, ◌∙◌, refl, sym, ap}
+use mathlib.Core.Path.{◌≡◌, refl}
 use mathlib.Core.Bool.{true}
-use mathlib.Core.List.{List, [], ◌∷◌}
-use Prim.Native.Nat.{ℕ, zero, suc, ◌+◌, ◌-◌, ◌%◌, ◌≤◌, ◌<◌}
+use mathlib.Core.List.{List, []}
+use Prim.Native.Nat.{ℕ, suc, ◌+◌, ◌-◌, ◌%◌, ◌≤◌, ◌<◌}
 use native.Mathlib.Omega.{arith}
-use borrow.Author.Tests.{lt-ltb, le-leb, leb-true, ne_eqb}
-use lib.Dec.{eqb, leb, ltb}
-use lib.ListN.{length, get_or, take, drop, length-set}
-use lib.Seq.{sets-eq, length-sets, take-append_seam, get_or-take, drop-cons}
+use borrow.Author.Tests.{lt-ltb, le-leb, ne_eqb}
+use lib.Dec.{eqb, ltb}
+use lib.ListN.{length, length-set}
 use Rattle.base.specs.Choice.{pick, within}
-use Rattle.base.proofs.Choices.{pick_go, pick_eq, pick_le, and_left, and_right}
+use Rattle.base.proofs.Choices.{pick_go, pick_eq, pick_le, and_left}
 use Rattle.blocks.specs.declared.Gather.{Gather}
 use Rattle.blocks.specs.declared.Reply.{Reply}
 use Rattle.blocks.specs.declared.Phase.{Phase}

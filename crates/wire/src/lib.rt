@@ -1,6 +1,7 @@
 // A port's wire: gathering one message byte by byte, what a ready message says, and giving a reply. The port lends its room: while
 // it gathers, the room keeps the value's bytes from 0 on, and while it replies, the reply's.
 #![tactic(auto)]
+
 ghost use Rattle.std.specs.Prelude.{true, ◌≡◌};
 ghost use Rattle.wire.specs.Messages.{word_of, good_field, gathered, after_of, kept_of, take_of, goes_on, word_at, call_of, bad_status, message_of};
 ghost use Rattle.wire.specs.Fits.{gather_fits, reply_fits};

@@ -2,7 +2,6 @@
 -- Assumes nothing.
 use Rattle.blocks.specs.declared.Device.TheVariants.{E, S, K, P, C, D}
 use Rattle.blocks.proofs.Laws.{digit_arm}
-use borrow.Author.Rules.{rules}
 use Rattle.blocks.proofs.last_digit.Goals as goal
 
 pub returns-in-E : goal.returns-in-E

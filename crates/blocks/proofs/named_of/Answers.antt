@@ -1,7 +1,6 @@
 -- `named_of` meets its contract, by `letter_unknown`, `letter_past` and `letter_known`.
 -- Assumes nothing.
 use Rattle.blocks.proofs.Laws.{letter_unknown, letter_past, letter_known}
-use borrow.Author.Rules.{rules}
 use Rattle.blocks.proofs.named_of.Goals as goal
 
 pub returns-then-place-ge-AREA : goal.returns-then-place-ge-AREA

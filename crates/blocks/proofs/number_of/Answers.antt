@@ -1,7 +1,6 @@
 -- `number_of` meets its contract, by `number_low`, `number_high`, `number_past` and `number_digit`.
 -- Assumes nothing.
 use Rattle.blocks.proofs.Laws.{number_low, number_high, number_past, number_digit}
-use borrow.Author.Rules.{rules}
 use Rattle.blocks.proofs.number_of.Goals as goal
 
 pub returns-then-byte-lt49 : goal.returns-then-byte-lt49

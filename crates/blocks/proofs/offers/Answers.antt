@@ -1,7 +1,6 @@
 -- `offers` meets its contract, by `offers_forced`, `offers_one_way`, `offers_unread`, `offers_screen`, `offers_keys`, `offers_paper`, `offers_unread_tape` and `offers_disk`.
 -- Assumes nothing.
 use Rattle.blocks.proofs.Laws.{offers_forced, offers_unread, offers_screen, offers_keys, offers_paper, offers_one_way, offers_unread_tape, offers_disk}
-use borrow.Author.Rules.{rules}
 use Rattle.blocks.proofs.offers.Goals as goal
 
 pub returns-then-aux1_reads : goal.returns-then-aux1_reads

@@ -1,7 +1,6 @@
 -- `specification_at` meets its contract, by `address_past` and `address_in`.
 -- Assumes nothing.
 use Rattle.blocks.proofs.Laws.{address_past, address_in}
-use borrow.Author.Rules.{rules}
 use Rattle.blocks.proofs.specification_at.Goals as goal
 
 pub returns-then-place-ge-AREA : goal.returns-then-place-ge-AREA

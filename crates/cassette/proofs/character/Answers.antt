@@ -1,7 +1,6 @@
 -- `character` meets its contract, by `more_here` and `more_behind`.
 -- Assumes nothing.
 use Rattle.cassette.proofs.Laws.{more_here, more_behind}
-use borrow.Author.Rules.{rules}
 use Rattle.cassette.proofs.character.Goals as goal
 
 pub returns-then-further-n : goal.returns-then-further-n

@@ -1,7 +1,6 @@
 -- `is_spent` meets its contract, by `spent_characters`.
 -- Assumes nothing.
 use Rattle.cassette.proofs.Laws.{spent_characters}
-use borrow.Author.Rules.{rules}
 use Rattle.cassette.proofs.is_spent.Goals as goal
 
 pub returns-in-Characters : goal.returns-in-Characters

@@ -1,7 +1,6 @@
 -- `next` meets its contract, by `behind_next` and `behind_last`.
 -- Assumes nothing.
 use Rattle.cassette.proofs.Laws.{behind_next, behind_last}
-use borrow.Author.Rules.{rules}
 use Rattle.cassette.proofs.next.Goals as goal
 
 pub returns-then-further-n : goal.returns-then-further-n

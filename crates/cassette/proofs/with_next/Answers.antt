@@ -1,7 +1,6 @@
 -- `with_next` meets its contract, by `comes_bad`, `comes_end` and `comes_characters`.
 -- Assumes nothing.
 use Rattle.cassette.proofs.Laws.{comes_bad, comes_end, comes_characters}
-use borrow.Author.Rules.{rules}
 use Rattle.cassette.proofs.with_next.Goals as goal
 
 pub returns-in-Bad : goal.returns-in-Bad

@@ -1,6 +1,5 @@
 -- `transfer_kind` meets its contract, by `kind_get` and `kind_put`.
 -- Assumes nothing.
-use borrow.Author.Rules.{rules}
 use Rattle.commands.proofs.Ways.{kind_get, kind_put}
 use Rattle.commands.proofs.transfer_kind.Goals as goal
 

@@ -1,7 +1,6 @@
 -- `back` meets its contract, by `back_left` and `back_margin`.
 -- Assumes nothing.
 use Rattle.controls.proofs.Puts.{back_left, back_margin}
-use borrow.Author.Rules.{rules}
 use Rattle.controls.proofs.back.Goals as goal
 
 pub returns-then-column-gt2 : goal.returns-then-column-gt2

@@ -1,7 +1,6 @@
 -- `clear` meets its contract, by `clear_law`.
 -- Assumes nothing.
 use Rattle.controls.proofs.Puts.{clear_law}
-use borrow.Author.Rules.{rules}
 use Rattle.controls.proofs.clear.Goals as goal
 
 pub returns : goal.returns

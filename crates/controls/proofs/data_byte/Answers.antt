@@ -1,7 +1,6 @@
 -- `data_byte` meets its contract, by `data_row` and `data_right`.
 -- Assumes nothing.
 use Rattle.controls.proofs.Puts.{data_row, data_right}
-use borrow.Author.Rules.{rules}
 use Rattle.controls.proofs.data_byte.Goals as goal
 
 pub returns-then-column-ge39 : goal.returns-then-column-ge39

@@ -2,7 +2,6 @@
 -- Assumes nothing.
 use Rattle.base.proofs.Tests.{tests}
 use Rattle.controls.specs.Put.{less_of}
-use borrow.Author.Rules.{rules}
 use Rattle.controls.proofs.less.Goals as goal
 
 pub returns-then-x-low : goal.returns-then-x-low

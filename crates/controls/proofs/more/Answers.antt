@@ -2,7 +2,6 @@
 -- Assumes nothing.
 use Rattle.base.proofs.Tests.{tests}
 use Rattle.controls.specs.Put.{more_of}
-use borrow.Author.Rules.{rules}
 use Rattle.controls.proofs.more.Goals as goal
 
 pub returns-then-high-x : goal.returns-then-high-x

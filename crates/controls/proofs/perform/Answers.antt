@@ -1,6 +1,5 @@
 -- A dispatcher: each arm by the law of its act.
 use Rattle.controls.proofs.Puts.{do_escape, do_up, do_down, do_left, do_right, do_clear, do_back, do_new_row, do_nothing, do_data}
-use borrow.Author.Rules.{rules}
 use Rattle.controls.proofs.perform.Goals as goal
 
 pub returns-in-Escape : goal.returns-in-Escape

@@ -1,7 +1,6 @@
 -- `put` meets its contract, by `put_law`.
 -- Assumes nothing.
 use Rattle.controls.proofs.Puts.{put_law}
-use borrow.Author.Rules.{rules}
 use Rattle.controls.proofs.put.Goals as goal
 
 pub returns : goal.returns

@@ -1,7 +1,6 @@
 -- `get` meets its contract, by `get_cell` and `get_row`.
 -- Assumes nothing.
 use Rattle.editor.proofs.Gets.{get_cell, get_row}
-use borrow.Author.Rules.{rules}
 use Rattle.editor.proofs.get.Goals as goal
 
 pub returns-then-column-end : goal.returns-then-column-end

@@ -1,7 +1,6 @@
 -- `new_row` meets its contract, by `new_row_last` and `new_row_next`.
 -- Assumes nothing.
 use Rattle.editor.proofs.Rows.{new_row_last, new_row_next}
-use borrow.Author.Rules.{rules}
 use Rattle.editor.proofs.new_row.Goals as goal
 
 pub returns-then-row-ge23 : goal.returns-then-row-ge23

@@ -1,7 +1,6 @@
 -- `open` meets its contract, by `open_law`.
 -- Assumes nothing.
 use Rattle.editor.proofs.Rows.{open_law}
-use borrow.Author.Rules.{rules}
 use Rattle.editor.proofs.open.Goals as goal
 
 pub returns : goal.returns

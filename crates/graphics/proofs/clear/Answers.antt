@@ -1,7 +1,6 @@
 -- `clear` meets its contract, by `clear_law`.
 -- Assumes nothing.
 use Rattle.graphics.proofs.Acts.{clear_law}
-use borrow.Author.Rules.{rules}
 use Rattle.graphics.proofs.clear.Goals as goal
 
 pub returns : goal.returns

@@ -1,7 +1,6 @@
 -- `data_byte` meets its contract, by `data_law`.
 -- Assumes nothing.
 use Rattle.graphics.proofs.Acts.{data_law}
-use borrow.Author.Rules.{rules}
 use Rattle.graphics.proofs.data_byte.Goals as goal
 
 pub returns : goal.returns

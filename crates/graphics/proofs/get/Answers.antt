@@ -2,7 +2,6 @@
 -- Assumes nothing.
 use Rattle.cells.proofs.Shapes.{shape_colours}
 use Rattle.graphics.proofs.Acts.{get_cell, get_past}
-use borrow.Author.Rules.{rules}
 use Rattle.graphics.proofs.get.Goals as goal
 
 pub read-cell-requires : goal.read-cell-requires

@@ -1,7 +1,6 @@
 -- `move_on` meets its contract, by `on_right` and `on_next`.
 -- Assumes nothing.
 use Rattle.graphics.proofs.Acts.{on_right, on_next}
-use borrow.Author.Rules.{rules}
 use Rattle.graphics.proofs.move_on.Goals as goal
 
 pub returns-then-right-shape : goal.returns-then-right-shape

@@ -1,7 +1,6 @@
 -- `put` meets its contract, by `drawn`, `put_clear`, `put_past`, `put_row` and `put_data`.
 -- Assumes nothing.
 use Rattle.graphics.proofs.Acts.{drawn, put_clear, put_past, put_row, put_data}
-use borrow.Author.Rules.{rules}
 use Rattle.graphics.proofs.put.Goals as goal
 
 pub returns-then-byte-eq125 : goal.returns-then-byte-eq125

@@ -1,6 +1,5 @@
 -- `on_block` meets its contract, by `asks_on_lem`.
 -- Assumes nothing.
-use borrow.Author.Rules.{rules}
 use Rattle.handler.proofs.Asking.{asks_on_lem}
 use Rattle.handler.proofs.on_block.Goals as goal
 

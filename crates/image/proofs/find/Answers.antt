@@ -1,10 +1,7 @@
 -- `find` meets its contract, by `found_end`, `found_here`, `found_turn` and `found_none`.
 -- Assumes nothing.
-use mathlib.Core.Path.{◌≡◌, refl}
-use Prim.Native.Nat.{◌-◌}
-use Rattle.image.specs.Image.{match_from}
+use mathlib.Core.Path.{refl}
 use Rattle.image.proofs.Laws.{found_end, found_here, found_turn, found_none}
-use borrow.Author.Rules.{rules}
 use Rattle.image.proofs.find.Goals as goal
 
 pub loop-entry-init : goal.loop-entry-init

@@ -1,10 +1,8 @@
 -- `find` meets its contract, by `found_end`, `found_here`, `found_turn` and `found_none`.
 -- Assumes nothing.
-use mathlib.Core.Path.{◌≡◌, refl}
+use mathlib.Core.Path.{◌≡◌}
 use Prim.Native.Nat.{◌-◌}
 use Rattle.image.specs.Image.{match_from}
-use Rattle.image.proofs.Laws.{found_end, found_here, found_turn, found_none}
-use borrow.Author.Rules.{rules}
 use Rattle.image.proofs.find.Given as goal
 
 abbrev pub invariant-loop-entry : goal.invariant-loop-entry

@@ -1,7 +1,6 @@
 -- `sector_byte` meets its contract, by `sector_there`.
 -- Assumes nothing.
 use Rattle.image.proofs.Laws.{sector_there}
-use borrow.Author.Rules.{rules}
 use Rattle.image.proofs.sector_byte.Goals as goal
 
 pub returns : goal.returns

@@ -3,7 +3,6 @@
 use Prim.Native.Nat.{◌<◌}
 use native.Mathlib.Omega.{arith}
 use Rattle.image.proofs.Laws.{sector_far, sector_many, sector_good, sector_other}
-use borrow.Author.Rules.{rules}
 use Rattle.image.proofs.sector_of.Goals as goal
 
 pub returns-then-sector-gt719 : goal.returns-then-sector-gt719

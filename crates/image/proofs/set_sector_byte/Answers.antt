@@ -1,7 +1,6 @@
 -- `set_sector_byte` meets its contract, by `sector_set`.
 -- Assumes nothing.
 use Rattle.image.proofs.Laws.{sector_set}
-use borrow.Author.Rules.{rules}
 use Rattle.image.proofs.set_sector_byte.Goals as goal
 
 pub returns : goal.returns

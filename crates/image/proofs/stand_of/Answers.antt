@@ -1,11 +1,9 @@
 -- `stand_of` meets its contract, by `stands_ended`, `stands_wrong`, `stands_here`, `stands_turn` and `stands_last`.
 -- Assumes nothing.
-use mathlib.Core.Path.{◌≡◌, refl}
-use Prim.Native.Nat.{◌-◌, ◌<◌, ◌≤◌}
+use mathlib.Core.Path.{refl}
+use Prim.Native.Nat.{◌<◌, ◌≤◌}
 use native.Mathlib.Omega.{arith}
-use Rattle.image.specs.Image.{stand_of}
 use Rattle.image.proofs.Laws.{stands_ended, stands_wrong, stands_here, stands_turn, stands_last}
-use borrow.Author.Rules.{rules}
 use Rattle.image.proofs.stand_of.Goals as goal
 
 pub loop-behind-init : goal.loop-behind-init

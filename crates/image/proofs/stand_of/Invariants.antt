@@ -1,11 +1,8 @@
 -- `stand_of` meets its contract, by `stands_ended`, `stands_wrong`, `stands_here`, `stands_turn` and `stands_last`.
 -- Assumes nothing.
-use mathlib.Core.Path.{◌≡◌, refl}
-use Prim.Native.Nat.{◌-◌, ◌<◌, ◌≤◌}
-use native.Mathlib.Omega.{arith}
+use mathlib.Core.Path.{◌≡◌}
+use Prim.Native.Nat.{◌-◌}
 use Rattle.image.specs.Image.{stand_of}
-use Rattle.image.proofs.Laws.{stands_ended, stands_wrong, stands_here, stands_turn, stands_last}
-use borrow.Author.Rules.{rules}
 use Rattle.image.proofs.stand_of.Given as goal
 
 abbrev pub invariant-loop-behind : goal.invariant-loop-behind

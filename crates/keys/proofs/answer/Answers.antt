@@ -3,7 +3,6 @@
 use mathlib.Core.Bool.{true, false}
 use native.Mathlib.Omega.{arith}
 use Rattle.keys.proofs.Laws.{answer_on}
-use borrow.Author.Rules.{rules}
 use Rattle.keys.proofs.answer.Goals as goal
 use Rattle.keys.proofs.answer.Goals.{in_default-via-then-entry-lt27, in_default-via-else-entry-lt27+else-entry-lt32+then-entry-lt125, in_default-via-else-entry-lt27+else-entry-lt32+else-entry-lt125+else-entry-lt128+else-entry-lt134+then-entry-lt155, in_default-via-else-entry-lt27+else-entry-lt32+else-entry-lt125+else-entry-lt128+else-entry-lt134+else-entry-lt155+else-entry-lt160+then-entry-lt253}
 
@@ -25,7 +24,8 @@ returns-in-27-to-31-4 c = answer_on false true 0xFD 3 tt _ _ (omega arith) (omeg
 pub returns-in_default : goal.returns-in_default
 returns-in_default c =
     elim c.in_default.branch [
-      in_default-via-then-entry-lt27 w ↦ answer_on false false 0 0x1B tt _ _ (omega arith) (omega arith)
-    | in_default-via-else-entry-lt27+else-entry-lt32+then-entry-lt125 w ↦ answer_on false false 0x20 0x5D tt _ _ (omega arith) (omega arith)
-    | in_default-via-else-entry-lt27+else-entry-lt32+else-entry-lt125+else-entry-lt128+else-entry-lt134+then-entry-lt155 w ↦ answer_on false false 0x86 0x15 tt _ _ (omega arith) (omega arith)
-    | in_default-via-else-entry-lt27+else-entry-lt32+else-entry-lt125+else-entry-lt128+else-entry-lt134+else-entry-lt155+else-entry-lt160+then-entry-lt253 w ↦ answer_on false false 0xA0 0x5D tt _ _ (omega arith) (omega arith) ]
+      | in_default-via-then-entry-lt27 w ↦ answer_on false false 0 0x1B tt _ _ (omega arith) (omega arith)
+      | in_default-via-else-entry-lt27+else-entry-lt32+then-entry-lt125 w ↦ answer_on false false 0x20 0x5D tt _ _ (omega arith) (omega arith)
+      | in_default-via-else-entry-lt27+else-entry-lt32+else-entry-lt125+else-entry-lt128+else-entry-lt134+then-entry-lt155 w ↦ answer_on false false 0x86 0x15 tt _ _ (omega arith) (omega arith)
+      | in_default-via-else-entry-lt27+else-entry-lt32+else-entry-lt125+else-entry-lt128+else-entry-lt134+else-entry-lt155+else-entry-lt160+then-entry-lt253 w ↦ answer_on false false 0xA0 0x5D tt _ _ (omega arith) (omega arith)
+    ]

@@ -3,7 +3,6 @@
 use Rattle.base.proofs.Tests.{tests}
 use Rattle.keys.specs.Translation.{translate_of}
 use Rattle.keys.proofs.Laws.{translate_entry}
-use borrow.Author.Rules.{rules}
 use Rattle.keys.proofs.translate.Goals as goal
 
 pub returns-then-lock-gt2 : goal.returns-then-lock-gt2

@@ -2,11 +2,9 @@
 -- Assumes nothing.
 use mathlib.Core.Path.{◌≡◌}
 use Prim.Native.Nat.{◌≤◌, ◌-◌}
-use borrow.Author.Rules.{rules}
 use lib.ListN.{length}
 use lib.Seq.{sets}
 use Rattle.replies.specs.Replies.{bytes_at}
-use Rattle.replies.proofs.Stores.{copy_none, copy_turn, copy_all}
 use Rattle.replies.proofs.copy_each.Given as goal
 
 abbrev pub invariant-loop-i : goal.invariant-loop-i

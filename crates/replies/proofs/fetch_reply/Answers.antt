@@ -1,7 +1,6 @@
 -- `fetch_reply` meets its contract, by `fetch_few`, `fetch_many`, `fetch_past` and `fetch_made`.
 -- Assumes nothing.
 use Rattle.replies.proofs.Stores.{fetch_few, fetch_many, fetch_past, fetch_made}
-use borrow.Author.Rules.{rules}
 use Rattle.replies.proofs.fetch_reply.Goals as goal
 
 pub returns-then-count-lt1 : goal.returns-then-count-lt1

@@ -1,7 +1,6 @@
 -- `set_header` meets its contract, by `header_set`.
 -- Assumes nothing.
 use Rattle.replies.proofs.Stores.{header_set}
-use borrow.Author.Rules.{rules}
 use Rattle.replies.proofs.set_header.Goals as goal
 
 pub returns : goal.returns

@@ -1,7 +1,6 @@
 -- `close` meets its contract, by `close_none`, `close_some` and `close_other`.
 -- Assumes nothing.
 use Rattle.cassette.proofs.Laws.{close_none, close_some, close_other}
-use borrow.Author.Rules.{rules}
 use Rattle.cassette.proofs.Cassette.close.Goals as goal
 
 pub returns-then-place-eq0 : goal.returns-then-place-eq0

@@ -1,7 +1,6 @@
 -- `give` meets its contract, by `found_in`, `found_holds`, `give_bad`, `give_end` and `give_character`.
 -- Assumes nothing.
 use Rattle.cassette.proofs.Laws.{found_in, found_holds, give_bad, give_end, give_character}
-use borrow.Author.Rules.{rules}
 use Rattle.cassette.proofs.Cassette.give.Goals as goal
 
 pub next-cassette-requires : goal.next-cassette-requires

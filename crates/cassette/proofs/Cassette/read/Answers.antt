@@ -1,7 +1,6 @@
 -- `read` meets its contract, by `stand_found`, `read_there` and `read_closed`.
 -- Assumes nothing.
 use Rattle.cassette.proofs.Laws.{stand_found, read_there, read_closed}
-use borrow.Author.Rules.{rules}
 use Rattle.cassette.proofs.Cassette.read.Goals as goal
 
 pub give-requires : goal.give-requires

@@ -3,7 +3,6 @@
 use native.Mathlib.Omega.{arith}
 use Prim.Native.Nat.{◌<◌}
 use Rattle.cassette.proofs.Laws.{spent_in, stand_next, stand_here}
-use borrow.Author.Rules.{rules}
 use Rattle.cassette.proofs.Cassette.stand.Goals as goal
 
 pub overflow_add-after : goal.overflow_add-after

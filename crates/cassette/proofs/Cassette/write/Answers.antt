@@ -1,7 +1,6 @@
 -- `write` meets its contract, by `write_pending`, `write_full`, `write_end` and `write_closed`.
 -- Assumes nothing.
 use Rattle.cassette.proofs.Laws.{write_pending, write_full, write_end, write_closed}
-use borrow.Author.Rules.{rules}
 use Rattle.cassette.proofs.Cassette.write.Goals as goal
 
 pub returns-then-place-lt127 : goal.returns-then-place-lt127

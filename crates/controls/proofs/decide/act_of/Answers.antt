@@ -2,7 +2,6 @@
 -- Assumes nothing.
 use borrow.Author.Tests.{ne_eqb}
 use Rattle.controls.specs.Decide.{act_of}
-use borrow.Author.Rules.{rules}
 use Rattle.controls.proofs.decide.act_of.Goals as goal
 
 pub returns-in-155 : goal.returns-in-155

@@ -1,8 +1,6 @@
 -- `end` meets its contract, by `end_found`, `end_blank` and `end_none`.
 -- Assumes nothing.
-use mathlib.Core.Path.{◌≡◌, refl}
-use Prim.Native.Nat.{◌≤◌, ◌+◌, ◌*◌}
-use Rattle.editor.specs.Get.{cells_held}
+use mathlib.Core.Path.{refl}
 use Rattle.editor.proofs.Ends.{end_found, end_blank, end_none}
 use borrow.Author.Rules.{rules}
 use Rattle.editor.proofs.line.end.Goals as goal

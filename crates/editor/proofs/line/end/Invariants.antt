@@ -1,10 +1,8 @@
 -- `end` meets its contract, by `end_found`, `end_blank` and `end_none`.
 -- Assumes nothing.
-use mathlib.Core.Path.{◌≡◌, refl}
+use mathlib.Core.Path.{◌≡◌}
 use Prim.Native.Nat.{◌≤◌, ◌+◌, ◌*◌}
 use Rattle.editor.specs.Get.{cells_held}
-use Rattle.editor.proofs.Ends.{end_found, end_blank, end_none}
-use borrow.Author.Rules.{rules}
 use Rattle.editor.proofs.line.end.Given as goal
 
 abbrev pub invariant-loop-n : goal.invariant-loop-n

@@ -1,7 +1,6 @@
 -- `entry` meets its contract, by `none_there`, `own_past`, `own_below`, `own_above`, `letter_plain`, `letter_shift`, `letter_control` and `letter_none`.
 -- Assumes nothing.
 use Rattle.keys.proofs.Laws.{none_there, own_past, own_below, own_above, letter_plain, letter_shift, letter_control, letter_none}
-use borrow.Author.Rules.{rules}
 use Rattle.keys.specs.Table.{keys}
 use Rattle.keys.proofs.table.entry.Goals as goal
 

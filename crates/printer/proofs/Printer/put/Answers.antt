@@ -1,7 +1,6 @@
 -- `put` meets its contract: a law for a paper with room, and one for a full one.
 -- Assumes nothing.
 use Rattle.printer.proofs.Laws.{put_room, put_full}
-use borrow.Author.Rules.{rules}
 use Rattle.printer.proofs.Printer.put.Goals as goal
 
 pub returns-then-used-lt-PAPER : goal.returns-then-used-lt-PAPER

@@ -3,7 +3,6 @@
 use Rattle.base.proofs.Tests.{tests}
 use Rattle.keys.specs.Keyboard.{obeyed}
 use Rattle.keys.proofs.Laws.{obey_at}
-use borrow.Author.Rules.{rules}
 use Rattle.keys.proofs.keyboard.Keyboard.obey.Goals as goal
 
 pub returns-then-number-eq257 : goal.returns-then-number-eq257
