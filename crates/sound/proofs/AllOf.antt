@@ -25,6 +25,7 @@ all_differing {P} (and_so {c} {cs} p a) = choose_go (AllOf P) (eqb c.old c.new) 
 pub all_in : {P : Change → Type 0} {c : Change} {cs : List Change} → AllOf P cs → In c cs → P c
 all_in (and_so p a) here = p
 all_in (and_so p a) (later h) = all_in a h
+all_in no_change h = elim h [ ]
 
 pub all_of : {P : Change → Type 0} (cs : List Change) → ((c : Change) → In c cs → P c) → AllOf P cs
 all_of [] f = no_change

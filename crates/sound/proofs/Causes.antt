@@ -78,6 +78,7 @@ module _ (image : List ℕ) where
       in_left (file_changes image file.number (last_or 0 file.sectors) (length file.sectors)) (files_changes image files) h
   file_in (other ∷ files) file c (later f) h =
       in_right (file_changes image other.number (last_or 0 other.sectors) (length other.sectors)) (files_changes image files) (file_in files file c f h)
+  file_in [] file c f h = elim f [ ]
 
   map_in_lem : (files : List File) (left from more : ℕ) → more < left
       → In (change_to image 360 (10 + (from + more)) (map_byte image (in_files files) (8 * (from + more)))) (map_in image (in_files files) left from)

@@ -14,6 +14,7 @@ module _ {A : Type 0} {x : A} where
   pub in_left : (xs ys : List A) → In x xs → In x (xs ++ ys)
   in_left (y ∷ xs) ys here = here
   in_left (y ∷ xs) ys (later h) = later (in_left xs ys h)
+  in_left [] ys h = elim h [ ]
 
   pub in_right : (xs ys : List A) → In x ys → In x (xs ++ ys)
   in_right [] ys h = h

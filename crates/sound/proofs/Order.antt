@@ -11,7 +11,7 @@ use borrow.Author.Tests.{ne_eqb, le-leb, lt-leb}
 use lib.Dec.{eqb, eqb-suc-zero, leb}
 use lib.ListN.{length}
 use Rattle.base.proofs.Choices.{choose_go, and_false}
-use Rattle.image.specs.Image.{file_of, first_of}
+use Rattle.image.specs.Image.{file_of, first_of, next_of}
 use Rattle.image.specs.Chain.{GoodSector}
 use Rattle.chains.specs.Chains.{File, files_of, in_files, last_or}
 use Rattle.changes.specs.Changes.{Change, differing}
@@ -85,7 +85,7 @@ module _ (image : List ℕ) where
   last_good : (file first x : ℕ) (xs : List ℕ) → Stretch image file first (x ∷ xs) → GoodSector image 0 file (last_or 0 (x ∷ xs))
   unfolding last_or
   last_good file first x [] (further n r g t) = g
-  last_good file first x (y ∷ ys) (further n r g t) = last_good file _ y ys t
+  last_good file first x (y ∷ ys) (further n r g t) = last_good file (next_of image 0 first) y ys t
 
   last_rank : (file first x place : ℕ) (xs : List ℕ) → Stretch image file first (x ∷ xs) → rank image (last_or 0 (x ∷ xs)) place ≡ 256 * file + place
   last_rank file first x place xs t =

@@ -9,7 +9,7 @@ use native.Mathlib.Omega.{arith}
 use borrow.Author.Tests.{eq-eqb, ne_eqb}
 use Rattle.image.specs.Image.{flag_of, in_use}
 use Rattle.chains.specs.Chains.{claims, kept_by, File, files_in, files_of, sectors_of}
-use Rattle.chains.specs.Kept.{Kept, over, then}
+use Rattle.chains.specs.Kept.{Kept, then}
 use Rattle.chains.proofs.Truths.{never}
 use Rattle.chains.proofs.Claims.{claims_other}
 use Rattle.chains.proofs.Kept.{kept_rule}

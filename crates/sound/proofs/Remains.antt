@@ -28,6 +28,8 @@ found_used : {image : List ℕ} {entry : ℕ} {files : List File} {file : File} 
 found_used (passed h n u f) i = found_used f i
 found_used (used h u s f) here = u
 found_used (used h u s f) (later i) = found_used f i
+found_used (no_more h) i = elim i [ ]
+found_used (ended h e) i = elim i [ ]
 
 found_before : {image : List ℕ} {entry : ℕ} {files : List File} → FoundFrom image entry files → (file : File) → In file files → (end : ℕ) → entry ≤ end
     → flag_of image 0 end ≡ 0 → file.number < end
@@ -45,6 +47,8 @@ found_one a b (used h u s f) here here e = refl
 found_one a b (used h u s f) here (later j) e = absurd (omega (arith, found_from f b j))
 found_one a b (used h u s f) (later i) here e = absurd (omega (arith, found_from f a i))
 found_one a b (used h u s f) (later i) (later j) e = found_one a b f i j e
+found_one a b (no_more h) i j e = elim i [ ]
+found_one a b (ended h z) i j e = elim i [ ]
 
 module _ (image : List ℕ) (l : length image ≡ image_length) where
   entry_same : (entry place : ℕ) → place < 16 → changes_at (361 + entry / 8) (16 * (entry % 8) + place) (right_of image) ≡ 0

@@ -83,6 +83,7 @@ module _ (image : List ℕ) where
       (λ e. hit_in a h y after l w)
       (λ e. hit_in a h y (set after i d.new) (length-set after i d.new ∙ l)
       (other_byte image d c.sector c.place d.new t u.there u.inside n after ∙ w))
+  hit_in no_change h o after l w = elim h [ ]
 
   pub hit : length image ≡ image_length → (c : Change) → In c (right_of image) → sector_byte (repaired image) 0 c.sector c.place ≡ c.new
   unfolding changes_of

@@ -17,7 +17,7 @@ use Rattle.sound.proofs.Times.{times_append, in_times, times_file}
 use Rattle.sound.proofs.Usable.{stretch_usable, last_in, last_usable, a_file}
 use Rattle.sound.proofs.Walks.{found, once}
 use Rattle.sound.proofs.Entries.{own_place, own_number, entry_reserved, outside, no_entry, no_map}
-use Rattle.sound.proofs.Causes.{cut_high, cut_low, count_low, count_high, deletes, RightByte, of_file, free_low, free_high, map_byte_case, right_of, right_of_lem}
+use Rattle.sound.proofs.Causes.{OfFile, cut_high, cut_low, count_low, count_high, deletes, RightByte, of_file, free_low, free_high, map_byte_case, right_of, right_of_lem}
 use Rattle.sound.proofs.Places.{right_other, none_at}
 
 -- a sector of two files is one file's
@@ -34,6 +34,7 @@ one_file sector (file ∷ files) a b o (later f) here x y =
     absurd (omega (arith, times_append sector b.sectors (sectors_of files), in_times y, sector_times sector files a f x))
 one_file sector (file ∷ files) a b o (later f) (later g) x y =
     one_file sector files a b (omega (arith, times_append sector file.sectors (sectors_of files))) f g x y
+one_file sector [] a b o f g x y = elim f [ ]
 
 module _ (image : List ℕ) where
   a_last : (file : File) → In file (files_of image) → (file.sectors ≡ [] → ⊥) → is_reserved (last_or 0 file.sectors) ≡ false
@@ -47,12 +48,16 @@ module _ (image : List ℕ) where
         → changes_at sector place (right_of image) ≡ 0
     stays_unless high low = none_at sector place (right_of_lem image) no_right
       where
+        -- by what the change of a file is
+        no_file : (file : File) (c : Change) → In file (files_of image) → OfFile image file c → sector ≡ c.sector → place ≡ c.place → ⊥
+        no_file file c h (cut_high n) e q = high file h n e q
+        no_file file c h (cut_low n) e q = low file h n e q
+        no_file file c h (count_low k) e q = no_entry sector file.number (a_file (found image) h).number (outside sector r) e
+        no_file file c h (count_high k) e q = no_entry sector file.number (a_file (found image) h).number (outside sector r) e
+        no_file file c h (deletes a b) e q = no_entry sector file.number (a_file (found image) h).number (outside sector r) e
+
         no_right : (c : Change) → RightByte image (files_of image) c → sector ≡ c.sector → place ≡ c.place → ⊥
-        no_right c (of_file file h (cut_high n)) e q = high file h n e q
-        no_right c (of_file file h (cut_low n)) e q = low file h n e q
-        no_right c (of_file file h (count_low k)) e q = no_entry sector file.number (a_file (found image) h).number (outside sector r) e
-        no_right c (of_file file h (count_high k)) e q = no_entry sector file.number (a_file (found image) h).number (outside sector r) e
-        no_right c (of_file file h (deletes a b)) e q = no_entry sector file.number (a_file (found image) h).number (outside sector r) e
+        no_right c (of_file file h f) e q = no_file file c h f e q
         no_right c free_low e q = no_map sector (outside sector r) e
         no_right c free_high e q = no_map sector (outside sector r) e
         no_right c (map_byte_case byte l) e q = no_map sector (outside sector r) e
@@ -89,15 +94,19 @@ module _ (image : List ℕ) where
         → changes_at (361 + entry / 8) (16 * (entry % 8) + place) (right_of image) ≡ 0
     entry_unless low high flag = none_at (361 + entry / 8) (16 * (entry % 8) + place) (right_of_lem image) no_right
       where
-        no_right : (c : Change) → RightByte image (files_of image) c → 361 + entry / 8 ≡ c.sector → 16 * (entry % 8) + place ≡ c.place → ⊥
-        no_right c (of_file file h (cut_high n)) e q = never (entry_reserved entry l) (ap is_reserved e ∙ a_last file h n)
-        no_right c (of_file file h (cut_low n)) e q = never (entry_reserved entry l) (ap is_reserved e ∙ a_last file h n)
-        no_right c (of_file file h (count_low k)) e q =
+        -- by what the change of a file is
+        no_file : (file : File) (c : Change) → In file (files_of image) → OfFile image file c → 361 + entry / 8 ≡ c.sector → 16 * (entry % 8) + place ≡ c.place → ⊥
+        no_file file c h (cut_high n) e q = never (entry_reserved entry l) (ap is_reserved e ∙ a_last file h n)
+        no_file file c h (cut_low n) e q = never (entry_reserved entry l) (ap is_reserved e ∙ a_last file h n)
+        no_file file c h (count_low k) e q =
             low file h (sym (own_number entry file.number place 1 p (omega arith) e q)) k (own_place entry file.number place 1 p (omega arith) q)
-        no_right c (of_file file h (count_high k)) e q =
+        no_file file c h (count_high k) e q =
             high file h (sym (own_number entry file.number place 2 p (omega arith) e q)) k (own_place entry file.number place 2 p (omega arith) q)
-        no_right c (of_file file h (deletes a b)) e q =
+        no_file file c h (deletes a b) e q =
             flag file h (sym (own_number entry file.number place 0 p (omega arith) e q)) (own_place entry file.number place 0 p (omega arith) q) a b
+
+        no_right : (c : Change) → RightByte image (files_of image) c → 361 + entry / 8 ≡ c.sector → 16 * (entry % 8) + place ≡ c.place → ⊥
+        no_right c (of_file file h f) e q = no_file file c h f e q
         no_right c free_low e q = omega arith
         no_right c free_high e q = omega arith
         no_right c (map_byte_case byte k) e q = omega arith
@@ -128,12 +137,16 @@ module _ (image : List ℕ) where
       r : is_reserved 360 ≡ true
       r = refl
 
+      -- by what the change of a file is
+      no_file : (file : File) (c : Change) → In file (files_of image) → OfFile image file c → 360 ≡ c.sector → place ≡ c.place → ⊥
+      no_file file c h (cut_high k) e q = never r (ap is_reserved e ∙ a_last file h k)
+      no_file file c h (cut_low k) e q = never r (ap is_reserved e ∙ a_last file h k)
+      no_file file c h (count_low k) e q = omega arith
+      no_file file c h (count_high k) e q = omega arith
+      no_file file c h (deletes a b) e q = omega arith
+
       no_right : (c : Change) → RightByte image (files_of image) c → 360 ≡ c.sector → place ≡ c.place → ⊥
-      no_right c (of_file file h (cut_high k)) e q = never r (ap is_reserved e ∙ a_last file h k)
-      no_right c (of_file file h (cut_low k)) e q = never r (ap is_reserved e ∙ a_last file h k)
-      no_right c (of_file file h (count_low k)) e q = omega arith
-      no_right c (of_file file h (count_high k)) e q = omega arith
-      no_right c (of_file file h (deletes a b)) e q = omega arith
+      no_right c (of_file file h f) e q = no_file file c h f e q
       no_right c free_low e q = n q
       no_right c free_high e q = m q
       no_right c (map_byte_case byte l) e q = ⊎_elim (λ h. omega arith) (λ h. omega arith) o

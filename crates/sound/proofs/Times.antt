@@ -58,6 +58,7 @@ pub times_file : (s : ℕ) (file : File) (files : List File) → In file files �
 unfolding sectors_of
 times_file s file (f ∷ files) here = omega (arith, times_append s f.sectors (sectors_of files))
 times_file s file (f ∷ files) (later i) = omega (arith, times_append s f.sectors (sectors_of files), times_file s file files i)
+times_file s file [] i = elim i [ ]
 
 -- a list of numbers of 1 to n has as many members as these stand in it in all
 pub length_times : (n : ℕ) (xs : List ℕ) → times 0 xs ≡ 0 → ((s : ℕ) → n < s → times s xs ≡ 0) → length xs ≡ sum_to (λ s. times s xs) n

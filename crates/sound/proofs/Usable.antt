@@ -60,3 +60,5 @@ pub a_file : {image : List ℕ} {entry : ℕ} {files : List File} {file : File} 
 a_file (passed l n u f) h = a_file f h
 a_file (used l u s f) here = record { number = l; stretch = s }
 a_file (used l u s f) (later h) = a_file f h
+a_file (no_more l) h = elim h [ ]
+a_file (ended l e) h = elim h [ ]

@@ -1,7 +1,7 @@
 -- Document 02, Ask 13: what the doctor does to an image: what it leaves is sound, a sound image it leaves alone; the list has each changed byte
 -- once, and can be taken back; a file keeps a beginning of what its chain was; what else stays.
 -- Assumes nothing.
-use Rattle.std.specs.Prelude.{◌≡◌, ◌⊎◌, true, false, List, [], ◌∷◌, ℕ, ◌+◌, ◌*◌, ◌/◌, ◌%◌, ◌<◌, ◌≤◌, eqb, length, get_or, set}
+use Rattle.std.specs.Prelude.{◌≡◌, ◌⊎◌, false, List, [], ◌∷◌, ℕ, ◌+◌, ◌/◌, ◌%◌, ◌<◌, ◌≤◌, eqb, length, get_or, set}
 use Rattle.base.specs.Choice.{pick, and, bit}
 use Rattle.image.specs.Image.{image_length, sector_place, sector_byte, entry_byte, flag_of, in_use, first_of, next_of}
 use Rattle.chains.specs.Chains.{File, files_of, in_files}

@@ -1,6 +1,6 @@
 -- Document 02, Ask 13: a sound image, said of its bytes alone; and how its 719 sectors are shared out.
 -- Assumes nothing.
-use Rattle.std.specs.Prelude.{◌≡◌, Bool, true, false, List, [], ◌∷◌, ℕ, ◌+◌, ◌*◌, ◌/◌, ◌%◌, ◌<◌, ◌≤◌, eqb, length, get_or}
+use Rattle.std.specs.Prelude.{◌≡◌, Bool, true, false, List, [], ◌∷◌, ℕ, ◌+◌, ◌/◌, ◌%◌, ◌<◌, ◌≤◌, eqb, length, get_or}
 use Rattle.base.specs.Choice.{pick, bit}
 use Rattle.image.specs.Image.{sector_byte, flag_of, in_use, count_of, first_of, next_of}
 use Rattle.image.specs.Chain.{GoodSector}

@@ -1,11 +1,11 @@
 -- What each function of a character returns and leaves is what its definition says.
 -- Assumes nothing.
-use mathlib.Core.Path.{◌≡◌, ◌∙◌, refl, sym, ap}
-use mathlib.Core.Bool.{Bool, true, false}
+use mathlib.Core.Path.{◌≡◌, ◌∙◌, refl, ap}
+use mathlib.Core.Bool.{true}
 use mathlib.Core.List.{List}
-use Prim.Native.Nat.{ℕ, ◌+◌, ◌-◌, ◌<◌, ◌≤◌}
+use Prim.Native.Nat.{ℕ, ◌+◌}
 use native.Mathlib.Omega.{arith}
-use lib.Dec.{eqb, leb, ltb}
+use lib.Dec.{leb, ltb}
 use lib.ListN.{length, get_or, set, length-set}
 use borrow.Author.Tests.{eq-eqb, ne_eqb, ltb-true, leb-true}
 use Rattle.base.specs.Choice.{and}
@@ -20,11 +20,11 @@ use Rattle.blocks.specs.declared.Way.TheVariants.{One, Characters, Record}
 use Rattle.blocks.specs.declared.Run.{Run}
 use Rattle.blocks.specs.declared.Phase.TheVariants.{Running, Replying}
 use Rattle.blocks.specs.declared.Reply.{Reply}
-use Rattle.replies.specs.Replies.{call_reply, replied, replied_of, reply_of, reply_into, Replied}
+use Rattle.replies.specs.Replies.{call_reply, replied, replied_of, Replied}
 use Rattle.transfer.specs.declared.Next.{Next}
 use Rattle.transfer.specs.declared.Next.TheVariants.{On, Off}
 use Rattle.transfer.specs.declared.Carried.{Carried}
-use Rattle.transfer.specs.Transfer.{next_of, Progress, progress, further_of, ended_of, onward_of, eol, record_of, got_character, got_of, sent_byte, sent_record, sent_next, sent_of, out_of, in_port, landed}
+use Rattle.transfer.specs.Transfer.{next_of, Progress, progress, further_of, ended_of, onward_of, record_of, got_character, got_of, sent_byte, sent_record, sent_next, sent_of, out_of, in_port, landed}
 use Rattle.transfer.specs.Spans.{Further, span_fits, Spans}
 
 -- a character that is given, whichever its status

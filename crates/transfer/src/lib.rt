@@ -1,5 +1,6 @@
 // A running request's next character: what is sent, what becomes of a character got or sent, and the reply where it was the last.
 #![tactic(auto)]
+
 ghost use Rattle.std.specs.Prelude.{◌≡◌};
 ghost use Rattle.transfer.specs.Spans.{Further, Spans};
 ghost use Rattle.transfer.specs.Transfer.{next_of, progress, further_of, onward_of, ended_of, record_of, got_character, got_of, sent_byte, sent_record, sent_next, sent_of, in_port, out_of, landed};
