@@ -11,7 +11,7 @@ use lib.ListN.{length, take, drop, length-append, length-drop, drop_of_length-le
 use lib.Seq.{sets, sets-eq, take_at, take_all, drop_at, drop-drop, length-take-le}
 use Rattle.base.specs.Parts.{part}
 use Rattle.base.proofs.Choices.{by_eq}
-use Rattle.base.proofs.Parts.{sets_more, sets_over, sets_right, sets_within}
+use Rattle.base.proofs.Parts.{sets_over, sets_right, sets_within}
 use Rattle.base.proofs.Readers.{looks_part}
 use Rattle.blocks.specs.declared.ControlBlock.{ControlBlock}
 use Rattle.blocks.specs.declared.Phase.{Phase}

@@ -1,7 +1,7 @@
 -- A table's blocks in its bytes: the block of an IOCB stands at its place, and a block stored there is the table with that block.
 -- Assumes nothing.
 use mathlib.Core.Path.{◌≡◌, ◌∙◌, refl, sym, ap}
-use mathlib.Core.List.{List, []}
+use mathlib.Core.List.{List}
 use Prim.Native.Nat.{ℕ, zero, suc, ◌+◌, ◌*◌, ◌≤◌, ◌<◌}
 use native.Mathlib.Nat.{add-zero, zero-add}
 use native.Mathlib.Omega.{arith}
@@ -46,12 +46,14 @@ module _ (t : Table) (block : ControlBlock) where
   blocks_stored from zero i h l = absurd (omega arith)
   blocks_stored from (suc n) zero h l =
       let low : from < length t.blocks = omega arith in
-      rw (add-zero from, get_or-set_same t.blocks from block closed_block low, blocks_kept (suc from) n from (omega arith))
+      ap (λ (k : ℕ). blocks_bytes (with_block t k block) from (suc n)) (add-zero from)
+      ∙ rw (get_or-set_same t.blocks from block closed_block low, blocks_kept (suc from) n from (omega arith))
   blocks_stored from (suc n) (suc i) h l =
       let e : block_length * suc i ≡ suc (suc (suc (block_length * i))) = omega arith in
       let m : suc from + n ≤ length t.blocks = omega arith in
       let o : from + suc i ≡ suc from + i = omega arith in
-      rw (e, o) (cat (ap block_bytes (get_or-set_other t.blocks (suc from + i) from block closed_block (λ z. omega arith))) (blocks_stored (suc from) n i (omega arith) m))
+      ap (λ (k : ℕ). blocks_bytes (with_block t k block) from (suc n)) o
+      ∙ rw e (cat (ap block_bytes (get_or-set_other t.blocks (suc from + i) from block closed_block (λ z. omega arith))) (blocks_stored (suc from) n i (omega arith) m))
 
   pub table_stored : (i : ℕ) → i < 8 → length t.blocks ≡ 8 → table_bytes (with_block t i block) ≡ sets (table_bytes t) (block_length * i) (block_bytes block)
   table_stored i h l = ap (λ (k : ℕ). table_bytes (with_block t k block)) (sym (zero-add i)) ∙ blocks_stored 0 8 i h (omega arith)

@@ -41,12 +41,12 @@ pub fn perform_cut(
     tape: &mut [u8],
     images: &mut [u8],
 ) -> u16 {
-    let state_end = io::count(lengths.state as isize, state);
-    let area_end = io::count(lengths.area as isize, area);
-    let screen_end = io::count(lengths.screen as isize, screen);
-    let paper_end = io::count(lengths.paper as isize, paper);
-    let tape_end = io::count(lengths.tape as isize, tape);
-    let images_end = io::count(lengths.images as isize, images);
+    let state_end = (lengths.state as usize).min(state.len());
+    let area_end = (lengths.area as usize).min(area.len());
+    let screen_end = (lengths.screen as usize).min(screen.len());
+    let paper_end = (lengths.paper as usize).min(paper.len());
+    let tape_end = (lengths.tape as usize).min(tape.len());
+    let images_end = (lengths.images as usize).min(images.len());
     perform(
         call,
         &mut state[..state_end],

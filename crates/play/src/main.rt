@@ -1,16 +1,20 @@
 // Plays a call script from standard input on the stick, an op at a time: each is answered on standard output before the next is
-// read. It ends with the input, with an op cut by its end, or with a byte that is no op.
+// waited for. It ends with the input, with an op cut by its end, or with a byte that is no op.
 #![tactic(auto)]
+
 use layout::places;
 use script::answers;
 use script::lengths::LentLengths;
 use script::ops::Op;
+use script::streams::Streams;
+use std::io;
 
 mod calls;
 mod repairs;
 
 // A proved loop has to end, and nothing says that an input does: so its turns are counted, up to a number that no run reaches.
-fn main() {
+fn main(rt: HostRuntime) -> io::Result<()> {
+    let mut streams = Streams::new(rt.alloc(), rt.stdin(), rt.stdout())?;
     let mut some_state = [0u8; places::STATE];
     let mut some_area = [0u8; 2 * places::AREA];
     let mut some_screen = [0u8; firmware::SCREEN];
@@ -25,10 +29,9 @@ fn main() {
     let images: &mut [u8] = &mut some_images;
     let mut op = Op::Start;
     let mut lengths = LentLengths::whole();
-    let mut i: u64 = 0;
-    while i < u64::MAX {
+    for _ in 0..u64::MAX {
         if op.ends() {
-            return;
+            break;
         }
         let number = calls::perform_cut(
             op.call(),
@@ -41,8 +44,18 @@ fn main() {
             images,
         );
         lengths = lengths.after(op);
-        repairs::done(op, images);
-        op = answers::next(op, number, state, area, screen, paper, tape, images);
-        i += 1;
+        repairs::done(&mut streams, op, images)?;
+        op = answers::next(
+            &mut streams,
+            op,
+            number,
+            state,
+            area,
+            screen,
+            paper,
+            tape,
+            images,
+        )?;
     }
+    streams.flush()
 }

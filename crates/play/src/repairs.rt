@@ -2,27 +2,28 @@
 use firmware::{IMAGE, LIST};
 use script::changes;
 use script::ops::Op;
+use script::streams::Streams;
+use std::io;
 
 // What the doctor returns for a buffer of a wrong length.
 const REFUSED: u32 = 1;
 
-fn repair(image: &mut [u8]) {
+fn repair(streams: &mut Streams, image: &mut [u8]) -> io::Result<()> {
     let mut some_list = [0u8; LIST];
     let list: &mut [u8] = &mut some_list;
     let returned = firmware::fixlomand_doctor(image, list);
-    changes::write(returned, list);
+    changes::write(streams, returned, list)
 }
 
 // What an op asks of the doctor: an image that is not there is refused like one of a wrong length.
-pub fn done(op: Op, images: &mut [u8]) {
+pub fn done(streams: &mut Streams, op: Op, images: &mut [u8]) -> io::Result<()> {
     let Op::Doctor(n) = op else {
-        return;
+        return Ok(());
     };
     let from = IMAGE * (n as usize);
     let end = from + IMAGE;
     if end <= images.len() {
-        repair(&mut images[from..end]);
-        return;
+        return repair(streams, &mut images[from..end]);
     }
-    changes::write(REFUSED, b"");
+    changes::write(streams, REFUSED, b"")
 }

@@ -1,22 +1,25 @@
 // What is written for an op once the stick has been asked what the op asks.
 use crate::ops::{CallOp, Op};
+use crate::streams::Streams;
 use crate::{dump, ops, say, tape, ticks, writes};
+use std::io;
 
 // A call's answer, and of a give the reply byte: the low and the high byte of the number that the call returned.
-fn write(call: CallOp, number: u16) {
-    say::byte((number % 256) as u8);
+fn write(streams: &mut Streams, call: CallOp, number: u16) -> io::Result<()> {
+    say::byte(streams, (number % 256) as u8)?;
     match call {
-        CallOp::Nothing => {}
-        CallOp::Fresh => {}
-        CallOp::Take(port, byte) => {}
-        CallOp::Tick(port) => {}
-        CallOp::Give(port) => say::byte((number / 256) as u8),
-        CallOp::Press(code) => {}
+        CallOp::Nothing => Ok(()),
+        CallOp::Fresh => Ok(()),
+        CallOp::Take(port, byte) => Ok(()),
+        CallOp::Tick(port) => Ok(()),
+        CallOp::Give(port) => say::byte(streams, (number / 256) as u8),
+        CallOp::Press(code) => Ok(()),
     }
 }
 
 // Writes it, and returns the op that is next.
 fn answered(
+    streams: &mut Streams,
     op: Op,
     number: u16,
     state: &[u8],
@@ -24,33 +27,34 @@ fn answered(
     screen: &[u8],
     paper: &[u8],
     tape: &[u8],
-) -> Op {
+) -> io::Result<Op> {
     match op {
-        Op::Start => ops::read(),
-        Op::End => Op::End,
-        Op::Lend(which, length) => ops::read(),
-        Op::Write(which, at, count) => ops::read(),
+        Op::Start => ops::read(streams),
+        Op::End => Ok(Op::End),
+        Op::Lend(which, length) => ops::read(streams),
+        Op::Write(which, at, count) => ops::read(streams),
         Op::Dump => {
-            dump::write(state, area, screen, paper);
-            ops::read()
+            dump::write(streams, state, area, screen, paper)?;
+            ops::read(streams)
         }
         Op::DumpTape => {
-            tape::write(state, tape);
-            ops::read()
+            tape::write(streams, state, tape)?;
+            ops::read(streams)
         }
-        Op::Doctor(n) => ops::read(),
+        Op::Doctor(n) => ops::read(streams),
         Op::Ticks(port, most, made) => {
-            ticks::next(port, most, made, (number % 256) as u8, state)
+            ticks::next(streams, port, most, made, (number % 256) as u8, state)
         }
         Op::Call(call) => {
-            write(call, number);
-            ops::read()
+            write(streams, call, number)?;
+            ops::read(streams)
         }
     }
 }
 
 // The same, once an op that writes into a buffer has done so.
 pub fn next(
+    streams: &mut Streams,
     op: Op,
     number: u16,
     state: &[u8],
@@ -59,7 +63,7 @@ pub fn next(
     paper: &mut [u8],
     tape: &mut [u8],
     images: &mut [u8],
-) -> Op {
-    let done = writes::done(op, area, screen, paper, tape, images);
-    answered(done, number, state, area, screen, paper, tape)
+) -> io::Result<Op> {
+    let done = writes::done(streams, op, area, screen, paper, tape, images)?;
+    answered(streams, done, number, state, area, screen, paper, tape)
 }

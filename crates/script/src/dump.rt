@@ -1,7 +1,9 @@
 // A dump: area, screen and paper whole, then what the state holds but for the cassette and the blocks' places on diskettes, from its
 // bytes.
 use crate::say;
+use crate::streams::Streams;
 use layout::places;
+use std::io;
 
 const CONSOLE: usize = places::DEVICES + places::CONSOLE;
 
@@ -22,43 +24,49 @@ fn letter(device: u8) -> u8 {
 }
 
 // Open, device letter, number, AUX1; zeros for a closed block.
-fn write_block(device: u8, number: u8, aux1: u8) {
+fn write_block(streams: &mut Streams, device: u8, number: u8, aux1: u8) -> io::Result<()> {
     if device == 0 {
-        say::bytes(b"\x00\x00\x00\x00");
-        return;
+        return say::bytes(streams, b"\x00\x00\x00\x00");
     }
     let some = [1, letter(device), number, aux1];
-    say::bytes(&some);
+    say::bytes(streams, &some)
 }
 
 // A port's blocks.
-fn write_table(table: &[u8]) {
-    let mut i: usize = 0;
-    while i < 8 {
+fn write_table(streams: &mut Streams, table: &[u8]) -> io::Result<()> {
+    for i in 0..8 {
         let place = places::BLOCK * i;
         write_block(
+            streams,
             base::byte_at(table, place),
             base::byte_at(table, place + 1),
             base::byte_at(table, place + 2),
-        );
-        i += 1;
+        )?;
     }
+    Ok(())
 }
 
-fn write_state(state: &[u8]) {
+fn write_state(streams: &mut Streams, state: &[u8]) -> io::Result<()> {
     if state.len() == places::STATE {
-        say::bytes(&state[PRINTER..CASSETTE]);
-        say::bytes(&state[CONSOLE..PRINTER]);
-        write_table(&state[places::PHASE..]);
-        write_table(&state[places::PORT + places::PHASE..]);
-        say::byte(state[0]);
-        say::byte(state[places::PORT]);
+        say::bytes(streams, &state[PRINTER..CASSETTE])?;
+        say::bytes(streams, &state[CONSOLE..PRINTER])?;
+        write_table(streams, &state[places::PHASE..])?;
+        write_table(streams, &state[places::PORT + places::PHASE..])?;
+        say::byte(streams, state[0])?;
+        say::byte(streams, state[places::PORT])?;
     }
+    Ok(())
 }
 
-pub fn write(state: &[u8], area: &[u8], screen: &[u8], paper: &[u8]) {
-    say::bytes(area);
-    say::bytes(screen);
-    say::bytes(paper);
-    write_state(state);
+pub fn write(
+    streams: &mut Streams,
+    state: &[u8],
+    area: &[u8],
+    screen: &[u8],
+    paper: &[u8],
+) -> io::Result<()> {
+    say::bytes(streams, area)?;
+    say::bytes(streams, screen)?;
+    say::bytes(streams, paper)?;
+    write_state(streams, state)
 }

@@ -1,12 +1,14 @@
 // A call script: its ops, read from standard input, how much of each buffer they lend, and what is written for them on standard
 // output. What reads the one and writes the other promises nothing: no promise can speak of either.
 #![tactic(auto)]
+
 pub mod answers;
 pub mod changes;
 pub mod dump;
 pub mod lengths;
 pub mod ops;
 pub mod say;
+pub mod streams;
 pub mod tape;
 pub mod ticks;
 pub mod writes;

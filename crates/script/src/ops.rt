@@ -1,5 +1,6 @@
 // The ops of a call script, read from standard input: one byte and its operands, numbers low byte first.
-use libc::STDIN_FILENO;
+use crate::streams::Streams;
+use std::io;
 
 // What the stick is asked: one of the five calls, or none.
 #[derive(Clone, Copy)]
@@ -107,23 +108,21 @@ fn op_of(op: u8, first: u8, second: u8, third: u8, fourth: u8, fifth: u8, sixth:
 }
 
 // The operands of an op that has been read.
-fn read_operands(op: u8) -> Op {
+fn read_operands(streams: &mut Streams, op: u8) -> io::Result<Op> {
     let mut bytes = [0u8; 6];
-    let n = io::count(operands(op) as isize, &bytes);
-    let got = io::read_full(STDIN_FILENO, &mut bytes[..n]);
-    if got < n {
-        return Op::End;
+    let n = (operands(op) as usize).min(bytes.len());
+    if !streams.fill(&mut bytes[..n])? {
+        return Ok(Op::End);
     }
-    op_of(
+    Ok(op_of(
         op, bytes[0], bytes[1], bytes[2], bytes[3], bytes[4], bytes[5],
-    )
+    ))
 }
 
-pub fn read() -> Op {
+pub fn read(streams: &mut Streams) -> io::Result<Op> {
     let mut bytes = [0u8; 1];
-    let got = io::read_full(STDIN_FILENO, &mut bytes);
-    if got < 1 {
-        return Op::End;
+    if !streams.fill(&mut bytes)? {
+        return Ok(Op::End);
     }
-    read_operands(bytes[0])
+    read_operands(streams, bytes[0])
 }

@@ -1,17 +1,18 @@
 // Bytes on standard output.
-use libc::STDOUT_FILENO;
+use crate::streams::Streams;
+use std::io;
 
-pub fn bytes(some: &[u8]) {
-    io::write_all(STDOUT_FILENO, some);
+pub fn bytes(streams: &mut Streams, some: &[u8]) -> io::Result<()> {
+    streams.write(some)
 }
 
-pub fn byte(one: u8) {
+pub fn byte(streams: &mut Streams, one: u8) -> io::Result<()> {
     let some = [one];
-    bytes(&some);
+    bytes(streams, &some)
 }
 
 // A number of two bytes, the low one first.
-pub fn word(number: u16) {
+pub fn word(streams: &mut Streams, number: u16) -> io::Result<()> {
     let some = [(number % 256) as u8, (number / 256) as u8];
-    bytes(&some);
+    bytes(streams, &some)
 }

@@ -1,6 +1,8 @@
 // A dump of the tape: its bytes whole, then what the state holds of the cassette.
 use crate::say;
+use crate::streams::Streams;
 use layout::places;
+use std::io;
 
 const CASSETTE: usize = places::DEVICES + places::CASSETTE;
 
@@ -20,28 +22,29 @@ fn pending(mark: u8, place: u8) -> u8 {
 }
 
 // The first characters of some, and zeros behind them.
-fn write_pending(some: &[u8], count: u8) {
+fn write_pending(streams: &mut Streams, some: &[u8], count: u8) -> io::Result<()> {
     let zeros = [0u8; places::PENDED];
-    let here = io::count(count as isize, some);
-    let behind = io::count(count as isize, &zeros);
-    say::bytes(&some[..here]);
-    say::bytes(&zeros[behind..]);
+    let here = (count as usize).min(some.len());
+    let behind = (count as usize).min(zeros.len());
+    say::bytes(streams, &some[..here])?;
+    say::bytes(streams, &zeros[behind..])
 }
 
 // Mark, record as two bytes, place, and the pending characters.
-fn write_cassette(state: &[u8]) {
+fn write_cassette(streams: &mut Streams, state: &[u8]) -> io::Result<()> {
     if state.len() == places::STATE {
         let mark = state[CASSETTE];
         let place = state[CASSETTE + 2];
-        say::byte(mark);
-        say::byte(state[CASSETTE + 1]);
-        say::byte(0);
-        say::byte(place);
-        write_pending(&state[PENDING..DISK], pending(mark, place));
+        say::byte(streams, mark)?;
+        say::byte(streams, state[CASSETTE + 1])?;
+        say::byte(streams, 0)?;
+        say::byte(streams, place)?;
+        write_pending(streams, &state[PENDING..DISK], pending(mark, place))?;
     }
+    Ok(())
 }
 
-pub fn write(state: &[u8], tape: &[u8]) {
-    say::bytes(tape);
-    write_cassette(state);
+pub fn write(streams: &mut Streams, state: &[u8], tape: &[u8]) -> io::Result<()> {
+    say::bytes(streams, tape)?;
+    write_cassette(streams, state)
 }

@@ -1,7 +1,9 @@
 // Ticks of a port, as many as there are while it runs on.
 use crate::ops::Op;
+use crate::streams::Streams;
 use crate::{ops, say};
 use layout::places;
+use std::io;
 
 // A port's first byte, while it runs.
 const RUNNING: u8 = 2;
@@ -23,14 +25,21 @@ fn runs_on(state: &[u8], port: u8, answer: u8) -> bool {
 }
 
 // The ticks that are left; or how many there were and the last one's answer are written, and the next op is read.
-pub fn next(port: u8, most: u16, made: u16, answer: u8, state: &[u8]) -> Op {
+pub fn next(
+    streams: &mut Streams,
+    port: u8,
+    most: u16,
+    made: u16,
+    answer: u8,
+    state: &[u8],
+) -> io::Result<Op> {
     let now = made_now(most, made);
     if now < most {
         if runs_on(state, port, answer) {
-            return Op::Ticks(port, most, now);
+            return Ok(Op::Ticks(port, most, now));
         }
     }
-    say::word(now);
-    say::byte(answer);
-    ops::read()
+    say::word(streams, now)?;
+    say::byte(streams, answer)?;
+    ops::read(streams)
 }

@@ -1,19 +1,21 @@
 // Bytes that a script writes into a buffer, whatever length of it is lent.
 use crate::ops::Op;
-use libc::STDIN_FILENO;
+use crate::streams::Streams;
+use std::io;
+
+// The most bytes that an op writes.
+const ROOM: usize = 65536;
 
 // As many as the buffer has places.
 fn copy(some: &[u8], into: &mut [u8]) {
-    let mut i: usize = 0;
-    while i < some.len() {
+    for i in 0..some.len() {
         base::set_byte(into, i, some[i]);
-        i += 1;
     }
 }
 
 // From a place of the buffer on, cut at its end.
 fn put(some: &[u8], at: u32, into: &mut [u8]) {
-    let from = io::count(at as isize, into);
+    let from = (at as usize).min(into.len());
     copy(some, &mut into[from..]);
 }
 
@@ -40,6 +42,7 @@ fn put_into(
 
 // The bytes are read, and written once all are there; false where the input ends before.
 fn write(
+    streams: &mut Streams,
     which: u8,
     at: u32,
     some: &mut [u8],
@@ -48,17 +51,17 @@ fn write(
     paper: &mut [u8],
     tape: &mut [u8],
     images: &mut [u8],
-) -> bool {
-    let got = io::read_full(STDIN_FILENO, some);
-    if got < some.len() {
-        return false;
+) -> io::Result<bool> {
+    if !streams.fill(some)? {
+        return Ok(false);
     }
     put_into(which, at, some, area, screen, paper, tape, images);
-    true
+    Ok(true)
 }
 
 // So many of them, by way of a space that has room for all.
 fn write_some(
+    streams: &mut Streams,
     which: u8,
     at: u32,
     count: u16,
@@ -68,9 +71,10 @@ fn write_some(
     paper: &mut [u8],
     tape: &mut [u8],
     images: &mut [u8],
-) -> bool {
-    let n = io::count(count as isize, space);
+) -> io::Result<bool> {
+    let n = (count as usize).min(space.len());
     write(
+        streams,
         which,
         at,
         &mut space[..n],
@@ -83,6 +87,7 @@ fn write_some(
 }
 
 fn write_all(
+    streams: &mut Streams,
     which: u8,
     at: u32,
     count: u16,
@@ -91,26 +96,29 @@ fn write_all(
     paper: &mut [u8],
     tape: &mut [u8],
     images: &mut [u8],
-) -> bool {
-    let mut room = io::large_buffer();
+) -> io::Result<bool> {
+    let mut room = [0u8; ROOM];
     let space: &mut [u8] = &mut room;
-    write_some(which, at, count, space, area, screen, paper, tape, images)
+    write_some(
+        streams, which, at, count, space, area, screen, paper, tape, images,
+    )
 }
 
 // What an op writes into a buffer; the op, or the end of the script where the input ends inside it.
 pub fn done(
+    streams: &mut Streams,
     op: Op,
     area: &mut [u8],
     screen: &mut [u8],
     paper: &mut [u8],
     tape: &mut [u8],
     images: &mut [u8],
-) -> Op {
+) -> io::Result<Op> {
     let Op::Write(which, at, count) = op else {
-        return op;
+        return Ok(op);
     };
-    if write_all(which, at, count, area, screen, paper, tape, images) {
-        return op;
+    if write_all(streams, which, at, count, area, screen, paper, tape, images)? {
+        return Ok(op);
     }
-    Op::End
+    Ok(Op::End)
 }
