@@ -7,7 +7,6 @@ use Prim.Native.Nat.{ℕ, ◌+◌, ◌<◌}
 use native.Mathlib.Omega.{arith}
 use borrow.Author.Tests.{ne_eqb, ltb-true}
 use lib.Dec.{ltb}
-use lib.ListN.{length}
 use Rattle.base.proofs.Choices.{and_right, by_eq}
 use Rattle.console.specs.declared.state.Console.{Console}
 use Rattle.blocks.specs.declared.Gather.{Gather}

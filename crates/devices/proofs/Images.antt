@@ -4,7 +4,6 @@ use mathlib.Core.Path.{◌≡◌, refl, sym, ap}
 use mathlib.Core.List.{List}
 use Prim.Native.Nat.{ℕ}
 use Rattle.handler.specs.declared.Asked.{Asked}
-use Rattle.handler.specs.Answer.{Answer, answer}
 use Rattle.blocks.specs.declared.Device.{Device}
 use Rattle.blocks.specs.declared.Device.TheVariants.{E, S, K, P, C, D}
 use Rattle.devices.specs.Kept.{ActsKeep}

@@ -1,8 +1,8 @@
 -- An undamaged group goes into its bytes, and an opening leaves it undamaged; so does SPECIAL.
 -- Assumes nothing.
 use mathlib.Core.Path.{◌≡◌, ◌∙◌}
-use mathlib.Core.Bool.{Bool, true, false}
-use Prim.Native.Nat.{ℕ, ◌≤◌, ◌<◌}
+use mathlib.Core.Bool.{true}
+use Prim.Native.Nat.{ℕ, ◌<◌}
 use native.Mathlib.Omega.{arith}
 use lib.Dec.{leb, ltb}
 use lib.Seq.{length-sets}
@@ -15,7 +15,7 @@ use Rattle.cells.proofs.Shapes.{shape_good}
 use Rattle.editor.specs.declared.ReadColumn.{ReadColumn}
 use Rattle.editor.specs.declared.ReadColumn.TheVariants.{Dropped, At}
 use Rattle.console.specs.declared.state.Console.{Console}
-use Rattle.console.specs.Fit.{cursor_fits, reading_fits, keys_fit, fit_of, FitGroup}
+use Rattle.console.specs.Fit.{cursor_fits, reading_fits, keys_fit, fit_of}
 use Rattle.layout.specs.InBytes.{ReadingInBytes}
 use Rattle.console.proofs.Keeps.{open_fit}
 use Rattle.cassette.proofs.Keeps as cassette_keeps

@@ -2,23 +2,15 @@
 -- stays, and what goes into its bytes is got back.
 -- Assumes nothing.
 use mathlib.Core.Path.{◌≡◌, ◌∙◌, refl, sym, ap}
-use mathlib.Core.Bool.{Bool, true, false}
 use mathlib.Core.List.{List, [], ◌++◌, append_assoc, append-nil}
-use Prim.Native.Nat.{ℕ, ◌≤◌, ◌<◌}
-use native.Mathlib.Omega.{arith}
+use Prim.Native.Nat.{ℕ, ◌<◌}
 use lib.ListN.{length, drop, length-append}
 use lib.Seq.{sets}
 use Rattle.base.proofs.Parts.{sets_over}
-use Rattle.handler.specs.declared.Asked.{Asked}
-use Rattle.handler.specs.Acts.{Acts}
-use Rattle.cells.proofs.Shapes.{shape_good}
-use Rattle.editor.specs.declared.ReadColumn.{ReadColumn}
-use Rattle.editor.specs.declared.ReadColumn.TheVariants.{Dropped, At}
 use Rattle.console.specs.declared.state.Console.{Console}
-use Rattle.console.specs.Group.{ConsoleGroup, group}
-use Rattle.console.specs.Fit.{FitGroup}
+use Rattle.console.specs.Group.{group}
 use Rattle.printer.specs.declared.Printer.{Printer}
-use Rattle.printer.specs.Printer.{PrinterGroup, printer_group}
+use Rattle.printer.specs.Printer.{printer_group}
 use Rattle.cassette.specs.declared.Cassette.{Cassette}
 use Rattle.disk.specs.Disk.{places_length}
 use Rattle.layout.specs.Places.{console_place, printer_place, cassette_place, pending_place, pending_length, disk_place}
@@ -27,7 +19,6 @@ use Rattle.layout.specs.Layout.{console_bytes, printer_bytes, cassette_bytes, ar
 use Rattle.layout.specs.InBytes.{ReadingInBytes}
 use Rattle.layout.proofs.Lengths.{console_length_lem, printer_length_lem, cassette_length_lem, array_length}
 use Rattle.layout.proofs.ReadWrite.{console_in_lem, printer_in_lem, cassette_in_lem, pending_in, places_in_lem}
-use Rattle.devices.specs.declared.Group.{Group}
 use Rattle.devices.specs.declared.Group.TheVariants as groups
 use Rattle.devices.specs.declared.Owner.{Owner}
 use Rattle.devices.specs.declared.Owner.TheVariants as owner

@@ -2,6 +2,7 @@
 // writes its own group's numbers, which are a part of the lent state, and is lent its own group's buffer alone. An arm of the console
 // that changes nothing writes back what it read.
 #![tactic(auto)]
+
 pub mod fresh;
 pub mod numbers;
 

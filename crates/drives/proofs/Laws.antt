@@ -1,8 +1,8 @@
 -- What each act leaves is the diskettes' group, put back into its bytes; and a block's place is read where it lies.
 -- Assumes nothing.
-use mathlib.Core.Path.{◌≡◌, ◌∙◌, refl, sym, ap}
+use mathlib.Core.Path.{◌≡◌, ◌∙◌, sym, ap}
 use mathlib.Core.List.{List, ◌++◌}
-use Prim.Native.Nat.{ℕ, ◌+◌, ◌*◌, ◌-◌, ◌%◌, ◌≤◌, ◌<◌}
+use Prim.Native.Nat.{ℕ, ◌+◌, ◌*◌, ◌-◌, ◌≤◌, ◌<◌}
 use native.Mathlib.Nat.{mod-lt}
 use native.Mathlib.Omega.{arith}
 use lib.ListN.{length, take, drop}
@@ -16,7 +16,7 @@ use Rattle.handler.specs.declared.Done.{Done}
 use Rattle.handler.specs.Answer.{Answer, answer, seen}
 use Rattle.disk.specs.Disk.{place_length, places_length, place_number, place_at, place_opened, place_read, place_status, disk_group, get_place, put_place, disk_acts}
 use Rattle.disk.proofs.Keeps.{open_length, read_length}
-use Rattle.layout.specs.Places.{disk_place, devices_length, Numbers}
+use Rattle.layout.specs.Places.{disk_place, Numbers}
 use Rattle.layout.specs.Layout.{array_bytes, array_in}
 use Rattle.layout.proofs.ReadWrite.{array_is}
 use Rattle.layout.proofs.Fields.{array_looks}

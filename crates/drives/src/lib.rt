@@ -1,6 +1,7 @@
 // The diskettes over what is lent of them: the places of the blocks that have D open, which are a part of the devices' numbers, and the
 // images, which no act changes. A block's own place is lent on and never copied.
 #![tactic(auto)]
+
 ghost use Rattle.std.specs.Prelude.{◌≡◌, ◌+◌};
 ghost use Rattle.handler.specs.Answer.{answer, seen};
 ghost use Rattle.disk.specs.Disk.{disk_acts};

@@ -1,5 +1,6 @@
 // Whether the bytes of a lent state stand for an undamaged stick: each byte is looked at once, in the order of damage's Whole.
 #![tactic(auto)]
+
 ghost use Rattle.std.specs.Prelude.{◌≡◌, ◌+◌, ◌*◌, ◌≤◌, eqb, leb, length, drop};
 ghost use Rattle.base.specs.Choice.{pick, and};
 ghost use Rattle.base.specs.Parts.{part};

@@ -30,7 +30,6 @@ use Rattle.plan.specs.declared.After.TheVariants as after
 use Rattle.plan.specs.declared.Work.{Work}
 use Rattle.plan.specs.declared.Work.TheVariants as work
 use Rattle.plan.specs.declared.Job.{Job}
-use Rattle.plan.specs.declared.Errand.{Errand}
 use Rattle.plan.specs.declared.Errand.TheVariants as errand
 use Rattle.plan.specs.declared.Plan.{Plan}
 use Rattle.plan.specs.declared.Plan.TheVariants as plan

@@ -1,5 +1,6 @@
 // What the checks before the group come to: a status at once, or work on a device; the checks of a specification and of a buffer.
 #![tactic(auto)]
+
 ghost use Rattle.std.specs.Prelude.{◌≡◌};
 ghost use Rattle.blocks.specs.Opening.{specification_of};
 ghost use Rattle.plan.specs.Plan.{planned_of, name_of, has_names, named_for, named_plan, open_plan, area_plan, transfer_plan, group_needed};

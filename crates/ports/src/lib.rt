@@ -1,5 +1,6 @@
 // A port's own parts of the lent state, the port a parameter: its phase and the blocks of its table.
 #![tactic(auto)]
+
 ghost use Rattle.std.specs.Prelude.{◌≡◌, ltb, drop};
 ghost use Rattle.std.proofs.lemmas.List.Edits.{sets};
 ghost use Rattle.base.specs.Choice.{pick};

@@ -1,5 +1,6 @@
 // Each part of a lent state, read from its bytes: a part from its first byte on.
 #![tactic(auto)]
+
 ghost use Rattle.std.specs.Prelude.{◌≡◌, ◌+◌, ◌*◌, ◌≤◌, length};
 ghost use Rattle.wire.specs.Messages.{word_of};
 ghost use Rattle.layout.specs.Places.{phase_length, block_length, console_length, printer_length, cassette_length};

@@ -22,11 +22,11 @@ use Rattle.handler.specs.Answer.{Answer, answer, seen}
 use Rattle.cassette.specs.declared.Cassette.{Cassette}
 use Rattle.cassette.specs.Cassette.{CassetteGroup, cassette_group, with_cassette, tape_opened, open_of, close_of, gotten_of, read_of, taken_of, write_of}
 use Rattle.cassette.specs.Fit.{fits_cassette}
-use Rattle.layout.specs.Places.{cassette_place, cassette_length, pending_place, pending_length, devices_length, Numbers}
+use Rattle.layout.specs.Places.{cassette_place, cassette_length, pending_place, pending_length, Numbers}
 use Rattle.layout.specs.Layout.{cassette_bytes, array_bytes, cassette_in, array_in}
 use Rattle.layout.proofs.Lengths.{cassette_length_lem}
 use Rattle.layout.proofs.ReadWrite.{array_is}
-use Rattle.recorder.specs.Recorder.{TapeLent, tape_lent, get_tape, put_tape, Wound}
+use Rattle.recorder.specs.Recorder.{tape_lent, get_tape, put_tape, Wound}
 
 -- a part stored where it lies changes nothing
 pub sets_part : (p n : ℕ) (xs : List ℕ) → p + n ≤ length xs → sets xs p (part p n xs) ≡ xs

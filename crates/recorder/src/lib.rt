@@ -1,6 +1,7 @@
 // The cassette over what is lent of it: its three numbers and its pending characters, which are a part of the devices' numbers, and the
 // tape. The pending characters are lent on to it and never copied.
 #![tactic(auto)]
+
 ghost use Rattle.std.specs.Prelude.{◌≡◌, eqb, leb, drop};
 ghost use Rattle.std.proofs.lemmas.List.Edits.{sets};
 ghost use Rattle.base.specs.Choice.{and, or};

@@ -1,0 +1,7 @@
+-- `reading_byte` meets its contract, by `reading_written`.
+-- Assumes nothing.
+use Rattle.writing.proofs.Laws.{reading_written}
+use Rattle.writing.proofs.reading_byte.Goals as goal
+
+pub returns-in-At : goal.returns-in-At
+returns-in-At c = search reading_written
