@@ -112,10 +112,11 @@ module _ {D : Type 0} (H : Acts D) where
   drops_behind : (x : D) → GoesOn H Record 0 x 0 → (k : ℕ) → ReadsTo H Record 0 (H.reads x).leaves k → ReadsTo H Record 0 x (suc k)
   drops_behind x g k q = before_suc (GoesOn H Record 0 x) k g (λ j h. record { status = (q j h).status; byte = (q j h).byte; given = (q j h).given; more = (q j h).more })
 
-  drop_behind : {status count : ℕ} {y : D} (x : D) → GoesOn H Record 0 x 0 → GetEnds H Record 0 (H.reads x).leaves status count y → GetEnds H Record 0 x status count y
-  drop_behind x g (get_refused k status q e h) = get_refused (suc k) status (drops_behind x g k q) e h
-  drop_behind x g (get_whole k status byte q e l h) = absurd (let b = h refl in omega arith)
-  drop_behind x g (get_cut k status q e r h) = get_cut (suc k) status (drops_behind x g k q) e r (omega arith)
+  module _ (x : D) where
+    drop_behind : {status count : ℕ} {y : D} → GoesOn H Record 0 x 0 → GetEnds H Record 0 (H.reads x).leaves status count y → GetEnds H Record 0 x status count y
+    drop_behind g (get_refused k status q e h) = get_refused (suc k) status (drops_behind x g k q) e h
+    drop_behind g (get_whole k status byte q e l h) = absurd (let b = h refl in omega arith)
+    drop_behind g (get_cut k status q e r h) = get_cut (suc k) status (drops_behind x g k q) e r (omega arith)
 
   module _ (left : D → ℕ) (a : ℕ) where
     abbrev GotAs : Way → (n : ℕ) → D → (before : ℕ) → TransferEnd D → Type 0

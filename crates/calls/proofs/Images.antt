@@ -1,6 +1,6 @@
 -- No call changes an image: "Lent bytes are read as they lie", and no act of any device writes them.
 -- Assumes nothing.
-use mathlib.Core.Path.{◌≡◌, ◌∙◌, refl, sym, ap}
+use mathlib.Core.Path.{◌≡◌, refl, sym, ap}
 use mathlib.Core.List.{List, []}
 use Prim.Native.Nat.{ℕ}
 use lib.Dec.{eqb}
@@ -16,24 +16,21 @@ use Rattle.layout.specs.Stick.{Stick, Lent, port_at, other_at}
 use Rattle.devices.specs.declared.Group.{Group}
 use Rattle.devices.specs.declared.Owner.{Owner}
 use Rattle.devices.specs.declared.Owner.TheVariants as owner
-use Rattle.devices.specs.Groups.{Groups, Part, get_group, put_group, group_in, group_of, owner_of, own_acts, device_acts, held_of, clash}
+use Rattle.devices.specs.Groups.{Groups, Part, get_group, put_group, group_in, owner_of, own_acts, held_of, clash}
 use Rattle.devices.specs.Kept.{ActsKeep}
-use Rattle.devices.specs.Lent.{lent_acts, devices_lent}
-use Rattle.plan.specs.declared.Errand.{Errand}
-use Rattle.plan.specs.declared.Job.{Job}
+use Rattle.devices.specs.Lent.{devices_lent}
 use Rattle.plan.specs.declared.Plan.{Plan}
 use Rattle.plan.specs.declared.Plan.TheVariants as plan
 use Rattle.plan.specs.Plan.{plan_of, group_needed}
-use Rattle.moves.specs.Move.{advance_of}
 use Rattle.moves.proofs.Kept.{advance_keeps, advance_images}
-use Rattle.cio.specs.Start.{job_begun, start_of}
-use Rattle.cio.proofs.Kept.{job_keeps, job_images}
-use Rattle.calls.specs.Port.{Reach, Ticked, ticked, start_plan, move_run, ready_tick, tick_port}
+use Rattle.cio.specs.Start.{start_of}
+use Rattle.cio.proofs.Kept.{job_keeps}
+use Rattle.calls.specs.Port.{Reach, Ticked, start_plan, move_run, ready_tick, tick_port}
 use Rattle.calls.specs.Stick.{Outcome, reach_at, lengths_fit}
 use Rattle.calls.specs.Calls.{fresh_call, guarded, take_at, take_call, tick_at, tick_call, give_at, give_call, press_at, press_call, console_held}
 use Rattle.calls.specs.Stick as stick
-use Rattle.calls.specs.Bytes.{Buffers, buffers, Left, left, left_of, stick_by, lent_by}
-use Rattle.calls.specs.Parts.{half_in, numbers_in, block_on, advance_on, errand_on, job_on, start_on}
+use Rattle.calls.specs.Bytes.{Buffers, buffers}
+use Rattle.calls.specs.Parts.{half_in, numbers_in, advance_on}
 
 -- of a group its images, if it has any
 abbrev images_in : (o : Owner) → Part (group_in o) → List ℕ

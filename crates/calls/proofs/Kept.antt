@@ -1,11 +1,10 @@
 -- A start and a move leave the lengths of the half and of the room as they were.
 -- Assumes nothing.
-use mathlib.Core.Path.{◌≡◌, refl, sym, ◌∙◌}
+use mathlib.Core.Path.{◌≡◌, refl}
 use mathlib.Core.List.{List}
 use Prim.Native.Nat.{ℕ}
 use lib.ListN.{length}
 use lib.Seq.{length-sets}
-use Rattle.base.specs.Choice.{choose}
 use Rattle.base.proofs.Choices.{choose_go}
 use Rattle.handler.specs.declared.Asked.{Asked}
 use Rattle.handler.specs.Acts.{Acts, asks_on}

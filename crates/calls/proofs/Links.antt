@@ -1,25 +1,18 @@
 -- The parts of a tick over bytes are together the tick of the stick that the bytes stand for.
 -- Assumes nothing.
 use mathlib.Core.Path.{◌≡◌, ◌∙◌, refl, sym, ap, subst}
-use mathlib.Core.Bool.{Bool, true, false}
 use mathlib.Core.List.{List, ◌++◌}
-use Prim.Native.Nat.{ℕ, ◌+◌, ◌-◌, ◌*◌, ◌<◌, ◌≤◌}
+use Prim.Native.Nat.{ℕ, ◌+◌, ◌-◌, ◌<◌, ◌≤◌}
 use native.Mathlib.Omega.{arith}
-use lib.Dec.{leb}
 use lib.ListN.{length, take, drop, length-drop}
 use lib.Seq.{sets, take-append-le, drop-append-le}
-use borrow.Author.Tests.{leb-true}
-use Rattle.base.specs.Choice.{and, choose}
 use Rattle.base.specs.Parts.{part}
-use Rattle.base.proofs.Choices.{and_left, and_right}
 use Rattle.base.proofs.Parts.{part_length}
-use Rattle.handler.specs.declared.Asked.{Asked}
 use Rattle.handler.specs.Acts.{asks_open}
 use Rattle.console.specs.Group.{group}
 use Rattle.printer.specs.Printer.{printer_group}
 use Rattle.cassette.specs.Cassette.{cassette_group}
 use Rattle.disk.specs.Disk.{disk_group}
-use Rattle.blocks.specs.declared.Device.{Device}
 use Rattle.blocks.specs.declared.ControlBlock.{ControlBlock}
 use Rattle.blocks.specs.declared.Header.{Header}
 use Rattle.blocks.specs.declared.Run.{Run}
@@ -28,23 +21,20 @@ use Rattle.blocks.specs.declared.Phase.{Phase}
 use Rattle.blocks.specs.declared.Port.{Port}
 use Rattle.blocks.specs.Blocks.{block_at, with_block}
 use Rattle.blocks.specs.Opening.{area_length}
-use Rattle.wire.specs.declared.Message.{Message}
 use Rattle.wire.specs.Messages.{message_of, room_length}
-use Rattle.layout.specs.Places.{phase_place, table_place, devices_place, devices_length, rooms_place, room_place, area_place}
+use Rattle.layout.specs.Places.{devices_place, devices_length, rooms_place, area_place}
 use Rattle.layout.specs.Stick.{Devices, Stick, port_at, other_at, with_port, with_phase, with_table, part_at, with_part}
-use Rattle.layout.specs.Layout.{head_of, phase_in, devices_in, stick_in}
+use Rattle.layout.specs.Layout.{head_of, devices_in}
 use Rattle.layout.proofs.Lengths.{head_length, devices_length_lem}
 use Rattle.layout.proofs.Ports.{by_port, own_phase, own_block, own_count, own_devices, own_pending, own_places_lem, part_devices, head_devices, part_of, with_part_lem, part_back}
 use Rattle.layout.proofs.WriteRead.{state_back}
-use Rattle.devices.specs.declared.Group.{Group}
 use Rattle.devices.specs.declared.Owner.{Owner}
 use Rattle.devices.specs.declared.Owner.TheVariants as owner
-use Rattle.devices.specs.Groups.{Groups, Part, get_group, put_group, clash, owner_of, group_in, group_of, held_of, own_acts, device_acts}
+use Rattle.devices.specs.Groups.{Groups, Part, get_group, put_group, clash, owner_of, group_in, held_of, own_acts, device_acts}
 use Rattle.devices.specs.Lent.{DevicesLent, devices_lent, get_lent, put_lent, lent_acts, devices_of, lent_of}
 use Rattle.devices.specs.Fit.{FitPart, FitGroups}
 use Rattle.devices.proofs.Lens.{puts, still, later, back}
 use Rattle.devices.proofs.Keeps.{fit_at, opens_fit, specials_fit, goes_in}
-use Rattle.plan.specs.declared.After.{After}
 use Rattle.plan.specs.declared.Work.{Work}
 use Rattle.plan.specs.declared.Work.TheVariants as work
 use Rattle.plan.specs.declared.Errand.{Errand}
@@ -52,17 +42,16 @@ use Rattle.plan.specs.declared.Job.{Job}
 use Rattle.plan.specs.declared.Plan.{Plan}
 use Rattle.plan.specs.declared.Plan.TheVariants as plan
 use Rattle.plan.specs.Plan.{plan_in, plan_of, iocb_of, group_needed}
-use Rattle.transfer.specs.Transfer.{Out, InPort, landed}
+use Rattle.transfer.specs.Transfer.{landed}
 use Rattle.moves.specs.Move.{Went, went, advance_of}
 use Rattle.moves.proofs.Through.{seen_went, advance_through}
-use Rattle.cio.specs.Start.{Begun, begun, Freed, errand_of, job_begun, start_of}
+use Rattle.cio.specs.Start.{Begun, begun, errand_of, job_begun, start_of}
 use Rattle.cio.proofs.Through.{seen_begun, Starting, work_through}
-use Rattle.damage.specs.Fits.{stick_fits}
 use Rattle.damage.proofs.Fitting.{console_fits, printer_fits, cassette_fits}
-use Rattle.calls.specs.Port.{Reach, reach, port_with, start_plan, move_run}
-use Rattle.calls.specs.Stick.{Outcome, outcome, area_at, room_at, groups_at, with_groups, reach_at, with_reach, lent_reach}
+use Rattle.calls.specs.Port.{start_plan, move_run}
+use Rattle.calls.specs.Stick.{outcome, area_at, room_at, groups_at, with_groups, reach_at, with_reach, lent_reach}
 use Rattle.calls.specs.Bytes.{Buffers, buffers, Left, left, left_of, stick_by, lent_by}
-use Rattle.calls.specs.Parts.{Called, room_in, half_in, numbers_in, phase_on, block_on, with_block_on, with_in_port, land_on, advance_on, plan_on, waits_on, errand_on, job_on, start_on}
+use Rattle.calls.specs.Parts.{Called, room_in, half_in, numbers_in, block_on, with_block_on, with_in_port, land_on, advance_on, plan_on, waits_on, errand_on, job_on, start_on}
 use Rattle.calls.proofs.Written.{Written, written_devices, room_read, written_block, landed_there, room_long}
 use Rattle.calls.proofs.Kept.{advance_long, landed_long, errand_half, errand_room}
 

@@ -1,7 +1,7 @@
 -- A port's phase by its number: which it is, and so what a take, a tick, a give and a press leave.
 -- Assumes nothing.
 use mathlib.Core.Path.{◌≡◌, ◌∙◌, refl, sym, ap}
-use mathlib.Core.Bool.{Bool, true, false}
+use mathlib.Core.Bool.{false}
 use mathlib.Core.List.{List, ◌++◌}
 use Prim.Native.Nat.{ℕ, ◌+◌, ◌-◌, ◌*◌, ◌≤◌, ◌<◌}
 use native.Mathlib.Omega.{arith}
@@ -22,7 +22,6 @@ use Rattle.wire.specs.Messages as messages
 use Rattle.wire.specs.Giving as giving
 use Rattle.layout.specs.Places.{phase_place, room_place}
 use Rattle.layout.specs.Layout.{phase_bytes, byte_at, gather_in, header_in, run_in, reply_in, phase_in}
-use Rattle.devices.specs.declared.Group.{Group}
 use Rattle.devices.specs.declared.Group.TheVariants as group
 use Rattle.devices.specs.Groups.{held_of, clash}
 use Rattle.devices.proofs.Frame.{clash_none}

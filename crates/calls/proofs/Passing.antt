@@ -2,22 +2,19 @@
 -- Assumes nothing.
 use mathlib.Core.Path.{◌≡◌, ◌∙◌, refl, sym, ap}
 use mathlib.Core.Bool.{Bool, true, false}
-use mathlib.Core.List.{List, [], ◌++◌, append_assoc, append-nil}
+use mathlib.Core.List.{List, [], ◌++◌, append_assoc}
 use Prim.Native.Nat.{ℕ, ◌+◌, ◌-◌, ◌*◌, ◌≤◌, ◌<◌, ◌/◌, ◌%◌}
 use native.Mathlib.Nat.{zero-add}
 use native.Mathlib.Omega.{arith}
 use borrow.Author.Tests.{lt-ltb, le-ltb, eq-eqb, ne_eqb, eqb-true, ltb-true}
 use lib.Dec.{eqb, ltb}
-use lib.ListN.{length, get_or, take, drop, replicate, length-append, length-drop}
+use lib.ListN.{length, take, drop, replicate, length-append, length-drop}
 use lib.Seq.{sets, length-take-le}
-use mir.Syntax.{w8}
-use mir.Val.{Fits}
-use Rattle.base.specs.Choice.{pick, choose, and}
+use Rattle.base.specs.Choice.{pick, and}
 use Rattle.base.specs.Parts.{part}
 use Rattle.base.proofs.Choices.{and_left, and_right, by_test}
 use Rattle.base.proofs.Lists.{part_tail, back_tail}
 use Rattle.base.proofs.Parts.{back, part_length, sets_more, sets_over}
-use Rattle.cells.specs.Cells.{Whole}
 use Rattle.console.specs.Group.{fresh_group}
 use Rattle.printer.specs.Printer.{paper_length}
 use Rattle.records.specs.Records.{tape_length}
@@ -26,17 +23,17 @@ use Rattle.blocks.specs.declared.Port.{Port}
 use Rattle.blocks.specs.Blocks.{fresh_port}
 use Rattle.blocks.specs.Opening.{area_length}
 use Rattle.wire.specs.Messages.{room_length}
-use Rattle.layout.specs.Places.{port_place, port_length, devices_place, devices_length, rooms_place, state_length, Headed}
+use Rattle.layout.specs.Places.{port_place, devices_place, devices_length, rooms_place, state_length, Headed}
 use Rattle.layout.specs.Stick.{fresh_devices, Stick, fresh_stick, Lent}
-use Rattle.layout.specs.Layout.{head_of, port_bytes, devices_bytes, stick_in, lent_in}
+use Rattle.layout.specs.Layout.{head_of, port_bytes, devices_bytes}
 use Rattle.layout.specs.Stands.{stands}
 use Rattle.layout.specs.InBytes.{Bytes}
-use Rattle.layout.proofs.Lengths.{port_length_lem, devices_length_lem, head_length}
+use Rattle.layout.proofs.Lengths.{port_length_lem, devices_length_lem}
 use Rattle.layout.proofs.WriteRead.{Known, bytes_of, state_back}
 use Rattle.devices.specs.Lent.{DevicesLent, devices_lent, lent_of, fresh_groups, Freshens}
 use Rattle.damage.specs.Fits.{stick_fits}
-use Rattle.calls.specs.Stick.{Outcome, outcome, refused, screen_length, lengths_fit, refusal_of}
-use Rattle.calls.specs.Calls.{fresh_lent, fresh_call, guarded, take_at, take_call, tick_at, tick_call, give_at, give_call, press_at, press_call}
+use Rattle.calls.specs.Stick.{Outcome, refused, screen_length, lengths_fit, refusal_of}
+use Rattle.calls.specs.Calls.{fresh_call, guarded, take_at, take_call, tick_at, tick_call, give_at, give_call, press_at, press_call}
 use Rattle.calls.specs.Returned.{returned, answer_of, both_of}
 use Rattle.calls.specs.Bytes.{Buffers, buffers, Left, left, left_alone, six_fit, buffers_fit, stick_by, lent_by, undamaged_in, left_of, bytes_refusal, over_bytes, fresh_bytes, take_bytes, tick_bytes, give_bytes, press_bytes}
 use Rattle.calls.specs.Parts.{Called, Lengths, Long, ports_fresh, fresh_on}

@@ -3,13 +3,13 @@
 use mathlib.Core.Path.{◌≡◌, ◌∙◌, refl, sym, ap}
 use mathlib.Core.Bool.{Bool, true, false}
 use mathlib.Core.List.{List, ◌++◌}
-use Prim.Native.Nat.{ℕ, ◌+◌, ◌-◌, ◌*◌, ◌<◌, ◌≤◌}
+use Prim.Native.Nat.{ℕ, ◌+◌, ◌-◌, ◌≤◌}
 use native.Mathlib.Omega.{arith}
 use lib.ListN.{length, take, drop}
 use lib.Seq.{sets}
 use Rattle.base.specs.Choice.{or, choose}
 use Rattle.base.specs.Parts.{part}
-use Rattle.base.proofs.Parts.{lent_part, lent_length, lent_back, back_into, part_length}
+use Rattle.base.proofs.Parts.{lent_part, lent_length, lent_back, back_into}
 use Rattle.console.specs.declared.state.Console.{Console}
 use Rattle.console.specs.Group.{pressed_of}
 use Rattle.blocks.specs.declared.Gather.{Gather}
@@ -23,20 +23,20 @@ use Rattle.wire.specs.Messages.{Gathered, gathered, room_length}
 use Rattle.wire.specs.Messages as messages
 use Rattle.wire.specs.Giving as giving
 use Rattle.layout.specs.Places.{phase_place, devices_place, devices_length, console_place, room_place, rooms_place}
-use Rattle.layout.specs.Stick.{Devices, Stick, Lent, lent, port_at, with_port, with_phase, with_console, with_part}
-use Rattle.layout.specs.Layout.{head_of, phase_bytes, console_bytes, phase_in, console_in, devices_in}
+use Rattle.layout.specs.Stick.{Devices, Stick, Lent, lent, port_at, with_port, with_phase, with_console}
+use Rattle.layout.specs.Layout.{phase_bytes, console_bytes, phase_in, console_in, devices_in}
 use Rattle.layout.proofs.Lengths.{console_length_lem}
 use Rattle.layout.proofs.Ports.{own_phase, own_devices, head_console, port_back, part_back}
 use Rattle.devices.specs.declared.Group.{Group}
 use Rattle.devices.specs.declared.Group.TheVariants as group
 use Rattle.devices.specs.Groups.{held_of, clash}
 use Rattle.calls.specs.Port.{Served, served, take_port, give_port}
-use Rattle.calls.specs.Stick.{Outcome, outcome, refused, room_at, with_room}
+use Rattle.calls.specs.Stick.{outcome, refused, room_at, with_room}
 use Rattle.calls.specs.Calls.{take_at, give_at, console_held, with_key, press_at}
-use Rattle.calls.specs.Bytes.{Buffers, buffers, Left, left, left_alone, left_of, stick_by, lent_by}
-use Rattle.calls.specs.Parts.{Called, Rooms, room_in, numbers_in, phase_on, with_in_port, console_held_on, key_on}
-use Rattle.transfer.specs.Transfer.{InPort, in_port}
-use Rattle.calls.proofs.Written.{Written, written_devices, written_phase, room_read, landed_there, stored}
+use Rattle.calls.specs.Bytes.{Buffers, buffers, left, left_alone, left_of, stick_by, lent_by}
+use Rattle.calls.specs.Parts.{Called, Rooms, numbers_in, console_held_on, key_on}
+use Rattle.transfer.specs.Transfer.{in_port}
+use Rattle.calls.proofs.Written.{Written, written_phase, room_read, landed_there, stored}
 use Rattle.calls.proofs.Links.{written}
 use Rattle.calls.proofs.TickAnswers.{as_it_was}
 

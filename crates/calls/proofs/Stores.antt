@@ -5,10 +5,8 @@ use mathlib.Core.Bool.{Bool, true, false}
 use mathlib.Core.List.{List, ◌++◌}
 use Prim.Native.Nat.{ℕ, ◌+◌, ◌-◌, ◌*◌, ◌<◌, ◌≤◌}
 use native.Mathlib.Omega.{arith}
-use lib.Dec.{ltb}
 use lib.ListN.{length, take, drop, take-append-drop}
 use lib.Seq.{sets}
-use Rattle.base.specs.Choice.{pick, choose}
 use Rattle.base.specs.Parts.{part}
 use Rattle.base.proofs.Parts.{lent_part, lent_back, back, part_length}
 use Rattle.blocks.specs.declared.ControlBlock.{ControlBlock}
@@ -20,8 +18,8 @@ use Rattle.blocks.specs.Blocks.{block_at}
 use Rattle.blocks.specs.Opening.{area_length}
 use Rattle.wire.specs.declared.Message.{Message}
 use Rattle.wire.specs.Messages.{message_of, room_length}
-use Rattle.layout.specs.Places.{phase_place, table_place, block_place, devices_place, devices_length, room_place, area_place, state_length}
-use Rattle.layout.specs.Layout.{phase_bytes, block_bytes, phase_in, table_in}
+use Rattle.layout.specs.Places.{phase_place, table_place, devices_place, devices_length, room_place, area_place, state_length}
+use Rattle.layout.specs.Layout.{phase_bytes, phase_in, table_in}
 use Rattle.devices.specs.declared.Group.{Group}
 use Rattle.devices.specs.Groups.{held_of, clash}
 use Rattle.devices.specs.Lent.{DevicesLent, devices_lent, lent_acts}
@@ -37,7 +35,7 @@ use Rattle.transfer.specs.Transfer.{next_of, Out, out_of, InPort, in_port, lande
 use Rattle.moves.specs.Lends.{Goes}
 use Rattle.moves.specs.Move.{Went, went, advance_of}
 use Rattle.cio.specs.Start.{Begun, begun, Freed, freed, errand_of, job_begun}
-use Rattle.calls.specs.Bytes.{Buffers, buffers, Left, left, left_alone}
+use Rattle.calls.specs.Bytes.{Buffers, buffers, left, left_alone}
 use Rattle.calls.specs.Parts.{Called, Rooms, Halves, Going, room_in, half_in, numbers_in, block_on, with_block_on, with_in_port, land_on, advance_on, plan_on, waits_on, errand_on, job_on, start_on, ready_on}
 
 module _ (port : ℕ) (state : List ℕ) (r : Rooms port state) where

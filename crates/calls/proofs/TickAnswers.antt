@@ -1,11 +1,11 @@
 -- What each answer of a tick leaves is what the tick of the stick says.
 -- Assumes nothing.
-use mathlib.Core.Path.{◌≡◌, ◌∙◌, refl, sym, ap}
+use mathlib.Core.Path.{◌≡◌, ◌∙◌, sym, ap}
 use mathlib.Core.Bool.{Bool, true, false}
-use mathlib.Core.List.{List, ◌++◌}
-use Prim.Native.Nat.{ℕ, ◌*◌}
+use mathlib.Core.List.{List}
+use Prim.Native.Nat.{ℕ}
 use lib.Dec.{ltb}
-use lib.ListN.{drop, length}
+use lib.ListN.{drop}
 use Rattle.base.specs.Choice.{and, choose}
 use Rattle.base.proofs.Choices.{and_left, and_right}
 use Rattle.blocks.specs.declared.Gather.{Gather}
@@ -16,27 +16,24 @@ use Rattle.blocks.specs.declared.Kind.{Kind}
 use Rattle.blocks.specs.declared.Kind.TheVariants.{Get, Put}
 use Rattle.blocks.specs.declared.Phase.{Phase}
 use Rattle.blocks.specs.declared.Phase.TheVariants.{Gathering, Ready, Running, Replying}
-use Rattle.blocks.specs.declared.Port.{Port}
 use Rattle.blocks.specs.Opening.{area_length}
 use Rattle.blocks.specs.Made.{table_made}
 use Rattle.blocks.specs.Blocks.{block_at}
 use Rattle.wire.specs.Messages.{message_of, room_length}
 use Rattle.layout.specs.Places.{phase_place}
 use Rattle.layout.specs.Stick.{Stick, Lent, lent, port_at, other_at, with_port}
-use Rattle.layout.specs.Layout.{head_of, phase_in, stick_in}
+use Rattle.layout.specs.Layout.{phase_in}
 use Rattle.layout.proofs.Ports.{by_port, own_phase, port_back, part_back}
-use Rattle.layout.proofs.WriteRead.{state_back}
 use Rattle.devices.specs.Groups.{clash, held_of}
 use Rattle.plan.specs.declared.Plan.{Plan}
 use Rattle.plan.specs.Plan.{plan_of, group_needed}
-use Rattle.transfer.specs.Spans.{span_fits, Spans, way_in}
+use Rattle.transfer.specs.Spans.{Spans, way_in}
 use Rattle.damage.specs.Fits.{open_for, in_use, spans, run_fits, phase_fits, port_fits, stick_fits}
-use Rattle.calls.specs.Port.{Ticked, ticked, ready_tick, tick_port, start_plan, move_run}
-use Rattle.calls.specs.Stick.{Outcome, outcome, refused, room_at, area_at, reach_at, with_reach, lent_reach}
+use Rattle.calls.specs.Port.{Ticked, ticked, ready_tick, tick_port, start_plan}
+use Rattle.calls.specs.Stick.{Outcome, outcome, room_at, area_at, reach_at, with_reach, lent_reach}
 use Rattle.calls.specs.Calls.{tick_at}
 use Rattle.calls.specs.Bytes.{Buffers, buffers, Left, left, left_alone, left_of, stick_by, lent_by}
-use Rattle.calls.specs.Parts.{Called, Going, phase_on, plan_on, waits_on, start_on, ready_on, advance_on}
-use Rattle.calls.proofs.Written.{Written}
+use Rattle.calls.specs.Parts.{Called, Going, waits_on, start_on, ready_on, advance_on}
 use Rattle.calls.proofs.Links.{written, plan_is, waits_is, start_is, advance_is}
 
 module _ (port : ℕ) (b : Buffers) (c : Called port b) where

@@ -1,30 +1,25 @@
 -- The bytes of a stick and its rooms: what each store of a call makes of them, in the words of the stick.
 -- Assumes nothing.
-use mathlib.Core.Path.{◌≡◌, ◌∙◌, refl, sym, ap}
-use mathlib.Core.Bool.{Bool, true, false}
+use mathlib.Core.Path.{◌≡◌, ◌∙◌, sym, ap}
+use mathlib.Core.Bool.{false}
 use mathlib.Core.List.{List, ◌++◌}
-use Prim.Native.Nat.{ℕ, ◌+◌, ◌-◌, ◌*◌, ◌<◌, ◌≤◌}
+use Prim.Native.Nat.{ℕ, ◌+◌, ◌*◌, ◌<◌, ◌≤◌}
 use native.Mathlib.Omega.{arith}
 use lib.Dec.{ltb}
-use lib.ListN.{length, take, drop, set, length-append}
+use lib.ListN.{length, take, drop}
 use lib.Seq.{sets, length-sets, drop-drop, drop_at, set_out}
 use borrow.Author.Tests.{ltb-true, ltb-false}
-use Rattle.base.specs.Choice.{pick}
-use Rattle.base.specs.Parts.{part}
-use Rattle.base.proofs.Parts.{cat, sets_left, sets_right, part_length, lent_count}
+use Rattle.base.proofs.Parts.{sets_left, sets_right, part_length}
 use Rattle.base.proofs.Choices.{pick_go}
 use Rattle.blocks.specs.declared.ControlBlock.{ControlBlock}
-use Rattle.blocks.specs.declared.Table.{Table}
 use Rattle.blocks.specs.declared.Phase.{Phase}
-use Rattle.blocks.specs.declared.Port.{Port}
 use Rattle.blocks.specs.Blocks.{with_block}
 use Rattle.wire.specs.Messages.{room_length}
-use Rattle.layout.specs.Places.{phase_length, block_length, table_length, phase_place, block_place, devices_place, devices_length, rooms_place, room_place}
-use Rattle.layout.specs.Stick.{Stick, port_at, with_port, with_phase, with_table, with_console, part_at, with_part}
-use Rattle.layout.specs.Layout.{head_of, phase_bytes, block_bytes, console_bytes, printer_bytes}
-use Rattle.layout.proofs.Lengths.{phase_length_lem, devices_length_lem, head_length}
-use Rattle.layout.proofs.Ports.{head_phase, head_block, head_devices, port_back, part_of, with_part_lem}
-use Rattle.calls.specs.Port.{port_with}
+use Rattle.layout.specs.Places.{phase_place, block_place, devices_place, devices_length, rooms_place, room_place}
+use Rattle.layout.specs.Stick.{Stick, port_at, with_port, with_phase, with_table, part_at, with_part}
+use Rattle.layout.specs.Layout.{head_of, phase_bytes, block_bytes}
+use Rattle.layout.proofs.Lengths.{phase_length_lem, head_length}
+use Rattle.layout.proofs.Ports.{head_phase, head_block, port_back, part_of, with_part_lem}
 use Rattle.transfer.specs.Transfer.{InPort}
 use Rattle.calls.specs.Parts.{room_in, with_block_on, with_in_port}
 

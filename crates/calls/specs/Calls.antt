@@ -8,7 +8,7 @@ use Rattle.wire.specs.Messages.{room_length}
 use Rattle.layout.specs.Stick.{Stick, fresh_stick, Lent, lent, port_at, other_at, with_port, with_console}
 use Rattle.devices.specs.declared.Group.TheVariants as group
 use Rattle.devices.specs.Groups.{held_of, clash}
-use Rattle.calls.specs.Port.{Ticked, tick_port, Served, take_port, give_port}
+use Rattle.calls.specs.Port.{tick_port, take_port, give_port}
 use Rattle.calls.specs.Stick.{Outcome, outcome, refused, lengths_fit, refusal_of, room_at, with_room, reach_at, with_reach, lent_reach}
 
 -- "areas zero, paper used 0 (its bytes as lent)", the bytes of tape and images as lent too, "screen as after opening E with cells past 960 zero"; the rooms, which are no word of 01,

@@ -1,7 +1,7 @@
 -- A call part by part over the lent bytes, for the functions that it is made of: what each leaves, in the places of its port. That the
 -- parts together are the call is proved.
 -- Assumes nothing.
-use Rattle.std.specs.Prelude.{◌≡◌, Bool, true, List, ◌++◌, ℕ, ◌+◌, ◌-◌, ◌*◌, ◌<◌, ◌≤◌, ltb, length, take, drop, replicate}
+use Rattle.std.specs.Prelude.{◌≡◌, Bool, true, List, ◌++◌, ℕ, ◌+◌, ◌-◌, ◌*◌, ◌<◌, ltb, length, take, drop, replicate}
 use Rattle.std.proofs.lemmas.List.Edits.{sets}
 use Rattle.base.specs.Choice.{pick, choose}
 use Rattle.base.specs.Parts.{part}
@@ -17,13 +17,13 @@ use Rattle.blocks.specs.declared.Phase.{Phase}
 use Rattle.blocks.specs.Blocks.{block_at, fresh_port}
 use Rattle.blocks.specs.Opening.{area_length}
 use Rattle.wire.specs.Messages.{message_of, room_length}
-use Rattle.layout.specs.Places.{port_place, phase_place, table_place, block_place, devices_place, devices_length, console_place, printer_place, rooms_place, room_place, area_place, state_length}
+use Rattle.layout.specs.Places.{port_place, phase_place, table_place, block_place, devices_place, devices_length, console_place, rooms_place, room_place, area_place, state_length}
 use Rattle.layout.specs.Layout.{phase_bytes, block_bytes, port_bytes, console_bytes, phase_in, table_in, console_in}
 use Rattle.layout.specs.Stands.{stands}
 use Rattle.layout.specs.InBytes.{Bytes}
 use Rattle.devices.specs.declared.Group.TheVariants as group
 use Rattle.devices.specs.Groups.{held_of, clash}
-use Rattle.devices.specs.Lent.{DevicesLent, devices_lent, lent_acts, lent_of, fresh_groups}
+use Rattle.devices.specs.Lent.{devices_lent, lent_acts, lent_of, fresh_groups}
 use Rattle.plan.specs.declared.Errand.{Errand}
 use Rattle.plan.specs.declared.Job.{Job}
 use Rattle.plan.specs.declared.Plan.{Plan}

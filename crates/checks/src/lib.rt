@@ -1,5 +1,6 @@
 // The checks that come before the group, in their order: what a message comes to.
 #![tactic(auto)]
+
 ghost use Rattle.std.specs.Prelude.{◌≡◌};
 ghost use Rattle.plan.specs.Plan.{block_plan, call_plan, iocb_of, plan_in};
 

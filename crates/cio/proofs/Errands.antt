@@ -1,18 +1,18 @@
 -- What each function of a request without a group returns and leaves is what its definition says.
 -- Assumes nothing.
-use mathlib.Core.Path.{◌≡◌, ◌∙◌, refl, sym, ap}
+use mathlib.Core.Path.{◌≡◌, ◌∙◌, ap}
 use mathlib.Core.List.{List}
 use Prim.Native.Nat.{ℕ, ◌+◌, ◌<◌, ◌≤◌}
 use lib.Seq.{sets}
 use borrow.Author.Tests.{le-leb, lt-leb}
 use Rattle.blocks.specs.declared.Reply.{Reply}
 use Rattle.blocks.specs.declared.Phase.{Phase}
-use Rattle.blocks.specs.declared.Phase.TheVariants.{Running, Replying}
+use Rattle.blocks.specs.declared.Phase.TheVariants.{Replying}
 use Rattle.blocks.specs.Opening.{area_length}
 use Rattle.replies.specs.Replies.{call_reply, status_reply, fetch_reply, bytes_at, Replied, replied, replied_of}
 use Rattle.plan.specs.declared.Errand.{Errand}
 use Rattle.plan.specs.declared.Errand.TheVariants as errand
-use Rattle.transfer.specs.Transfer.{ends, InPort, in_port, landed}
+use Rattle.transfer.specs.Transfer.{ends, in_port, landed}
 use Rattle.cio.specs.Start.{freed, loaded_of, load_status, load_of, errand_of}
 
 -- a reply made in the room

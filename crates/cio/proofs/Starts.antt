@@ -1,13 +1,12 @@
 -- What each function of a start returns and leaves is what its definition says, whatever the device.
 -- Assumes nothing.
-use mathlib.Core.Path.{◌≡◌, ◌∙◌, refl, sym, ap}
+use mathlib.Core.Path.{◌≡◌, ◌∙◌, ap}
 use mathlib.Core.Bool.{Bool, true, false}
-use mathlib.Core.List.{List}
 use Prim.Native.Nat.{ℕ}
 use Rattle.handler.specs.declared.Asked.{Asked}
 use Rattle.handler.specs.declared.Done.{Done}
 use Rattle.handler.specs.declared.Done.TheVariants as done
-use Rattle.handler.specs.Answer.{Answer, answer, done_status}
+use Rattle.handler.specs.Answer.{answer, done_status}
 use Rattle.names.specs.declared.Name.{Name}
 use Rattle.handler.specs.Acts.{Acts, asks_open, asks_on}
 use Rattle.blocks.specs.declared.Device.{Device}
@@ -18,13 +17,12 @@ use Rattle.blocks.specs.Opening.{offers_of}
 use Rattle.wire.specs.declared.Call.{Call}
 use Rattle.plan.specs.declared.After.{After}
 use Rattle.plan.specs.declared.After.TheVariants as after
-use Rattle.plan.specs.declared.Work.{Work}
 use Rattle.plan.specs.declared.Work.TheVariants as work
 use Rattle.plan.specs.declared.Job.{Job}
 use Rattle.transfer.specs.declared.Next.{Next}
 use Rattle.transfer.specs.declared.Next.TheVariants.{On, Off}
 use Rattle.transfer.specs.Transfer.{out_of}
-use Rattle.cio.specs.Start.{Begun, begun, over_out, run_of, then_of, opened_by, opened_of, block_after, prepared_out, opening_of, transfer_of, work_of, job_begun}
+use Rattle.cio.specs.Start.{begun, run_of, then_of, opened_of, block_after, prepared_out, opening_of, transfer_of, work_of, job_begun}
 
 module _ (d : Done) where
   pub status_success : d ≡ done.Success → 0x01 ≡ done_status d

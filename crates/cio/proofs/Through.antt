@@ -3,7 +3,6 @@
 use mathlib.Core.Path.{◌≡◌, ◌∙◌, refl, sym, ap}
 use mathlib.Core.Bool.{Bool, true, false}
 use Prim.Native.Nat.{ℕ}
-use Rattle.base.specs.Choice.{choose}
 use Rattle.handler.specs.declared.Asked.{Asked}
 use Rattle.handler.specs.declared.Done.{Done}
 use Rattle.handler.specs.declared.Done.TheVariants as done
@@ -12,7 +11,6 @@ use Rattle.names.specs.declared.Name.{Name}
 use Rattle.handler.specs.Acts.{Acts, asks_open, asks_on, through}
 use Rattle.blocks.specs.declared.Device.{Device}
 use Rattle.blocks.specs.declared.ControlBlock.{ControlBlock}
-use Rattle.blocks.specs.declared.Kind.{Kind}
 use Rattle.blocks.specs.Blocks.{open_block}
 use Rattle.blocks.specs.Opening.{offers_of}
 use Rattle.wire.specs.declared.Call.{Call}
@@ -20,8 +18,7 @@ use Rattle.plan.specs.declared.After.{After}
 use Rattle.plan.specs.declared.After.TheVariants as after
 use Rattle.plan.specs.declared.Work.{Work}
 use Rattle.plan.specs.declared.Work.TheVariants as work
-use Rattle.plan.specs.declared.Job.{Job}
-use Rattle.cio.specs.Start.{Begun, begun, over, then_of, opened_by, opened_of, block_after, prepared_out, opening_of, transfer_of, work_of, job_begun}
+use Rattle.cio.specs.Start.{Begun, begun, over, then_of, opened_by, opened_of, block_after, opening_of, transfer_of, work_of}
 
 abbrev pub seen_begun : {D E : Type 0} → (D → E) → Begun D → Begun E
 seen_begun f b = begun b.block (f b.device) b.out

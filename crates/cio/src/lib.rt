@@ -2,5 +2,6 @@
 // of the area or the block of its IOCB, and the devices' numbers and buffers, which it lends on to `devices`; nothing else is in its
 // reach, and it knows no device.
 #![tactic(auto)]
+
 pub mod errand;
 pub mod start;

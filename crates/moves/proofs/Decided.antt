@@ -1,8 +1,6 @@
 -- Each promise of this crate decides: two outcomes that it allows are equal, and it allows one.
 -- Assumes nothing.
-use mathlib.Core.Path.{◌≡◌, refl, sym, ◌∙◌, ap}
-use mathlib.Core.List.{List}
-use Prim.Native.Nat.{ℕ}
+use mathlib.Core.Path.{sym, ◌∙◌, ap}
 use Rattle.base.specs.Decides.{Decides, Allows}
 use Rattle.transfer.specs.Transfer.{next_of, out_of}
 use Rattle.transfer.proofs.Outs.{next_in, out_decides, carried_in, carried_decides}

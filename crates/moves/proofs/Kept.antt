@@ -1,6 +1,6 @@
 -- What no act of a device changes, no move of a request on it changes: so no move changes an image.
 -- Assumes nothing.
-use mathlib.Core.Path.{◌≡◌, refl}
+use mathlib.Core.Path.{◌≡◌}
 use mathlib.Core.List.{List}
 use Prim.Native.Nat.{ℕ}
 use Rattle.handler.specs.declared.Asked.{Asked}

@@ -1,21 +1,21 @@
 -- What each function of a move returns and leaves is what its definition says, whatever the device.
 -- Assumes nothing.
-use mathlib.Core.Path.{◌≡◌, ◌∙◌, refl, sym, ap, subst}
+use mathlib.Core.Path.{◌≡◌, ◌∙◌, subst}
 use mathlib.Core.List.{List}
 use Prim.Native.Nat.{ℕ}
 use Rattle.handler.specs.declared.Asked.{Asked}
 use Rattle.handler.specs.declared.Got.{Got}
 use Rattle.handler.specs.declared.Done.{Done}
-use Rattle.handler.specs.Answer.{Answer, answer}
+use Rattle.handler.specs.Answer.{answer}
 use Rattle.handler.specs.Acts.{Acts, asks_on}
 use Rattle.blocks.specs.declared.Kind.{Kind}
 use Rattle.blocks.specs.declared.Kind.TheVariants.{Get, Put}
 use Rattle.blocks.specs.declared.Way.{Way}
 use Rattle.blocks.specs.declared.Run.{Run}
 use Rattle.transfer.specs.declared.Next.{Next}
-use Rattle.transfer.specs.Transfer.{out_of, Progress, progress, got_of, sent_byte, sent_of}
+use Rattle.transfer.specs.Transfer.{out_of, progress, got_of, sent_byte, sent_of}
 use Rattle.transfer.specs.Spans.{Spans, way_in}
-use Rattle.moves.specs.Move.{Went, went, get_of, put_of, go_of, advance_of}
+use Rattle.moves.specs.Move.{went, get_of, put_of, go_of, advance_of}
 use Rattle.moves.specs.Lends.{Moves, Goes}
 
 module _ {D : Type 0} (A : Acts D) (way : Way) (run : Run) (area mid : List ℕ) (x y : D) (next : Next) where

@@ -2,13 +2,12 @@
 -- Assumes nothing.
 use Rattle.std.specs.Prelude.{List, ℕ}
 use Rattle.handler.specs.declared.Asked.{Asked}
-use Rattle.handler.specs.Answer.{Answer}
 use Rattle.handler.specs.Acts.{Acts, asks_on}
 use Rattle.blocks.specs.declared.Kind.{Kind}
 use Rattle.blocks.specs.declared.Kind.TheVariants.{Get, Put}
 use Rattle.blocks.specs.declared.Way.{Way}
 use Rattle.blocks.specs.declared.Run.{Run}
-use Rattle.transfer.specs.Transfer.{Out, out_of, InPort, landed, Progress, got_of, sent_byte, sent_of}
+use Rattle.transfer.specs.Transfer.{Out, out_of, InPort, landed, got_of, sent_byte, sent_of}
 
 -- the area, the device, and what becomes of the request
 pub record Went (D : Type 0) : Type 0 where

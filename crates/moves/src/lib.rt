@@ -2,6 +2,7 @@
 // port's own half of the area, and the devices' numbers and buffers, which it lends on to `devices`; nothing else is in its reach, and
 // it knows no device.
 #![tactic(auto)]
+
 ghost use Rattle.std.specs.Prelude.{◌≡◌};
 ghost use Rattle.transfer.specs.Transfer.{next_of, out_of};
 ghost use Rattle.devices.specs.Lent.{devices_lent, lent_acts};

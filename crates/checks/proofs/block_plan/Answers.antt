@@ -1,7 +1,6 @@
 -- `block_plan` meets its contract, by `block_bad`, `closed_open`, `closed_close`, `closed_status`, `closed_special`, `closed_transfer`, `open_open`, `open_close`, `open_status`, `open_special` and `open_transfer`.
 -- Assumes nothing.
 use Rattle.checks.proofs.Checks.{block_bad, closed_open, closed_close, closed_status, closed_special, closed_transfer, open_open, open_close, open_status, open_special, open_transfer}
-use borrow.Author.Rules.{rules}
 use Rattle.checks.proofs.block_plan.Goals as goal
 
 pub returns-in-Bad : goal.returns-in-Bad

@@ -1,7 +1,6 @@
 -- `call_plan` meets its contract, by `call_high` and `call_low`.
 -- Assumes nothing.
 use Rattle.checks.proofs.Checks.{call_high, call_low}
-use borrow.Author.Rules.{rules}
 use Rattle.checks.proofs.call_plan.Goals as goal
 
 pub returns-then-call-gt7 : goal.returns-then-call-gt7

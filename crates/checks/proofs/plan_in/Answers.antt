@@ -1,7 +1,6 @@
 -- `plan_in` meets its contract, by `plan_call`, `plan_load`, `plan_fetch` and `plan_bad`.
 -- Assumes nothing.
 use Rattle.checks.proofs.Checks.{plan_call, plan_load, plan_fetch, plan_bad}
-use borrow.Author.Rules.{rules}
 use Rattle.checks.proofs.plan_in.Goals as goal
 
 pub returns-in-Call : goal.returns-in-Call
