@@ -45,7 +45,7 @@ use Rattle.plan.specs.Plan.{call_plan, plan_of, plan_in}
 use Rattle.moves.specs.Move.{Went, go_of, advance_of}
 use Rattle.cio.specs.Start.{load_fits, load_status, run_of, block_after, opened_by, opened_of, then_of}
 use Rattle.alone.specs.Transfer.{on_done, transferred}
-use Rattle.alone.specs.Alone.{Said, call, load, fetch, bad, Local, local, Alone, AloneOn, answered, replying, alone_opening, alone_transfer, alone_work, loaded, alone_errand, alone_plan, alone_of, with_own_block}
+use Rattle.alone.specs.Alone.{Said, call, load, fetch, bad, Local, Alone, AloneOn, answered, replying, alone_opening, alone_transfer, alone_work, loaded, alone_errand, alone_plan, alone_of, with_own_block}
 use Rattle.alone.specs.Fit.{FitLocal, FitOwn}
 use Rattle.alone.specs.Moves.{moves, whole_of, Lines, Starts, lands, most_moves}
 use Rattle.alone.specs.Left.{device_left}

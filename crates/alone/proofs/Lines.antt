@@ -51,7 +51,7 @@ use Rattle.console.specs.Group.{ConsoleGroup, graphics_of}
 use Rattle.console.specs.Handlers.{text_of, open_s, open_of, read_e, read_s, read_k}
 use Rattle.console.specs.Handlers as console_acts_lem
 use Rattle.console.specs.Fit.{cursor_fits, FitGroup, InUse}
-use Rattle.console.proofs.Keeps.{fits_of, open_fit, prepare_fit, prepare_use, read_fit, read_use, write_fit, write_use}
+use Rattle.console.proofs.Keeps.{fits_of, prepare_fit, prepare_use, read_fit, read_use, write_fit, write_use}
 use Rattle.blocks.specs.declared.Device.{Device}
 use Rattle.blocks.specs.declared.Device.TheVariants as device
 use Rattle.blocks.specs.Made.{splits}

@@ -2,18 +2,14 @@
 -- Assumes nothing.
 use mathlib.Core.Path.{◌≡◌, ◌∙◌, refl, ap}
 use mathlib.Core.Logic.{◌⊎◌, inl, inr}
-use mathlib.Core.Bool.{Bool, true, false}
 use mathlib.Core.List.{List, [], ◌∷◌}
 use Prim.Native.Nat.{ℕ, zero, suc, ◌+◌, ◌-◌, ◌<◌, ◌≤◌}
 use native.Mathlib.Nat.{add-zero}
 use native.Mathlib.Omega.{arith}
-use lib.Dec.{leb}
 use lib.ListN.{length, get_or, set, length-set}
 use lib.Seq.{sets, get_or-set_same, get_or-set_other}
 use borrow.Author.Tests.{le-leb, lt-leb}
-use Rattle.base.specs.Choice.{choose}
-use Rattle.base.proofs.Choices.{by_lt, choose_le}
-use Rattle.blocks.specs.Opening.{area_length}
+use Rattle.base.proofs.Choices.{by_lt}
 use Rattle.replies.specs.Replies.{field_of, bytes_at, fetch_status, fetch_reply}
 use Rattle.devices.specs.Groups.{Groups}
 use Rattle.plan.specs.Plan.{plan_in, plan_of}

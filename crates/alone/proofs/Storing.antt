@@ -1,6 +1,6 @@
 -- What a GET stores into the area: its characters, from its address on, as many as it counts; a PUT stores nothing.
 -- Assumes nothing.
-use mathlib.Core.Path.{◌≡◌, ◌∙◌, refl, sym, ap}
+use mathlib.Core.Path.{◌≡◌, ◌∙◌, refl, ap}
 use mathlib.Core.Logic.{◌⊎◌, inl, inr}
 use mathlib.Core.List.{List}
 use Prim.Native.Nat.{ℕ, zero, suc, ◌+◌, ◌≤◌, ◌<◌}
@@ -9,7 +9,6 @@ use native.Mathlib.Omega.{arith}
 use lib.ListN.{length, get_or, set, length-set}
 use lib.Seq.{get_or-set_same, get_or-set_other}
 use Rattle.base.proofs.Choices.{choose_eq}
-use Rattle.handler.specs.declared.Got.TheVariants as got
 use Rattle.handler.specs.Answer.{Gives}
 use Rattle.handler.specs.Acts.{Acts}
 use Rattle.handler.proofs.Giving.{gives_byte}

@@ -8,7 +8,7 @@ use Prim.Native.Nat.{ℕ, ◌≤◌}
 use native.Mathlib.Omega.{arith}
 use lib.Dec.{ltb}
 use lib.ListN.{length, take, drop}
-use lib.Seq.{length-take-le, take_at, drop_at}
+use lib.Seq.{length-take-le, take_at as take_front, drop_at}
 use Rattle.base.specs.Choice.{choose, or}
 use Rattle.base.proofs.Choices.{pick_eq}
 use Rattle.blocks.specs.declared.Port as blocks
@@ -61,7 +61,7 @@ effect_seen success o = record { world = view_of (world_of o); answer = answer_b
 -- a part put back in its place, and the other part
 module _ (n : ℕ) (part xs : List ℕ) where
   own_first : length part ≡ n → take n (part ++ drop n xs) ≡ part
-  own_first h = take_at part (drop n xs) n h
+  own_first h = take_front part (drop n xs) n h
 
   other_first : length part ≡ n → drop n (part ++ drop n xs) ≡ drop n xs
   other_first h = drop_at part (drop n xs) n h
@@ -70,7 +70,7 @@ module _ (n : ℕ) (part xs : List ℕ) where
   own_second h = drop_at (take n xs) part n (length-take-le n xs h)
 
   other_second : n ≤ length xs → take n (take n xs ++ part) ≡ take n xs
-  other_second h = take_at (take n xs) part n (length-take-le n xs h)
+  other_second h = take_front (take n xs) part n (length-take-le n xs h)
 
 abbrev view_by : (p q : blocks.Port) → (room half room' half' : List ℕ) → Groups → View real
 view_by p q room half room' half' g = record { ports = record { zeroth = port_seen 0 p room half; first = port_seen 1 q room' half' }; devs = g }

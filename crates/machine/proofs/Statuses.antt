@@ -2,7 +2,7 @@
 -- Assumes nothing.
 use mathlib.Core.Path.{◌≡◌, ◌∙◌, refl, sym, ap, subst}
 use mathlib.Core.Logic.{◌↔◌}
-use mathlib.Core.List.{List, [], ◌∷◌}
+use mathlib.Core.List.{List, ◌∷◌}
 use Prim.Native.Nat.{ℕ, suc}
 use native.Mathlib.Omega.{arith}
 use Rattle.wire.specs.declared.Message.{Message}
@@ -23,7 +23,7 @@ use Rattle.serial.specs.Demand3.{bytes_of}
 use Rattle.rules.specs.Statuses.{MarkedAs}
 use Rattle.rules.proofs.Marks.{marks_swap, marked_as, tape_open_is}
 use Rattle.rules.proofs.Statuses.{call_statuses, call_replies, call_blocks, call_shape, call_needs, load_replies, fetch_replies}
-use Rattle.machine.specs.Spells.{said_by, Spells}
+use Rattle.machine.specs.Spells.{said_by}
 use Rattle.machine.specs.Real.{reply_by, FitAll, real}
 use Rattle.machine.specs.Statuses.{RepliesTo, RepliesWith, StatusRule, MarkRule, FieldRule, FieldsRule, NeedsRule}
 use Rattle.machine.proofs.Course.{fit_mine}

@@ -9,10 +9,10 @@ use Prim.Native.Nat.{ℕ, ◌≤◌}
 use native.Mathlib.Omega.{arith}
 use lib.Dec.{eqb}
 use lib.ListN.{length, take, drop}
-use lib.Seq.{length-take-le, take_at, drop_at, length-sets}
+use lib.Seq.{length-take-le, take_at as take_front, drop_at, length-sets}
 use Rattle.base.specs.Choice.{pick}
 use Rattle.base.proofs.Choices.{choose_go}
-use Rattle.handler.specs.Acts.{Acts, asks_on}
+use Rattle.handler.specs.Acts.{asks_on}
 use Rattle.blocks.specs.declared.Phase.{Phase}
 use Rattle.blocks.specs.declared.Phase.TheVariants.{Gathering, Ready, Running, Replying}
 use Rattle.blocks.specs.declared.Port.{Port}
@@ -48,7 +48,7 @@ other_part n port part xs h = go (eqb port 0)
     go : (b : Bool) → length part ≡ length (pick b (take n xs) (drop n xs))
         → pick (eqb (pick b 1 0) 0) (take n (pick b (part ++ drop n xs) (take n xs ++ part))) (drop n (pick b (part ++ drop n xs) (take n xs ++ part))) ≡ pick (eqb (pick b 1 0) 0) (take n xs) (drop n xs)
     go true e = drop_at part (drop n xs) n (e ∙ length-take-le n xs h)
-    go false e = take_at (take n xs) part n (length-take-le n xs h)
+    go false e = take_front (take n xs) part n (length-take-le n xs h)
 
 other_port : (port : ℕ) (p : Port) (s : Stick) → other_at port (with_port port p s) ≡ other_at port s
 other_port port p s = go (eqb port 0)

@@ -635,7 +635,7 @@ module _ (s : Groups) (sound : FitCassette s.cassette) (free : s.cassette.casset
       at : At iocb low (open_block C number aux1) (taken write_of sent (opened_to aux1)) m t
       fit : FitLocal m
 
-    putting_on : {iocb : ℕ} {statuses : List ℕ} {l m : Local} {t : Groups} → OpenPuts iocb l s sent statuses m t → Putting iocb statuses m t
+    putting_on : {iocb : ℕ} {l : Local} {statuses : List ℕ} {m : Local} {t : Groups} → OpenPuts iocb l s sent statuses m t → Putting iocb statuses m t
     putting_on {iocb = iocb} {l = l} (open_puts w d o p) =
         let low = d.low in
         let k = writing_mark iocb low w l o in
@@ -685,7 +685,7 @@ module _ (s : Groups) (sound : FitCassette s.cassette) (free : s.cassette.casset
       at : At iocb low (open_block C number aux1) (given read_of (take asked sent) x) n u
       whole : length n.area ≡ area_length
 
-    has_read : {iocb other asked : ℕ} {before statuses brought : List ℕ} {l m n o : Local} {t u v : Groups} → OpenPutsClose iocb l s sent before m t → u.cassette ≡ t.cassette
+    has_read : {iocb other asked : ℕ} {l m n : Local} {t u : Groups} {before statuses brought : List ℕ} {o : Local} {v : Groups} → OpenPutsClose iocb l s sent before m t → u.cassette ≡ t.cassette
         → OpenGets other n u asked brought statuses o v → (left : ℕ) → asked + left ≡ length sent → Read other asked left brought statuses o v
     has_read {other = other} {n = n} {u = u} w b (open_gets r d o p) left h =
         let low = d.low in

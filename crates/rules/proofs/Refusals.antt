@@ -36,7 +36,7 @@ use Rattle.image.specs.Place.{is_directory, unit_of, entry_of}
 use Rattle.disk.specs.Disk.{place_opened, place_status, flag_status, place_length, place_number, place_at, DiskGroup, disk_group, get_place, put_place}
 use Rattle.disk.proofs.Keeps as disk_keeps
 use Rattle.console.specs.declared.Handler.TheVariants as console
-use Rattle.console.specs.Handlers.{open_of, open_s, prepare_of, prepare_s, read_of, read_e, read_s, read_k, write_of, write_e, write_s}
+use Rattle.console.specs.Handlers.{open_of, open_s, prepare_of, prepare_s, write_of, write_e, write_s}
 use Rattle.blocks.specs.declared.ControlBlock.{ControlBlock}
 use Rattle.blocks.specs.declared.Device.{Device}
 use Rattle.blocks.specs.declared.Kind.{Kind}

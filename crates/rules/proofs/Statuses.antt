@@ -1,15 +1,15 @@
 -- Document 01, Statuses: each line of the table and of the order holds of a request alone.
 -- Assumes nothing.
 use mathlib.Core.Path.{◌≡◌, ◌∙◌, refl, sym, ap, subst}
-use mathlib.Core.Logic.{◌↔◌, ◌⊎◌, inl, inr, ⊎_elim}
+use mathlib.Core.Logic.{◌⊎◌, inl, inr, ⊎_elim}
 use mathlib.Core.Bool.{Bool, true, false, not}
 use mathlib.Core.List.{List, [], ◌∷◌}
 use Prim.Native.Nat.{ℕ, zero, suc, ◌+◌, ◌*◌, ◌<◌, ◌≤◌}
 use native.Mathlib.Omega.{arith}
-use lib.Dec.{T, eqb, leb, ltb}
+use lib.Dec.{T, eqb, leb}
 use lib.ListN.{length, get_or, drop}
 use borrow.Author.Tests.{lt-ltb, le-ltb, le-leb, lt-leb, eq-eqb, ne_eqb, not-true}
-use Rattle.base.specs.Choice.{pick, or, within, bit}
+use Rattle.base.specs.Choice.{or, within, bit}
 use Rattle.base.proofs.Choices.{pick_go, pick_eq, pick_lt, pick_le, choose_go, choose_eq, choose_lt, choose_le, by_test, by_lt, by_eq, and_false}
 use Rattle.names.specs.declared.Name.{Name}
 use Rattle.names.specs.declared.Named.{Named}
@@ -21,13 +21,12 @@ use Rattle.handler.specs.declared.Done.{Done}
 use Rattle.handler.specs.declared.Done.TheVariants as done
 use Rattle.handler.specs.declared.Got.{Got}
 use Rattle.handler.specs.declared.Got.TheVariants as got
-use Rattle.handler.specs.Answer.{done_status, Answer, answer, Gives, plain, warns}
+use Rattle.handler.specs.Answer.{done_status, Answer, answer, plain, warns}
 use Rattle.handler.proofs.Giving.{gives_refused}
-use Rattle.handler.specs.Acts.{Acts, asks_open, asks_on}
+use Rattle.handler.specs.Acts.{asks_open, asks_on}
 use Rattle.keys.specs.Translation.{translate_of}
 use Rattle.keys.specs.declared.keyboard.Keyboard.{Keyboard}
 use Rattle.keys.specs.Keyboard as keys
-use Rattle.keys.proofs.Keeps as keys_keeps
 use Rattle.cells.specs.Modes.{shape_of}
 use Rattle.editor.specs.Text.{Text}
 use Rattle.editor.specs.Get as editor_get
@@ -37,7 +36,6 @@ use Rattle.graphics.specs.Picture.{Picture}
 use Rattle.graphics.specs.Picture as graphics
 use Rattle.printer.specs.Printer.{paper_length, PrinterGroup}
 use Rattle.printer.specs.Printer as printer
-use Rattle.printer.proofs.Keeps as printer_keeps
 use Rattle.cassette.specs.Cassette.{CassetteGroup, with_cassette, behind}
 use Rattle.cassette.specs.Cassette as cassette
 use Rattle.cassette.specs.Reads.{success, warned, TapeReads, bad, ended, given}
@@ -65,7 +63,7 @@ use Rattle.blocks.specs.declared.Table.{Table}
 use Rattle.blocks.specs.Blocks.{closed_block, open_block, block_at, with_block}
 use Rattle.blocks.specs.Opening.{area_length, specification_of, reads, writes, offers_of}
 use Rattle.blocks.specs.Made.{made_state}
-use Rattle.blocks.specs.Specified.{Specified, Malformed, NeededPast, Specifies, NotOffered}
+use Rattle.blocks.specs.Specified.{Specified, NotOffered}
 use Rattle.blocks.proofs.Keeps.{block_back, block_made, made_offers, keys_unwritten, disk_unwritten, paper_unread, tape_one_way}
 use Rattle.blocks.proofs.Specified.{specifies, offers_not}
 use Rattle.commands.specs.declared.Command.{Command}
@@ -78,7 +76,7 @@ use Rattle.replies.specs.Replies.{field_of, call_reply, status_reply, bytes_at, 
 use Rattle.replies.proofs.Fetched.{fetched}
 use Rattle.devices.specs.declared.Group.TheVariants as group
 use Rattle.devices.specs.Groups.{Groups, Part, get_group, put_group, group_of, owner_of, device_acts}
-use Rattle.devices.specs.Fit.{FitGroups, FitPart}
+use Rattle.devices.specs.Fit.{FitGroups}
 use Rattle.plan.specs.declared.After.{After}
 use Rattle.plan.specs.declared.After.TheVariants as after
 use Rattle.plan.specs.declared.Plan.{Plan}
@@ -89,7 +87,7 @@ use Rattle.alone.specs.Transfer.{TransferEnd, getting, putting, transferred}
 use Rattle.alone.specs.Left.{device_left}
 use Rattle.alone.specs.Fit.{FitLocal, FitOwn}
 use Rattle.alone.specs.Alone.{call, load, fetch, asked_of, Local, alone_opening, alone_transfer, alone_work, alone_errand, alone_plan, alone_of}
-use Rattle.alone.specs.Ending.{IsLast, GoesOn, ReadsTo, GetEnds, Stores, get_refused, get_whole, get_cut, SentOn, WritesTo, PutEnds, put_refused, put_whole, read_to, read_says, written_to, write_says}
+use Rattle.alone.specs.Ending.{IsLast, ReadsTo, GetEnds, Stores, get_refused, get_whole, get_cut, WritesTo, PutEnds, put_refused, put_whole, read_to, read_says, written_to, write_says}
 use Rattle.alone.proofs.Ending.{LengthFits, get_ends, put_ends, get_once, put_once, get_kept, get_read, put_kept}
 use Rattle.alone.proofs.Loading.{load_leaves}
 use Rattle.alone.proofs.Storing.{get_stores, put_area}
@@ -97,7 +95,7 @@ use Rattle.alone.proofs.Fit.{fit_part}
 use Rattle.alone.proofs.Lines.{device_lines, device_starts}
 use Rattle.rules.proofs.Marks.{read_mark, write_mark}
 use Rattle.rules.specs.Answers.{one_of}
-use Rattle.rules.specs.Statuses.{reply_status, direction_bit, BadMode, OnBlock, OpenElsewhere, BehindColon, HasName, BadName, NoneMatches, LockedMatches, MarkedAs, AtEnd, at_end, AtBad, bad_record, BeforeEnd, before_end, OpenOnOpen, TransferOnClosed, Transfer, Undirected, Directed, Opening, PastArea, buffer_past, specification_past, name_past, NoDevice, NamesDevice, AlreadyOpen, block_open, tape_open, Illegal, bad_command, not_offered, special_on_open, special_on_closed, BadlyNamed, place_in, NoFile, none_matches, status_unused, FileLocked, locked_matches, status_locked, Passed, NoMode, open_mode, transfer_mode, Started, acts_on, sent_by, ReadsAt, WritesAt, EndOfFile, BadRecord, BadChain, Warns, EndWarned, RecordCut, PastRows, CursorPast, Full, CallStatuses, CallBlocks, CallNeeds, GetReply, PutReply, Uncounted, CallReplies, LoadStatuses, LoadReplies, FetchReplies}
+use Rattle.rules.specs.Statuses.{reply_status, BadMode, OnBlock, OpenElsewhere, BehindColon, HasName, BadName, NoneMatches, LockedMatches, MarkedAs, AtEnd, at_end, AtBad, bad_record, BeforeEnd, before_end, OpenOnOpen, TransferOnClosed, Transfer, Undirected, Directed, Opening, PastArea, buffer_past, specification_past, name_past, NoDevice, NamesDevice, AlreadyOpen, block_open, tape_open, Illegal, bad_command, not_offered, special_on_open, special_on_closed, BadlyNamed, place_in, NoFile, none_matches, status_unused, FileLocked, locked_matches, status_locked, Passed, NoMode, open_mode, transfer_mode, Started, acts_on, sent_by, ReadsAt, EndOfFile, BadRecord, BadChain, Warns, EndWarned, RecordCut, CursorPast, Full, CallStatuses, CallBlocks, CallNeeds, GetReply, PutReply, Uncounted, CallReplies, LoadStatuses, LoadReplies, FetchReplies}
 
 -- What a handler says, as a number: a character or a success is 0, a refusal one more than its status
 abbrev got_number : Got → ℕ

@@ -12,7 +12,7 @@ use Rattle.base.proofs.Choices.{by_eq, by_lt, choose_eq}
 use Rattle.handler.specs.declared.Asked.{Asked}
 use Rattle.handler.specs.declared.Got.{Got}
 use Rattle.handler.specs.declared.Got.TheVariants as got
-use Rattle.handler.specs.Answer.{got_status, Gives, plain, warns, NeverLast}
+use Rattle.handler.specs.Answer.{got_status, Gives, plain, warns}
 use Rattle.handler.specs.Acts.{Acts, asks_on}
 use Rattle.handler.proofs.Giving.{gives_status, high_refused}
 use Rattle.console.specs.declared.Handler.TheVariants as console
@@ -21,8 +21,6 @@ use Rattle.printer.proofs.Keeps as printer_keeps
 use Rattle.cassette.specs.Cassette.{CassetteGroup, cassette_acts, read_of}
 use Rattle.cassette.proofs.Reading.{read_warns}
 use Rattle.blocks.specs.declared.BlockState.{BlockState}
-use Rattle.blocks.specs.declared.ControlBlock.{ControlBlock}
-use Rattle.blocks.specs.declared.Device.{Device}
 use Rattle.blocks.specs.declared.Device.TheVariants as device
 use Rattle.blocks.specs.declared.Way.{Way}
 use Rattle.blocks.specs.declared.Way.TheVariants.{One, Characters, Record}
@@ -33,7 +31,7 @@ use Rattle.commands.specs.Numbers.{HasWay}
 use Rattle.commands.proofs.Numbers.{way_has}
 use Rattle.wire.specs.declared.Call.{Call}
 use Rattle.transfer.specs.Transfer.{eol}
-use Rattle.devices.specs.Groups.{Groups, Part, group_of, device_acts}
+use Rattle.devices.specs.Groups.{Groups}
 use Rattle.alone.specs.Transfer.{TransferEnd, get_one, get_characters, drop_line, get_record, getting}
 use Rattle.alone.specs.Left.{device_left}
 use Rattle.alone.specs.Alone.{Local, Alone}

@@ -1,5 +1,6 @@
 // A running request over the lent bytes: its move of one character, and what becomes of a request in its port's room and phase.
 #![tactic(auto)]
+
 ghost use Rattle.std.specs.Prelude.{◌≡◌};
 ghost use Rattle.transfer.specs.Transfer.{next_of, out_of};
 ghost use Rattle.calls.specs.Bytes.{buffers};

@@ -1,7 +1,7 @@
 -- A take and a press have 0 for a byte and leave area, screen, paper, tape and images, so that the promises of `take_at`, which is lent these to read
 -- only, and of `press_at` allow an outcome.
 -- Assumes nothing.
-use mathlib.Core.Path.{◌≡◌, refl, sym, ap}
+use mathlib.Core.Path.{◌≡◌, refl, ap}
 use mathlib.Core.List.{List}
 use Prim.Native.Nat.{ℕ}
 use Rattle.base.proofs.Choices.{choose_go}

@@ -4,27 +4,18 @@
 use mathlib.Core.Path.{◌≡◌, refl, sym, ◌∙◌, ap, subst}
 use mathlib.Core.Logic.{inl, inr}
 use mathlib.Core.List.{List, [], ◌∷◌, ◌++◌}
-use Prim.Native.Nat.{ℕ, zero, suc, ◌+◌, ◌≤◌}
+use Prim.Native.Nat.{ℕ, zero, suc, ◌≤◌}
 use native.Mathlib.Omega.{arith}
 use lib.ListN.{length, get_or, replicate}
 use Rattle.keys.specs.Table as keys
 use Rattle.keys.specs.Translation as keys_to
 use Rattle.keys.specs.Keyboard as keyboard
-use Rattle.cells.specs.Modes.{modes, row_of, shape_of, count_of}
-use Rattle.cells.specs.Cells.{cell_of, with_cell, filled, reduced, scrolled}
-use Rattle.controls.specs.Decide as controls_acts
-use Rattle.editor.specs.Text as editor
-use Rattle.controls.specs.Put as controls
-use Rattle.editor.specs.Get as editor_get
 use Rattle.printer.specs.Printer as printer
 use Rattle.console.specs.Handlers.{open_e, open_of, prepare_e, prepare_of, read_e, read_k, read_of, write_e, write_of}
-use Rattle.blocks.specs.declared.Device.TheVariants.{P}
-use Rattle.blocks.specs.declared.Kind.TheVariants.{Put}
 use Rattle.blocks.specs.declared.Run.{Run}
-use Rattle.blocks.specs.declared.Way.TheVariants.{Characters}
 use Rattle.blocks.specs.Opening.{device_of, number_of, named_of, specification_of, offers_of}
 use Rattle.wire.specs.Messages.{good_field, sense_of, bad_status, message_of}
-use Rattle.replies.specs.Replies.{bytes_at, fetch_status, fetch_reply, call_reply}
+use Rattle.replies.specs.Replies.{bytes_at, fetch_status, fetch_reply}
 use Rattle.transfer.specs.Transfer.{onward_of, record_of, got_character, got_of, sent_byte, sent_record, sent_next, sent_of}
 use Rattle.devices.specs.declared.Group.{Group}
 use Rattle.devices.specs.declared.Group.TheVariants as groups
@@ -33,14 +24,11 @@ use Rattle.plan.specs.Plan.{name_of, named_for, area_plan, transfer_plan, block_
 use Rattle.moves.specs.Move as moves
 use Rattle.cio.specs.Start.{loaded_of, load_status, then_of, opened_of, opening_of, transfer_of, work_of}
 use Rattle.alone.specs.Transfer.{get_one, put_one, get_characters, drop_line, get_record, put_characters, put_record, getting, putting, transferred}
-use Rattle.alone.specs.Left.{left_e, left_k, console_left}
-use Rattle.alone.specs.Alone.{Said, call, load, fetch, alone_opening, alone_transfer, alone_work, loaded, alone_errand, alone_plan, alone_of}
+use Rattle.alone.specs.Alone.{Said, call, alone_opening, alone_transfer, alone_work, loaded, alone_errand, alone_plan, alone_of}
 use Rattle.alone.specs.Moves.{most_moves}
-use Rattle.alone.specs.Alone as request
 use Rattle.serial.specs.Machine.{port-0, port-1, finish_out}
-use Rattle.serial.specs.Core.{Phase, gathering, ready, running, replying, Quiet, View, phase_at, local_at, CoreCall, take, tick, give, press, done, number, Effect, Core}
-use Rattle.serial.specs.Calls.{start_if, tick_act, on_port, call_of}
-use Rattle.serial.specs.Run.{OkCalls, no_call, one_more_case, after}
+use Rattle.serial.specs.Core.{Phase, gathering, ready, running, replying, Quiet, View, phase_at, CoreCall, tick}
+use Rattle.serial.specs.Run.{after}
 use Rattle.serial.specs.Reading.{Spelled, Reads}
 use Rattle.serial.specs.Demand2.{LaterRule, Stops, EndRule, ticked}
 use Rattle.serial.specs.Demand3.{Whole, serial, requests_of, ReadRule, UnfinishedRule}
@@ -49,8 +37,8 @@ use Rattle.machine.specs.Spells.{Spells, feed, fed_of}
 use Rattle.machine.specs.Statuses.{StatusRule}
 use Rattle.machine.specs.Course.{CourseRule}
 use Rattle.machine.specs.Real.{errand_step, plan_step, move_by, real}
-use Rattle.machine.proofs.Plugged.{first, led, begun, ok_by, leads, says, does, loads, calls, opens}
-use Rattle.wrong.proofs.Cores.{byte_in, printed, stays, asks_load, load_e, opens_e, always_status, case_2, case_3, closes_eight, asks_print, print_two, claims, prints, printing, so_many, ok_ticks, runs_still}
+use Rattle.machine.proofs.Plugged.{first, led, begun, ok_by, leads, says, calls, opens}
+use Rattle.wrong.proofs.Cores.{byte_in, printed, stays, load_e, opens_e, always_status, case_2, case_3, closes_eight, asks_print, print_two, claims, prints, printing, so_many, ok_ticks, runs_still}
 
 -- one status for every CALL, whichever it is: "$86 IOCB above 7" and no other
 pub always_status_wrong : (s : ℕ) → StatusRule (with_call real (always_status s)) → ⊥

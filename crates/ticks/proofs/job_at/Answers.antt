@@ -1,0 +1,8 @@
+-- `job_at` meets its contract, by `job_law`.
+-- Assumes nothing.
+use Rattle.calls.proofs.Stores.{job_law}
+use borrow.Author.Rules.{rules}
+use Rattle.ticks.proofs.job_at.Goals as goal
+
+pub returns : goal.returns
+returns c = job_law _ _ _ _ _ _ _ _ c.requires _ _ _ _ _ _ _ _ _ c.Block-of.ensures c.start-begin.auto.1.1.1.0 c.start-begin.ensures c.set_block.ensures c.land_at.ensures
