@@ -5,4 +5,4 @@ use borrow.Author.Rules.{rules}
 use Rattle.ticks.proofs.job_at.Goals as goal
 
 pub returns : goal.returns
-returns c = job_law _ _ _ _ _ _ _ _ c.requires _ _ _ _ _ _ _ _ _ c.Block-of.ensures c.start-begin.auto.1.1.1.0 c.start-begin.ensures c.set_block.ensures c.land_at.ensures
+returns c = job_law _ _ _ _ _ _ _ _ c.requires _ _ _ _ _ _ _ _ _ c.block_of-block.ensures c.start-begin.auto.numbers c.start-begin.ensures c.set_block.ensures c.land_at.ensures
