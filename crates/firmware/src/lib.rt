@@ -2,6 +2,7 @@
 // For C a `&mut [u8]` is a pointer and a length. No call trusts its caller to have checked anything: a buffer of another length is answered 2,
 // bytes that stand for no undamaged stick 3, a port above 1 with 1, and none of them changes a byte.
 #![tactic(auto)]
+
 ghost use Rattle.std.specs.Prelude.{◌≡◌};
 ghost use Rattle.keys.specs.Translation.{translate_of};
 ghost use Rattle.calls.specs.Bytes.{buffers, six_fit, bytes_refusal, fresh_bytes, take_bytes, tick_bytes, give_bytes, press_bytes};

@@ -1,6 +1,6 @@
 -- Each promise of this crate decides: two outcomes that it allows are equal, and it allows one.
 -- Assumes nothing.
-use mathlib.Core.Path.{◌≡◌, refl, sym, ◌∙◌, ap}
+use mathlib.Core.Path.{sym, ◌∙◌, ap}
 use Rattle.base.specs.Decides.{Decides, Allows}
 use Rattle.calls.specs.Calls.{tick_at}
 use Prim.Native.Nat.{ℕ}

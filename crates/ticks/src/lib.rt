@@ -1,6 +1,7 @@
 // A tick of a port that is not refused: a ready request starts, or a running one moves one character. Each function lends on the parts
 // of the state that it is about: the port's room, the devices' numbers; and the port's half of the area.
 #![tactic(auto)]
+
 ghost use Rattle.std.specs.Prelude.{◌≡◌};
 ghost use Rattle.layout.specs.Places.{Reaches};
 ghost use Rattle.calls.specs.Calls.{tick_at};

@@ -1,7 +1,6 @@
 -- `errand_at` meets its contract, by `errand_law`.
 -- Assumes nothing.
 use Rattle.calls.proofs.Stores.{errand_law}
-use borrow.Author.Rules.{rules}
 use Rattle.ticks.proofs.errand_at.Goals as goal
 
 pub returns : goal.returns

@@ -1,7 +1,6 @@
 -- `job_at` meets its contract, by `job_law`.
 -- Assumes nothing.
 use Rattle.calls.proofs.Stores.{job_law}
-use borrow.Author.Rules.{rules}
 use Rattle.ticks.proofs.job_at.Goals as goal
 
 pub returns : goal.returns

@@ -1,7 +1,6 @@
 -- `plan_at` meets its contract, by `plan_law`.
 -- Assumes nothing.
 use Rattle.calls.proofs.Stores.{plan_law}
-use borrow.Author.Rules.{rules}
 use Rattle.ticks.proofs.plan_at.Goals as goal
 
 pub returns : goal.returns

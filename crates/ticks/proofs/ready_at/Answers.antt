@@ -1,7 +1,6 @@
 -- `ready_at` meets its contract, by `ready_waits` and `ready_starts`.
 -- Assumes nothing.
 use Rattle.calls.proofs.Stores.{ready_waits, ready_starts}
-use borrow.Author.Rules.{rules}
 use Rattle.ticks.proofs.ready_at.Goals as goal
 
 pub returns-then-waits : goal.returns-then-waits

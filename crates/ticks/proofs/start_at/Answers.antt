@@ -1,7 +1,6 @@
 -- `start_at` meets its contract, by `start_free` and `start_on_lem`.
 -- Assumes nothing.
 use Rattle.calls.proofs.Stores.{start_free, start_on_lem}
-use borrow.Author.Rules.{rules}
 use Rattle.ticks.proofs.start_at.Goals as goal
 
 pub returns-in-Free : goal.returns-in-Free

@@ -1,7 +1,6 @@
 -- `tick_at` meets its contract, by `goes_on`, `tick_moves`, `tick_starts` and `tick_idle`.
 -- Assumes nothing.
 use Rattle.calls.proofs.Numbers.{goes_on, tick_moves, tick_starts, tick_idle}
-use borrow.Author.Rules.{rules}
 use Rattle.ticks.proofs.tick_at.Goals as goal
 
 pub advance_at-requires : goal.advance_at-requires

@@ -2,7 +2,6 @@
 -- Assumes nothing.
 use Rattle.calls.proofs.Stores.{waits_law}
 use Rattle.calls.proofs.Numbers.{waits_none}
-use borrow.Author.Rules.{rules}
 use Rattle.ticks.proofs.waits.Goals as goal
 
 pub returns-then-phase_number-eq2 : goal.returns-then-phase_number-eq2
