@@ -1,6 +1,7 @@
 // The static library that C links: each of the functions that the port firmware calls, exported under its name, with the promise of
 // the library's function that it calls.
 #![tactic(auto)]
+
 ghost use Rattle.std.specs.Prelude.{◌≡◌};
 ghost use Rattle.keys.specs.Translation.{translate_of};
 ghost use Rattle.calls.specs.Bytes.{buffers, fresh_bytes, take_bytes, tick_bytes, give_bytes, press_bytes};
