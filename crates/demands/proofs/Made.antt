@@ -5,7 +5,7 @@ use mathlib.Core.Path.{refl}
 use mathlib.Core.List.{List, [], ◌∷◌}
 use Prim.Native.Nat.{ℕ}
 use contract.Lifetimes.{Lfts}
-use denote.Ref.{Bor}
+use denote.MutBor.{MutBor}
 use borrow.Fn.Kind.{ParamKind, ResultKind}
 use borrow.Fn.Kinds.{In, Out, Dens}
 use Rattle.base.specs.Decides.{Told}
@@ -55,8 +55,8 @@ pub doctor_open : Open doctor_kinds.ps doctor_kinds.r doctor_reads.Pre doctor_re
 doctor_open = record { asks_nothing = λ κs a. tt; answers = firmware.doctor_allows }
 
 -- a buffer, lent from anywhere
-abbrev lent_as : List ℕ → Bor (List ℕ)
-lent_as xs = record { ref_ptr = (0, 0); now = xs }
+abbrev lent_as : List ℕ → MutBor (List ℕ)
+lent_as xs = record { ref_ptr = (0, 0); ghost_name = 0; now = xs }
 
 abbrev lifetimes : Lfts 6
 lifetimes = ([], ([], ([], ([], ([], ([], tt))))))

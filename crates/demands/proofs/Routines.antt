@@ -27,30 +27,30 @@ pub routines : Routines
 routines = record {
   fresh = record {
     asks_nothing = λ κs a. tt;
-    told = λ w γ k same. fresh_reads.known w γ k fresh_symbol.routine same (fresh_met.met w.𝓤 w.𝓛 w.𝓜 w.𝓡);
+    told = λ w γ k wired same. fresh_reads.known w γ k (w.𝓡.env fresh_symbol.name) same (fresh_met.met w.𝓤 w.𝓛 w.𝓜 w.𝓡 wired);
   };
   take = record {
     asks_nothing = λ κs a. tt;
-    told = λ w γ k same. take_reads.known w γ k take_symbol.routine same (take_met.met w.𝓤 w.𝓛 w.𝓜 w.𝓡);
+    told = λ w γ k wired same. take_reads.known w γ k (w.𝓡.env take_symbol.name) same (take_met.met w.𝓤 w.𝓛 w.𝓜 w.𝓡 wired);
   };
   tick = record {
     asks_nothing = λ κs a. tt;
-    told = λ w γ k same. tick_reads.known w γ k tick_symbol.routine same (tick_met.met w.𝓤 w.𝓛 w.𝓜 w.𝓡);
+    told = λ w γ k wired same. tick_reads.known w γ k (w.𝓡.env tick_symbol.name) same (tick_met.met w.𝓤 w.𝓛 w.𝓜 w.𝓡 wired);
   };
   give = record {
     asks_nothing = λ κs a. tt;
-    told = λ w γ k same. give_reads.known w γ k give_symbol.routine same (give_met.met w.𝓤 w.𝓛 w.𝓜 w.𝓡);
+    told = λ w γ k wired same. give_reads.known w γ k (w.𝓡.env give_symbol.name) same (give_met.met w.𝓤 w.𝓛 w.𝓜 w.𝓡 wired);
   };
   press = record {
     asks_nothing = λ κs a. tt;
-    told = λ w γ k same. press_reads.known w γ k press_symbol.routine same (press_met.met w.𝓤 w.𝓛 w.𝓜 w.𝓡);
+    told = λ w γ k wired same. press_reads.known w γ k (w.𝓡.env press_symbol.name) same (press_met.met w.𝓤 w.𝓛 w.𝓜 w.𝓡 wired);
   };
   translate = record {
     asks_nothing = λ κs a. tt;
-    told = λ w γ k same. translate_reads.known w γ k translate_symbol.routine same (translate_met.met w.𝓤 w.𝓛 w.𝓜 w.𝓡);
+    told = λ w γ k wired same. translate_reads.known w γ k (w.𝓡.env translate_symbol.name) same (translate_met.met w.𝓤 w.𝓛 w.𝓜 w.𝓡 wired);
   };
   doctor = record {
     asks_nothing = λ κs a. tt;
-    told = λ w γ k same. doctor_reads.known w γ k doctor_symbol.routine same (doctor_met.met w.𝓤 w.𝓛 w.𝓜 w.𝓡);
+    told = λ w γ k wired same. doctor_reads.known w γ k (w.𝓡.env doctor_symbol.name) same (doctor_met.met w.𝓤 w.𝓛 w.𝓜 w.𝓡 wired);
   };
 }
