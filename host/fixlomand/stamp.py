@@ -9,7 +9,7 @@ from pathlib import Path
 
 from .crates import Crates
 
-PROGRAM = Path("target", "bin", "play")
+PROGRAM = Path("crates", "play", "out", "play")
 STAMP = Path("target", "stick.stamp")
 
 
