@@ -249,8 +249,8 @@ enum {
  * and keep the list in any case, until somebody has looked at the files.
  *
  * It does all its work before it returns, and meanwhile no port is ticked. Of 720 sectors it remembers which are claimed,
- * a byte each, on the stack: it needs 848 bytes of it where the deepest call needs 672 (firmware/measure prints both, and
- * how long it takes).
+ * a byte each, on the stack: it needed 848 bytes of it where the deepest call needed 672, with the older kit
+ * (firmware/measure prints both, and how long it takes).
  */
 #define FIXLOMAND_LIST_LEN 2560
 
