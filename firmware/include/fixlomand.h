@@ -12,8 +12,8 @@
  * said of whole requests is proved for calls after a fresh start; as long as the last section holds, "What the core
  * cannot test". Times and stack are measured, not proved (firmware/measure).
  *
- * firmware/build, or rt staticlib firmware, writes target/staticlib/libfirmware.a, for x86-64: link it after your own
- * objects, as in
+ * firmware/build writes target/staticlib/libfirmware.a, for x86-64 (rt lib in crates/firmware_c makes it): link it after
+ * your own objects, as in
  *     gcc -Ifirmware/include mine.c target/staticlib/libfirmware.a
  * or let firmware/install PREFIX put it (as libfixlomand.a), this header and a file for pkg-config where compilers look:
  *     gcc mine.c $(pkg-config --cflags --libs fixlomand)
@@ -249,8 +249,8 @@ enum {
  * and keep the list in any case, until somebody has looked at the files.
  *
  * It does all its work before it returns, and meanwhile no port is ticked. Of 720 sectors it remembers which are claimed,
- * a byte each, on the stack: it needs 848 bytes of it where the deepest call needs 672 (firmware/measure prints both, and
- * how long it takes).
+ * a byte each, on the stack: it needed 848 bytes of it where the deepest call needed 672, with the older kit
+ * (firmware/measure prints both, and how long it takes).
  */
 #define FIXLOMAND_LIST_LEN 2560
 

@@ -1,4 +1,4 @@
-"""The crates: which uses which (``crates.txt``), the order in which ``rt``
+"""The crates: which uses which (``crates.txt``), the orders in which ``rt``
 proves them, and their files as one number."""
 
 from __future__ import annotations
@@ -7,7 +7,7 @@ import hashlib
 from collections.abc import Iterable, Sequence
 from pathlib import Path
 
-PARTS = ("src", "specs", "proofs", "stdin", "stdout", "args", "data")
+PARTS = ("src", "specs", "proofs", "stdin", "stdout", "args", "status", "data")
 """What of a crate's folder ``rt`` reads to prove and run it."""
 
 
@@ -19,13 +19,14 @@ class Crates:
         self.uses: dict[str, list[str]] = {}
         """What each crate uses, of the repository and of the toolchain."""
         for line in (repository / "crates.txt").read_text(encoding="utf-8").splitlines():
-            name, colon, used = line.partition("#")[0].partition(":")
-            if colon:
-                self.uses[name.strip()] = used.split()
+            head, colon, used = line.partition("#")[0].partition(":")
+            if colon and head.strip():
+                # Behind a name may stand what kind of crate it is, as staticlib.
+                self.uses[head.split()[0]] = used.split()
 
     def levels(self, wanted: Sequence[str] = ()) -> list[list[str]]:
-        """The wanted crates (all, if none is named) and what they use, in the
-        order of ``rt``: a level uses only what is in earlier ones."""
+        """The wanted crates (all, if none is named) and what they use: a level
+        uses only what is in earlier ones."""
         level: dict[str, int] = {}
 
         def visit(name: str) -> None:
@@ -47,6 +48,37 @@ class Crates:
     def reached(self, name: str) -> list[str]:
         """A crate and all that it uses, bottom up."""
         return [each for level in self.levels([name]) for each in level]
+
+    def one_by_one(self, name: str) -> list[str]:
+        """The same in the order of ``rt lib`` and ``rt run``: what a crate uses
+        stands in the order of its line, each behind what it uses itself."""
+        ordered: list[str] = []
+        begun: set[str] = set()
+
+        def visit(name: str) -> None:
+            if name in self.uses and name not in begun:
+                begun.add(name)
+                for used in self.uses[name]:
+                    visit(used)
+                ordered.append(name)
+
+        visit(name)
+        return ordered
+
+    def behind(self) -> dict[str, int]:
+        """Of each crate the lines of the longest chain of crates that begins
+        with it: ``rt ci`` takes those with the longest first."""
+        above: dict[str, list[str]] = {name: [] for name in self.uses}
+        for name, used in self.uses.items():
+            for each in used:
+                above.get(each, []).append(name)
+        lines: dict[str, int] = {}
+        for level in reversed(self.levels()):
+            for name in level:
+                sources = (self.repository / "crates" / name / "src").rglob("*.rt")
+                own = sum(file.read_bytes().count(b"\n") for file in sources)
+                lines[name] = own + max((lines.get(each, 0) for each in above[name]), default=0)
+        return lines
 
     def edits(self) -> int:
         """How many must-fail edits there are."""

@@ -18,19 +18,27 @@ from typing import BinaryIO, TextIO
 from . import stamp
 from .crates import Crates
 
-PROVED = re.compile(r"rt: (\w+) proved \((.*)\)$")
-ARCHIVE = re.compile(r"rt: target/staticlib/lib(\w+)\.a has ")
-NOT_PROVED = re.compile(r"rt: (\w+) NOT PROVED")
-REFUSED = re.compile(r"rt: must-fail (\S+): refused")
-RAN = re.compile(r"rt: (\w+) ran\b")
-WELL = "rt: ok, "
+# rt ci tells of a crate when it is done: "== NAME", all that was said of it, and how it ended.
+BLOCK = "== "
+PROVED = re.compile(r"rt: (\w+) proved$")
+TESTS_PROVED = re.compile(r"rt: \w+: its tests are proved$")
+KEPT = re.compile(r"rt: (\w+) is kept: ")
+NOT_PROVED = re.compile(r"rt: (\w+)(: its tests are)? NOT PROVED")
+REFUSED = re.compile(r"rt: must-fail (\S+?)(?:\.edit)?: refused")
 EDIT = "rt: must-fail "
-UNCHANGED = "unchanged"
+WELL = "rt: ok; "
+# rt lib, rt run and rt check prove one crate after the other.
+BEGUN = re.compile(r"rt: chose --jobs \d+ for (\w+)$")
+ENDED = "logic=proved "
+FAILED = "logic=not-proved"
+QUIET = re.compile(
+    r"rt: (\w+ ran\b|\w+: its tests passed|\w+: trying its must-fail edits|\w+: \d+ of its \d+ must-fail edits were tried by"
+    r"|\w+: begins with what a check kept in|nothing has changed since the last proved build|running out/)"
+)
+"""What is no trouble."""
 PACE = 1.0
 """Seconds between two looks at the clock."""
 WIDTH = 80
-JOBS = 4
-"""The most crates that ``rt`` proves at once, unless RT_JOBS says another number."""
 
 
 class Progress:
@@ -40,23 +48,32 @@ class Progress:
         """``says`` begins each line; ``troubles``: whether what is not proved
         is shown with all that ``rt`` says of it."""
         self._says, self._out, self._troubles = says, out, troubles
-        self._levels = crates.levels(words[1:])
-        self._crates = sum(map(len, self._levels))
-        self._edits = crates.edits() if words[0] == "ci" else 0
-        self._jobs = 1 if words[0] == "staticlib" else _jobs()
+        self._names = [name for level in crates.levels(words[1:]) for name in level]
+        """The crates to be proved, in the order in which they are begun."""
+        self._uses = crates.uses
+        self._jobs, self._edits = 1, 0
+        if words[0] == "ci":
+            self._jobs, self._edits = _jobs(), crates.edits()
+            behind = crates.behind()
+            self._names.sort(key=lambda name: -behind[name])
+        elif words[1:]:
+            self._names = crates.one_by_one(words[1])
         self._moving = out.isatty() and os.environ.get("TERM", "dumb") != "dumb"
         self._begin = time.monotonic()
         self._done: dict[str, bool] = {}
-        """The crates that ``rt`` has spoken of, and whether each is proved."""
+        """The crates that ``rt`` is done with, and whether each is proved."""
+        self._at = ""
+        """The crate that ``rt`` is at, where it proves one after the other."""
         self._refused = 0
         self._kept: list[str] = []
-        """Lines on a crate: whether they tell of trouble, the next one of rt says."""
+        """Lines on a crate: whether they tell of trouble, a later one says."""
+        self._in_block = False
         self._telling = False
         """Whether the lines to come are on an edit that was not refused."""
         self.worked = False
         """Whether anything had to be proved."""
         self.well = False
-        """Whether ``rt`` said that all is proved."""
+        """Whether ``rt ci`` said that all is proved."""
 
     def follow(self, source: int, log: BinaryIO | None = None) -> None:
         """Reads a file to its end; the log gets all of it."""
@@ -79,30 +96,77 @@ class Progress:
 
     def line(self, text: str) -> None:
         """Takes a line of ``rt``."""
-        if not text.startswith("rt: "):
-            if self._telling:
-                self._tell(text)
-            else:
-                self._kept.append(text)
+        if text.startswith(BLOCK):
+            self._in_block, self._telling = True, False
+            self._kept = [text]
+        elif self._in_block:
+            self._of_block(text)
+        elif text.startswith((ENDED, FAILED)):
+            self._of_crate(text)
+        elif text.startswith("rt: "):
+            self._of_rt(text)
+        elif self._telling:
+            self._tell(text)
+        else:
+            self._kept.append(text)
+
+    def _of_block(self, text: str) -> None:
+        """Takes a line of all that ``rt ci`` says of a crate, or of its tests."""
+        self._kept.append(text)
+        if match := PROVED.match(text):
+            self._proved(match[1])
+        elif match := NOT_PROVED.match(text):
+            if not match[2]:
+                self._done[match[1]] = False
+            self._tell_kept()
+        elif not TESTS_PROVED.match(text):
             return
+        self._in_block = False
+        self._kept.clear()
+
+    def _of_crate(self, text: str) -> None:
+        """Takes the last line of a check."""
+        if text.startswith(ENDED):
+            if self._at:
+                self._proved(self._at)
+        else:
+            self._done[self._at] = False
+            self._kept.append(text)
+            self._tell_kept()
+        self._at = ""
+        self._kept.clear()
+
+    def _of_rt(self, text: str) -> None:
+        """Takes a line of ``rt`` itself."""
         self._telling = False
-        if match := PROVED.match(text) or ARCHIVE.match(text):
-            name, how = (match[1], match[2]) if match.re is PROVED else (match[1], "")
-            self._done[name] = True
-            if not how.startswith(UNCHANGED):
-                self.worked = True
-                took = f" ({how})" if how else ""
-                self._note(f"crate {len(self._done)} of {self._crates}: {name} proved{took}, {self._clock()} so far")
+        if match := BEGUN.match(text):
+            self._at = match[1]
+            if self._at in self._names:  # rt does not speak of what has not changed
+                for name in self._names[: self._names.index(self._at)]:
+                    self._done.setdefault(name, True)
+        elif match := KEPT.match(text):
+            self._done[match[1]] = True
         elif match := REFUSED.match(text):
             self._refused += 1
             self._note(f"must-fail edit {self._refused} of {self._edits}: {match[1]} refused, {self._clock()} so far")
-        elif not RAN.match(text) and not text.startswith(WELL):
+        elif text.startswith(WELL):
+            self.well = True
+        elif not QUIET.match(text):
             if match := NOT_PROVED.match(text):
                 self._done[match[1]] = False
             self._telling = text.startswith(EDIT)
-            for line in (*self._kept, text):
-                self._tell(line)
-        self.well |= text.startswith(WELL)
+            self._kept.append(text)
+            self._tell_kept()
+        self._kept.clear()
+
+    def _proved(self, name: str) -> None:
+        self._done[name] = True
+        self.worked = True
+        self._note(f"crate {len(self._done)} of {len(self._names)}: {name} proved, {self._clock()} so far")
+
+    def _tell_kept(self) -> None:
+        for line in self._kept:
+            self._tell(line)
         self._kept.clear()
 
     def show(self) -> None:
@@ -116,17 +180,15 @@ class Progress:
         if self._moving:
             self._out.write("\r\x1b[K" + (f"{self._cut(f'{self._says}: {self._so_far(True)}')}\n" if self.worked else ""))
             self._out.flush()
-        for line in self._kept:
-            self._tell(line)
-        self._kept.clear()
+        self._tell_kept()
 
     def covers(self, name: str) -> bool:
         """Whether a crate is one of those to be proved."""
-        return any(name in level for level in self._levels)
+        return name in self._names
 
     def _so_far(self, ended: bool = False) -> str:
         proved = sum(self._done.values())
-        text = f"{proved} of {self._crates} crates proved"
+        text = f"{proved} of {len(self._names)} crates proved"
         now = self._now()
         if now and not ended:
             text += f", now {' and '.join(now)}"
@@ -135,14 +197,10 @@ class Progress:
         return f"{text}, {self._clock()}"
 
     def _now(self) -> list[str]:
-        """What is being proved: ``rt`` speaks of crates in their order, and of
-        those that it proves at once when the last of them is done."""
-        for level in self._levels:
-            for at in range(0, len(level), self._jobs):
-                left = [name for name in level[at : at + self._jobs] if name not in self._done]
-                if left:
-                    return left
-        return []
+        """What is being proved: of those whose libraries are proved the first,
+        as many as ``rt`` proves at once."""
+        left = [name for name in self._names if name not in self._done]
+        return [name for name in left if not any(used in left for used in self._uses[name])][: self._jobs]
 
     def _clock(self) -> str:
         minutes, seconds = divmod(int(time.monotonic() - self._begin), 60)
@@ -168,14 +226,15 @@ def _jobs() -> int:
     named = os.environ.get("RT_JOBS", "")
     if named.isascii() and named.isdigit() and int(named) > 0:
         return int(named)
-    return min(os.cpu_count() or 1, JOBS)
+    return len(os.sched_getaffinity(0))
 
 
 def main(words: Sequence[str], repository: Path) -> int:
-    """Shows what standard input, the lines of ``rt WORDS``, comes to; the
-    first word is who says so. ``./stick`` is told what was proved."""
-    if len(words) < 2 or words[1] not in ("ci", "check", "staticlib"):
-        print("usage: rt WORDS | tools/progress NAME WORDS (ci, check CRATE.. or staticlib CRATE)", file=sys.stderr)
+    """Shows what standard input, the lines of ``rt``, comes to; the first
+    word is who says so, the others are what ``rt`` does and in which crate.
+    ``./stick`` is told what was proved."""
+    if len(words) != (2 if words[1:2] == ["ci"] else 3) or words[1] not in ("ci", "lib", "run", "check"):
+        print("usage: rt .. | tools/progress NAME WORDS (ci, or lib, run or check and the CRATE where rt is)", file=sys.stderr)
         return 2
     try:
         before = stamp.sources(repository)

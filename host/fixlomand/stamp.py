@@ -9,7 +9,7 @@ from pathlib import Path
 
 from .crates import Crates
 
-PROGRAM = Path("target", "bin", "play")
+PROGRAM = Path("crates", "play", "out", "play")
 STAMP = Path("target", "stick.stamp")
 
 
@@ -21,6 +21,7 @@ def sources(repository: Path) -> str:
 def note(repository: Path, proved: str) -> None:
     """Notes that the program, if there is one, is proved and built of such sources."""
     if (repository / PROGRAM).exists():
+        (repository / STAMP).parent.mkdir(exist_ok=True)
         (repository / STAMP).write_text(_stamp(repository, proved))
 
 

@@ -25,7 +25,7 @@ OVERRIDE = "FIXLOMAND_PLAY"
 """The variable that names another command in place of the built ``play``."""
 LOG = Path("target", "stick.log")
 """What the toolchain said at the last build."""
-LOADER = Path("lib") / "ld-linux-x86-64.so.2"
+LOADER = Path("toolchain", "lib", "ld-linux-x86-64.so.2")
 TITLE = "Fixlomand"
 UNPROVED_TITLE = "Fixlomand, NOT PROVED"
 
@@ -99,16 +99,17 @@ def _named(named: str, say: Callable[[str], None]) -> list[str]:
 
 def _build(repository: Path, rt: str, say: Callable[[str], None]) -> None:
     if (repository / PROGRAM).exists():
-        say("looking with rt check play whether play is proved, and proving what has changed")
+        say("looking with rt run in crates/play whether play is proved, and proving what has changed")
     else:
-        say("the core is not proved on this machine yet: rt check play does it, which takes minutes the first time")
+        say("the core is not proved on this machine yet: rt run in crates/play does it, which takes minutes the first time")
         say("(./stick --unproved starts in seconds: the same sources, compiled without the proof)")
     begin = time.monotonic()
     before = stamp.sources(repository)
-    progress = Progress("stick", Crates(repository), ["check", "play"], sys.stderr, troubles=False)
+    progress = Progress("stick", Crates(repository), ["run", "play"], sys.stderr, troubles=False)
     try:
         (repository / LOG).parent.mkdir(exist_ok=True)
-        with (repository / LOG).open("wb") as log, _running([rt, "check", "play"], repository) as process:
+        # It also runs what it has built, on no input, and play ends when its input does.
+        with (repository / LOG).open("wb") as log, _running([rt, "run"], repository / "crates" / "play") as process:
             assert process.stdout is not None
             try:
                 progress.follow(process.stdout.fileno(), log)
@@ -116,9 +117,9 @@ def _build(repository: Path, rt: str, say: Callable[[str], None]) -> None:
                 progress.end()
             status = process.wait()
     except OSError as error:
-        raise Missing(f"rt check play cannot run: {error}") from error
+        raise Missing(f"rt run in crates/play cannot run: {error}") from error
     if status != 0:
-        raise Missing(f"rt check play failed, so there is no play; {repository / LOG} tells why")
+        raise Missing(f"rt run in crates/play failed, so there is no play; {repository / LOG} tells why")
     stamp.note(repository, before)
     say(f"play is proved and built ({time.monotonic() - begin:.0f} s)")
 
@@ -153,27 +154,21 @@ def _running(command: list[str], folder: Path) -> Iterator[subprocess.Popen[byte
 
 
 def _start(kit: Path, program: Path, say: Callable[[str], None]) -> list[str]:
-    """Programs are for x86-64; on another processor the toolchain's emulator
-    runs them. They start with the loader and the library of the toolchain."""
-    tools = _tools(kit)
-    for needed in (program, tools / LOADER):
+    """Programs are for x86-64; on another processor an emulator runs them.
+    They start with the loader and the library of the toolchain."""
+    loader = kit / LOADER
+    for needed in (program, loader):
         if not needed.exists():
             raise Missing(f"{needed} is missing")
-    command = [str(tools / LOADER), "--library-path", str(tools / "lib"), str(program)]
-    emulator = tools / "bin" / "qemu-x86_64"
-    if os.access(emulator, os.X_OK):
-        say(f"play runs under the toolchain's emulator, {emulator}")
-        return [str(emulator), *command]
-    if platform.machine() not in ("x86_64", "AMD64"):
-        raise Missing(f"play is for x86-64, and there is no emulator at {emulator}")
-    say("play runs on this processor, with the toolchain's loader")
-    return command
-
-
-def _tools(kit: Path) -> Path:
-    """The compiler, the emulator and the libraries of the toolchain."""
-    tools = kit / "on" / platform.machine() / "toolchain"
-    return tools if (tools / LOADER).exists() else kit / "toolchain"
+    command = [str(loader), "--library-path", str(loader.parent), str(program)]
+    if platform.machine() in ("x86_64", "AMD64"):
+        say("play runs on this processor, with the toolchain's loader")
+        return command
+    emulator = shutil.which("qemu-x86_64")
+    if emulator is None:
+        raise Missing("play is for x86-64, and there is no emulator qemu-x86_64 on the PATH")
+    say(f"play runs under the emulator {emulator}")
+    return [emulator, *command]
 
 
 # not proved
@@ -183,7 +178,7 @@ def _build_unproved(repository: Path, kit: Path, say: Callable[[str], None]) -> 
     global _title
     begin = time.monotonic()
     try:
-        program, is_new = unproved.build(Crates(repository), kit, _tools(kit), stamp.identity())
+        program, is_new = unproved.build(Crates(repository), kit, stamp.identity())
     except (OSError, unproved.Failed) as error:
         raise Missing(f"play cannot be compiled without its proof: {error}") from error
     if is_new:

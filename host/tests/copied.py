@@ -40,6 +40,7 @@ class Copied(Folder):
         super().setUp()
         self.repository = self.folder / "repository"
         self.copy("host/fixlomand", "host/stick.py", "stick", "crates.txt")
+        (self.repository / "crates" / "play").mkdir(parents=True)
         self.file("kit/bin/needed", "")
         for name in PROGRAMS:
             self.link(name, shutil.which(name) or name)
@@ -51,7 +52,9 @@ class Copied(Folder):
             to = self.repository / name
             to.parent.mkdir(parents=True, exist_ok=True)
             if (REPOSITORY / name).is_dir():
-                shutil.copytree(REPOSITORY / name, to, ignore=shutil.ignore_patterns("__pycache__"))
+                shutil.copytree(
+                    REPOSITORY / name, to, ignore=shutil.ignore_patterns("__pycache__", "out"), dirs_exist_ok=True
+                )
             else:
                 shutil.copy(REPOSITORY / name, to)
 

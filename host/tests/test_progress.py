@@ -14,11 +14,22 @@ from .running import PATIENCE
 from .terminal import Terminal
 
 TALLY = "3 passed, 0 failed"
+OK = "rt: ok; handles allowed: none; must-fail edits: 1 refused; every proof and must-fail edit was done in this run"
 
 
-def proved(name: str, how: str = "7 s") -> str:
-    """A stand-in rt's lines on a crate."""
-    return f"echo 'fn {name}::all: proved'; echo 'rt: {name} proved ({how})'"
+def proved(name: str) -> str:
+    """A stand-in rt ci's lines on a crate."""
+    return f"echo '== {name}'; echo 'fn {name}::all: proved'; echo 'logic=proved functions=1'; echo 'rt: {name} proved'"
+
+
+def checked(name: str) -> str:
+    """A stand-in rt lib's, and rt run's, lines on a crate."""
+    return f"echo 'rt: chose --jobs 2 for {name}'; echo 'fn {name}::all: proved'; echo 'logic=proved functions=1'"
+
+
+def kept(name: str) -> str:
+    """A stand-in rt ci's line on a crate that it proved before."""
+    return f"echo 'rt: {name} is kept: an earlier run on this machine proved the same files'"
 
 
 class Standing(Copied):
@@ -30,7 +41,8 @@ class Standing(Copied):
         self.file("repository/crates.txt", "# all\nlow:\nplay: middle io\nmiddle: low\naside:\n")
         self.file("repository/crates/low/must-fail/one.edit", "")
         self.file("repository/crates/low/src/lib.rt", "")
-        for name in ("env", "grep", "mktemp", "mv", "find", "tail", "uname"):
+        self.file("repository/crates/firmware_c/src/lib.rt", "")
+        for name in ("env", "grep", "mktemp", "mv", "find", "sed", "tail", "uname"):
             self.link(name, self.which(name))
 
     @staticmethod
@@ -60,36 +72,48 @@ class Standing(Copied):
 
 class InAPipe(Standing):
     def test_a_line_for_each_crate(self) -> None:
-        self.rt(proved("low"), proved("aside", "unchanged since it was last proved"), proved("middle"), proved("play"),
-                "echo 'rt: must-fail low/one: refused, as it must be (first at src/lib.rt:1:1; 1 s)'",
-                "echo \"rt: play ran as nobody, and wrote what its file 'stdout' has (0 s)\"",
-                "echo 'rt: ok, 4 crates proved, 1 must-fail edits refused'", "echo '5 passed, 0 failed'")  # fmt: skip
+        self.rt(proved("low"), kept("aside"), "echo 'rt: low: trying its must-fail edits (1)'", proved("middle"), proved("play"),
+                "echo '== play: its tests'; echo 'fn a: proved'; echo 'rt: play: its tests are proved'",
+                "echo 'rt: must-fail low/one.edit: refused, as it must be: src/lib.rt:1:1: error'",
+                "echo 'rt: play ran, and wrote what its file stdout has'",
+                "echo 'tests: 1'; echo 'rt: play: its tests passed'",
+                "echo 'rt: ok; handles allowed: none; must-fail edits: 1 refused'", "echo '5 passed, 0 failed'")  # fmt: skip
         self.assertEqual(
             self.filtered("ci"),
-            "who: crate 1 of 4: low proved (7 s), TIME so far\n"
-            "who: crate 3 of 4: middle proved (7 s), TIME so far\n"
-            "who: crate 4 of 4: play proved (7 s), TIME so far\n"
+            "who: crate 1 of 4: low proved, TIME so far\n"
+            "who: crate 3 of 4: middle proved, TIME so far\n"
+            "who: crate 4 of 4: play proved, TIME so far\n"
             "who: must-fail edit 1 of 1: low/one refused, TIME so far\n"
             "5 passed, 0 failed\n",
         )
 
     def test_what_is_wanted_is_counted(self) -> None:
-        self.rt(proved("low"), "echo 'rt: target/staticlib/libmiddle.a has the functions of middle'")
-        shown = self.filtered("staticlib middle")
+        self.rt("echo 'fn a: proved'; echo 'only=0 proved=0'", checked("low"), checked("middle"))
+        shown = self.filtered("lib middle")
         self.assertEqual(re.findall(r"crate (.*) proved", shown), ["1 of 2: low", "2 of 2: middle"])
 
+    def test_what_has_not_changed_is_counted(self) -> None:
+        """rt lib says nothing of it."""
+        self.rt(checked("middle"), "echo 'rt: chose --jobs 2 for play'", "echo 'a goal'", "echo 'logic=not-proved'",
+                "echo 'rattle build: nothing was built'", "exit 1")  # fmt: skip
+        self.assertEqual(
+            self.filtered("run play").splitlines(),
+            ["who: crate 2 of 3: middle proved, TIME so far", "a goal", "logic=not-proved", "rattle build: nothing was built"],
+        )
+
     def test_what_is_not_proved_is_shown_whole(self) -> None:
-        wrong = "echo 'lib.rt:7: error: no'; echo 'a goal'; echo 'rt: middle NOT PROVED (exit 1, 2 s)'"
-        self.rt(proved("low"), wrong, proved("aside"), "echo 'rt: must-fail low/one: BAD EDIT: so it is'",
+        wrong = "echo '== middle'; echo 'lib.rt:7: error: no'; echo 'rt: a goal'; echo 'rt: middle NOT PROVED'"
+        self.rt(proved("low"), wrong, proved("aside"), "echo 'rt: must-fail low/one.edit: BAD EDIT: so it is'",
                 "echo 'a line after it'", "echo 'rt: FAILED: middle low/one'", "echo '2 passed, 2 failed'", "exit 1")  # fmt: skip
         self.assertEqual(
             self.filtered("ci").splitlines()[1:],
             [
+                "== middle",
                 "lib.rt:7: error: no",
-                "a goal",
-                "rt: middle NOT PROVED (exit 1, 2 s)",
-                "who: crate 3 of 4: aside proved (7 s), TIME so far",
-                "rt: must-fail low/one: BAD EDIT: so it is",
+                "rt: a goal",
+                "rt: middle NOT PROVED",
+                "who: crate 3 of 4: aside proved, TIME so far",
+                "rt: must-fail low/one.edit: BAD EDIT: so it is",
                 "a line after it",
                 "rt: FAILED: middle low/one",
                 "2 passed, 2 failed",
@@ -106,9 +130,9 @@ class InATerminal(Standing):
     def test_a_line_that_moves(self) -> None:
         self.rt(proved("low"), "while [ ! -e go ]; do sleep 0.05; done", proved("aside"), proved("middle"), proved("play"))
         terminal = self.in_terminal("bash", "-c", "rt ci | RT_JOBS=2 tools/progress who ci")
-        moved = re.compile(r"who: 1 of 4 crates proved, now aside, 0:0[1-9] ")
+        moved = re.compile(r"who: 1 of 4 crates proved, now aside and middle, 0:0[1-9] ")
         terminal.wait_for(lambda: moved.match(terminal.screen.lines()[0]), "the line")
-        self.assertIn(b"who: 1 of 4 crates proved, now aside, 0:00", terminal.written)
+        self.assertIn(b"who: 1 of 4 crates proved, now aside and middle, 0:00", terminal.written)
         self.file("repository/go", "")
         self.assertEqual(terminal.wait_for_end(), 0)
         shown = [line.rstrip() for line in terminal.screen.lines() if line.strip()]
@@ -116,50 +140,50 @@ class InATerminal(Standing):
         self.assertRegex(shown[0], r"who: 4 of 4 crates proved, 0 of 1 must-fail edits refused, 0:\d\d")
 
     def test_a_narrow_one(self) -> None:
-        self.rt(proved("low"), proved("middle"))
-        terminal = self.in_terminal("bash", "-c", "rt check play | tools/progress who check play", columns=20)
+        self.rt(checked("low"), checked("middle"))
+        terminal = self.in_terminal("bash", "-c", "rt run | tools/progress who run play", columns=20)
         self.assertEqual(terminal.wait_for_end(), 0)
         self.assertEqual([line for line in terminal.screen.lines() if line.strip()], ["who: 2 of 3 crates  "])
 
 
 class Stick(Standing):
     def test_first_then_changed_then_unchanged(self) -> None:
-        self.rt("echo \"$*\" >>asked", "[ ! -e fail ] || exit 1", proved("low"), proved("middle"), proved("play"),
-                "echo 'rt: ok, 3 crates proved'", "mkdir -p target/bin", "touch target/bin/play")  # fmt: skip
+        self.rt("echo \"$*\" >>asked", "[ ! -e fail ] || exit 1", checked("low"), checked("middle"), checked("play"),
+                "mkdir -p out", "touch out/play", "echo 'rt: running out/play'")  # fmt: skip
         said = self.start("play", "-").stderr.decode()
-        self.assertIn("stick: the core is not proved on this machine yet: rt check play does it, which takes minutes", said)
+        self.assertIn("stick: the core is not proved on this machine yet: rt run in crates/play does it, which takes minutes", said)
         self.assertIn("stick: (./stick --unproved starts in seconds", said)
-        self.assertRegex(said, r"stick: crate 2 of 3: middle proved \(7 s\), 0:0\d so far\n")
-        asked = self.repository / "asked"
-        self.assertEqual(asked.read_text(), "check play\n")
+        self.assertRegex(said, r"stick: crate 2 of 3: middle proved, 0:0\d so far\n")
+        asked = self.repository / "crates" / "play" / "asked"
+        self.assertEqual(asked.read_text(), "run\n")
         for changed, again in (
             ((), False),
             (("crates/low/src/lib.rt",), True),
             (("crates/aside/src/lib.rt", "crates/low/must-fail/two.edit"), False),
             (("crates/middle/proofs/More.antt",), True),
-            (("target/bin/play",), True),
+            (("crates/play/out/play",), True),
         ):
             with self.subTest(changed=changed):
                 asked.write_text("")
                 for change in changed:
                     self.file(f"repository/{change}", "changed")
                 said = self.start("play", "-").stderr.decode()
-                self.assertEqual(asked.read_text(), "check play\n" if again else "")
+                self.assertEqual(asked.read_text(), "run\n" if again else "")
                 self.assertNotIn("minutes", said)
                 self.assertEqual("play is proved, and its sources are unchanged since" in said, not again)
         # Nothing is noted of what was not proved.
         self.file("repository/crates/low/src/lib.rt", "wrong")
-        self.file("repository/fail", "")
+        self.file("repository/crates/play/fail", "")
         for _ in range(2):
-            self.assertIn(b"rt check play failed", self.start("play", "-").stderr)
+            self.assertIn(b"rt run in crates/play failed", self.start("play", "-").stderr)
 
     def test_interrupted_in_a_terminal(self) -> None:
         """Nothing goes on after it, not even what ignores Control-C, as all
         does that a shell starts with &."""
-        self.rt("(trap '' INT; sleep 60) &", "echo $$ >begun", proved("low"), "wait")
+        self.rt("(trap '' INT; sleep 60) &", "echo $$ >begun", checked("low"), "wait")
         terminal = self.in_terminal("./stick")
         terminal.wait_for_text("stick: 1 of 3 crates proved, now middle, 0:0")
-        group = int((self.repository / "begun").read_text())
+        group = int((self.repository / "crates" / "play" / "begun").read_text())
         self.assertTrue(running(group))
         terminal.type(b"\x03")
         self.assertEqual(terminal.wait_for_end(), 130)
@@ -191,14 +215,14 @@ class Gate(Standing):
         self.file("repository/host/tests/test_none.py", "import unittest\nclass One(unittest.TestCase):\n    def test(self): pass\n")
 
     def rt_ci(self, *lines: str) -> None:
-        self.rt("rm -rf target; mkdir -p target/bin; touch target/bin/play", *lines)
+        self.rt("rm -rf crates/*/out; mkdir -p crates/play/out; touch crates/play/out/play", *lines)
 
     def test_passed(self) -> None:
-        self.rt_ci(proved("low"), proved("play"), "echo 'rt: ok, 4 crates proved'", f"echo '{TALLY}'")
+        self.rt_ci(proved("low"), proved("play"), f"echo '{OK}'", f"echo '{TALLY} (and more words)'")
         done = self.start(program="test")
         lines = done.stdout.decode().splitlines()
         self.assertEqual((done.returncode, lines[-1]), (0, TALLY), done.stderr)
-        self.assertIn("test: crate 2 of 4: play proved (7 s), 0:00 so far", lines)
+        self.assertIn("test: crate 2 of 4: play proved, 0:00 so far", lines)
         self.assertIn("test: the host programs", lines)
         self.assertFalse((self.repository / "target" / "ci.log").exists())
         # What was proved here is proved for ./stick.
@@ -206,7 +230,7 @@ class Gate(Standing):
         self.assertIn(b"play is proved, and its sources are unchanged since", self.start("play", "-").stderr)
 
     def test_failed(self) -> None:
-        self.rt_ci(proved("low"), "echo 'a goal'; echo 'rt: play NOT PROVED (exit 1, 2 s)'",
+        self.rt_ci(proved("low"), "echo '== play'; echo 'a goal'; echo 'rt: play NOT PROVED'",
                    "echo '1 passed, 1 failed'", "exit 3")  # fmt: skip
         done = self.start(program="test")
         lines = done.stdout.decode().splitlines()
@@ -215,8 +239,24 @@ class Gate(Standing):
         self.assertNotIn("test: the host programs", lines)
         self.assertIn(b"target/ci.log has all that rt ci said", done.stderr)
         log = (self.repository / "target" / "ci.log").read_text()
-        self.assertIn("fn low::all: proved\nrt: low proved (7 s)\na goal\nrt: play NOT PROVED", log)
+        self.assertIn("fn low::all: proved\nlogic=proved functions=1\nrt: low proved\n== play\na goal\nrt: play NOT PROVED", log)
         self.assertFalse((self.repository / "target" / "stick.stamp").exists())
+
+    def test_a_bad_edit(self) -> None:
+        """rt ci passes over it, and its last line says nothing of it."""
+        bad = "echo 'rt: must-fail low/one.edit: BAD EDIT: so it is'"
+        self.rt_ci(proved("low"), proved("play"), bad, f"echo '{OK.replace(' refused', ' refused, 2 bad')}'", f"echo '{TALLY}'")
+        done = self.start(program="test")
+        lines = done.stdout.decode().splitlines()
+        self.assertEqual((done.returncode, lines[-1]), (1, "3 passed, 2 failed"), done.stderr)
+        self.assertIn("rt: must-fail low/one.edit: BAD EDIT: so it is", lines)
+        self.assertNotIn("test: the host programs", lines)
+        self.assertIn(b"2 must-fail edits are bad; target/ci.log has all that rt ci said", done.stderr)
+
+    def test_no_last_line(self) -> None:
+        self.rt_ci("kill -9 $$")
+        done = self.start(program="test")
+        self.assertEqual((done.returncode, done.stdout.decode().splitlines()[-1]), (137, "0 passed, 1 failed"))
 
 
 class Archive(Standing):
@@ -224,15 +264,13 @@ class Archive(Standing):
 
     def setUp(self) -> None:
         super().setUp()
-        self.file("repository/crates.txt", "low:\nfirmware: low\n")
+        self.file("repository/crates.txt", "low:\nfirmware_c staticlib: low\n")
         compiler = '#!/bin/sh\nwhile [ "$1" != -o ]; do shift; done\ntouch "$2"\n'
         for name in ("gcc", "x86_64-linux-gnu-gcc"):
             self.file(f"kit/bin/{name}", compiler, 0o755)
 
     def test_first_and_then(self) -> None:
-        self.rt(f"{{ {proved('low')}; }} >&2", "mkdir -p target/staticlib target/stamp",
-                "touch target/staticlib/libfirmware.a target/stamp/firmware", "echo 'fn a: proved'",
-                "echo 'rt: target/staticlib/libfirmware.a has the functions'")  # fmt: skip
+        self.rt(f"{{ {checked('low')}; }} >&2", "mkdir -p out", "echo built >out/libfirmware_c.a", checked("firmware_c"))
         done = self.start(program="firmware/build")
         self.assertEqual((done.returncode, done.stderr), (0, b""))
         lines = re.sub(r"\d:\d\d", "TIME", done.stdout.decode()).splitlines()
@@ -240,11 +278,12 @@ class Archive(Standing):
             lines,
             [
                 "firmware: proving and building the archive (minutes the first time)",
-                "firmware: crate 1 of 2: low proved (7 s), TIME so far",
-                "firmware: crate 2 of 2: firmware proved, TIME so far",
+                "firmware: crate 1 of 2: low proved, TIME so far",
+                "firmware: crate 2 of 2: firmware_c proved, TIME so far",
             ],
         )
-        self.assertIn("fn a: proved\n", (self.repository / "target/firmware/staticlib.log").read_text())
+        self.assertEqual((self.repository / "target/staticlib/libfirmware.a").read_text(), "built\n")
+        self.assertIn("fn low::all: proved\n", (self.repository / "target/firmware/staticlib.log").read_text())
         self.assertEqual(self.start(program="firmware/build").stdout, b"")
         self.file("repository/crates/low/src/lib.rt", "changed")
         (self.folder / "kit" / "bin" / "python3").unlink()
@@ -252,11 +291,11 @@ class Archive(Standing):
         self.assertEqual((done.returncode, done.stdout), (0, b"firmware: proving and building the archive\n"))
 
     def test_failed(self) -> None:
-        self.rt(proved("low"), "echo 'a goal'", "exit 1")
+        self.rt(checked("low"), "echo 'a goal'", "exit 1")
         done = self.start(program="firmware/build")
         self.assertEqual(done.returncode, 2)
         self.assertIn(b"a goal\n", done.stdout)
-        self.assertIn(b"rt staticlib firmware failed; target/firmware/staticlib.log tells why", done.stderr)
+        self.assertIn(b"rt lib in crates/firmware_c failed; target/firmware/staticlib.log tells why", done.stderr)
 
 
 class Order(unittest.TestCase):
@@ -269,6 +308,7 @@ class Order(unittest.TestCase):
             for name in level:
                 self.assertLessEqual(set(crates.uses[name]) & set(crates.uses), below)
         self.assertEqual(crates.reached("play")[-1], "play")
+        self.assertEqual(sorted(crates.one_by_one("play")), sorted(crates.reached("play")))
         self.assertNotIn("demands", crates.reached("play"))
 
 

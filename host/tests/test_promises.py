@@ -109,7 +109,7 @@ class Promises(unittest.TestCase):
             "`calls/specs/Call.antt`",
             "`calls/specs/Calls.antt` `freshly`",
             "`calls/specs/Calls.antt` `fresh`",
-            "`calls/specs/Calls.antt` `freshCall` | `takeCall`",
+            "`calls/specs/Calls.antt` `fresh_call` | `take_call`",
             "`rules/specs/Answers.antt` `FirstAnswers.length`",
             "`rules/specs/Answers.antt` `FirstAnswers.idle`",
             "`blocks/src/lib.rt` `Gather::closed`",
@@ -117,12 +117,12 @@ class Promises(unittest.TestCase):
             "`stick/never_there`",
             '`./stick cases` "manual, CLOSE", "manual, nowhere"',
             "`model/tests/cases.rs` `case_13`",
-            "`freshCall`",
+            "`fresh_call`",
             "`calls/specs/Calls.antt` `take`",
             "`calls/specs/Calls.antt` `keys`",
         ):
             self.assertEqual(len(faults(line)), 1, line)
-        for line in ("`calls/specs/Calls.antt` `freshCall`, `takeCall`", "`blocks/src/lib.rt` `Table::closed`"):
+        for line in ("`calls/specs/Calls.antt` `fresh_call`, `take_call`", "`blocks/src/lib.rt` `Table::closed`"):
             self.assertEqual(faults(line), [], line)
 
 
@@ -176,11 +176,11 @@ class Function:
 
 
 def functions(crates: Path) -> list[Function]:
-    """Every public function of every crate but the program and its library."""
+    """Every public function of every crate but the program, its library and what C links, whose promises are firmware's."""
     found = []
     for file in sorted(crates.glob("*/src/*.rt")):
         crate = file.parts[-3]
-        if crate in {"play", "script"}:
+        if crate in {"play", "script", "firmware_c"}:
             continue
         owner = ""
         for outer, indent, name, contract in re.findall(
@@ -195,7 +195,7 @@ def functions(crates: Path) -> list[Function]:
     return found
 
 
-SAYS = r"([\w-]+)\.ps ([\w-]+)\.r ([\w-]+)\.Pre ([\w-]+)\.Learnt"
+SAYS = r"(\w+)\.ps (\w+)\.r (\w+)\.Pre (\w+)\.Learnt"
 """What a law is about: kinds twice and readings twice, all four of one function."""
 ENDINGS = ("decides", "allows")
 """How the names of a function's two laws end."""
@@ -209,7 +209,7 @@ class Decided:
     def __init__(self, file: Path) -> None:
         text = file.read_text(encoding="utf-8") if file.is_file() else ""
         self.text = re.sub(r"^ *--.*\n", "", text, flags=re.MULTILINE)
-        use = r"^use Rattle·(\w+)(?:·proofs)?\.proofs\.([\w.]+)\.(Kinds|Reads) as ([\w-]+)$"
+        use = r"^use Rattle\.(\w+)\.proofs\.([\w.]+)\.(Kinds|Reads) as (\w+)$"
         self._named = {name: (crate, path, kind) for crate, path, kind, name in self._found(use)}
 
     def _found(self, pattern: str) -> list[tuple[str, ...]]:
@@ -225,27 +225,27 @@ class Decided:
     def laws(self) -> Laws:
         """The laws that a crate's own file has."""
         found: Laws = {}
-        for name, word, law, *says in self._found(rf"^pub ([\w-]+-(\w+)) : (\w+) {SAYS}$"):
+        for name, word, law, *says in self._found(rf"^pub (\w+_([a-z]+)) : (\w+) {SAYS}$"):
             of = self._about(says)
             if of and (word, law) in {("decides", "Decides"), ("allows", "Allows")}:
                 found.setdefault(of, {})[word] = name
         return found
 
     def gathered(self) -> Laws:
-        """The laws that ``all-decided`` gathers."""
+        """The laws that ``all_decided`` gathers."""
         found: Laws = {}
-        crates = {name: crate for crate, name in self._found(r"^use Rattle·(\w+)\.proofs\.Decided as ([\w-]+)$")}
-        lists = dict(self._found(r"^([\w-]+) =((?:.|\n)*?)(?=\n\n|\Z)"))
-        name = "all-decided"
+        crates = {name: crate for crate, name in self._found(r"^use Rattle\.(\w+)\.proofs\.Decided as (\w+)$")}
+        lists = dict(self._found(r"^(\w+) =((?:.|\n)*?)(?=\n\n|\Z)"))
+        name = "all_decided"
         while name in lists:
             body = lists.pop(name)
-            promise = rf"\bpromise {SAYS} ([\w-]+)\.([\w-]+) ([\w-]+)\.([\w-]+)"
+            promise = rf"\bpromise {SAYS} (\w+)\.(\w+) (\w+)\.(\w+)"
             for *says, one, decides, other, allows in re.findall(promise, body):
                 of = self._about(says)
                 if of and crates.get(one) == crates.get(other) == of[0]:
                     found[of] = {"decides": decides, "allows": allows}
             # The list that it goes on with.
-            name = re.findall(r"[\w-]+", body)[-1]
+            name = re.findall(r"\w+", body)[-1]
         return found
 
 
@@ -276,37 +276,48 @@ class Functions(unittest.TestCase):
         self.assertEqual(len({(each.crate, each.path) for each in self.functions}), len(self.functions))
         self.assertEqual(undecided(CRATES), [])
 
+    def test_what_c_links(self) -> None:
+        """Each of its functions promises what firmware's function of that name does."""
+        with tempfile.TemporaryDirectory() as folder:
+            for name in ("firmware", "firmware_c"):
+                shutil.copytree(CRATES / name / "src", Path(folder) / name / "src")
+            first = functions(Path(folder))
+            (Path(folder) / "firmware_c").rename(Path(folder) / "linked")
+            second = [each for each in functions(Path(folder)) if each.crate == "linked"]
+        self.assertEqual(len(first), 7)
+        self.assertEqual({(each.name, each.contract) for each in first}, {(each.name, each.contract) for each in second})
+
     def test_a_promise_that_does_not_decide(self) -> None:
         """In a copy one law is taken away, mostly with another's put in its place, and that alone is told."""
-        says = "{0}-kinds.ps {0}-kinds.r {0}-reads.Pre {0}-reads.Learnt"
-        law = "pub device-of-decides : Decides " + says
-        own, other = law.format("device-of"), law.format("offers")
-        promise = f"promise blocks-{says} blocks.{{0}}-decides blocks.{{0}}-allows (".replace(" {0}", " blocks-{0}")
+        says = "{0}_kinds.ps {0}_kinds.r {0}_reads.Pre {0}_reads.Learnt"
+        law = "pub device_of_decides : Decides " + says
+        own, other = law.format("device_of"), law.format("offers")
+        promise = f"promise blocks_{says} blocks.{{0}}_decides blocks.{{0}}_allows (".replace(" {0}", " blocks_{0}")
         contract = "pub fn device_of(byte: u8) -> Letter\n    ensures "
         source, decided, demands = "blocks/src/lib.rt", "blocks/proofs/Decided.antt", "demands/proofs/Decided.antt"
         no_law = [f"{source} device_of: no law that it {word}" for word in ENDINGS]
-        neither = [f"{source} device_of: device-of-{word} is not gathered" for word in ENDINGS]
+        neither = [f"{source} device_of: device_of_{word} is not gathered" for word in ENDINGS]
         too = [each.replace("device_of", "device_too") for each in no_law]
-        judge = [f"judge/src/lib.rt undamaged: undamaged-{word} is not gathered" for word in ENDINGS]
+        judge = [f"judge/src/lib.rt undamaged: undamaged_{word} is not gathered" for word in ENDINGS]
         calls = [(call, word) for call in ("translate", "doctor", "fresh", "take", "tick", "give", "press") for word in ENDINGS]
-        firmware = [f"firmware/src/lib.rt fixlomand_{call}: {call}-{word} is not gathered" for call, word in calls]
+        firmware = [f"firmware/src/lib.rt fixlomand_{call}: {call}_{word} is not gathered" for call, word in calls]
         for file, old, new, told in (
             (decided, own, other, no_law[:1]),
-            (decided, own, own.replace("device-of-reads.Learnt", "offers-reads.Learnt"), no_law[:1]),
+            (decided, own, own.replace("device_of_reads.Learnt", "offers_reads.Learnt"), no_law[:1]),
             (decided, own, own.replace("Decides", "Allows"), no_law[:1]),
             (decided, own, f"-- {own}", no_law[:1]),
             (decided, ".device_of.Reads as", ".offers.Reads as", no_law),
             (decided, ".device_of.Kinds as", ".offers.Kinds as", no_law),
-            (demands, promise.format("device-of"), promise.format("aux1-reads"), neither),
-            (demands, "blocks.device-of-allows", "blocks.offers-allows", neither[1:]),
-            (demands, "blocks.device-of-decides", "acts.device-of-decides", neither),
+            (demands, promise.format("device_of"), promise.format("aux1_reads"), neither),
+            (demands, "blocks.device_of_allows", "blocks.offers_allows", neither[1:]),
+            (demands, "blocks.device_of_decides", "acts.device_of_decides", neither),
             (demands, ".device_of.Kinds as", ".offers.Kinds as", neither),
             (source, contract, contract.replace("ensures", "requires"), [f"{source} device_of: no promise"]),
             (source, "pub fn device_of(", "pub fn device_too()\n    ensures true\n{\n}\n\npub fn device_of(", too),
             (source, "impl Gather {", "impl Letter {", [each.replace("device_of", "Letter.fresh") for each in no_law]),
             # A crate that is passed over, and the last.
-            (demands, "judge-decided))", "devices-decided))", judge),
-            (demands, "all-decided = firmware-decided", "all-decided = stick-decided", firmware),
+            (demands, "judge_decided))", "devices_decided))", judge),
+            (demands, "all_decided = firmware_decided", "all_decided = stick_decided", firmware),
         ):
             with self.subTest(file=file, new=new):
                 self.assertEqual(self.changed(file, old, new), told)

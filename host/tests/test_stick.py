@@ -193,27 +193,29 @@ class Missing(Copied):
         done = self.start()
         log = self.repository / "target" / "stick.log"
         self.assertEqual((done.returncode, done.stdout), (2, b""))
-        self.assertEqual(last_line(done), f"stick: rt check play failed, so there is no play; {log} tells why")
-        self.assertEqual(log.read_text(), "check play fails\n")
+        self.assertEqual(last_line(done), f"stick: rt run in crates/play failed, so there is no play; {log} tells why")
+        self.assertEqual(log.read_text(), "run fails\n")
 
     def test_no_program(self) -> None:
         self.rt("exit 0")
         done = self.start()
-        program = self.repository / "target" / "bin" / "play"
+        program = self.repository / "crates" / "play" / "out" / "play"
         self.assertEqual((done.returncode, last_line(done)), (2, f"stick: {program} is missing"))
 
     @unittest.skipUnless(PLAY, NO_PLAY)
     def test_built_and_started(self) -> None:
-        tools = f"kit/on/{platform.machine()}/toolchain"
         path = shlex.quote(os.environ["PATH"])
         play = self.file("play", f"#!/bin/sh\nPATH={path} exec {shlex.join(shlex.split(PLAY))}\n", 0o755)
-        self.rt("mkdir -p target/bin", f"cp {play} target/bin/play")
-        self.file(f"{tools}/lib/ld-linux-x86-64.so.2", '#!/bin/sh\nshift 2\nexec "$@"\n', 0o755)
-        emulator = self.file(f"{tools}/bin/qemu-x86_64", '#!/bin/sh\nexec "$@"\n', 0o755)
+        self.rt("mkdir -p out", f"cp {play} out/play")
+        self.file("kit/toolchain/lib/ld-linux-x86-64.so.2", '#!/bin/sh\nshift 2\nexec "$@"\n', 0o755)
+        emulator = self.file("kit/bin/qemu-x86_64", '#!/bin/sh\nexec "$@"\n', 0o755)
+        how = f"under the emulator {emulator}"
+        if platform.machine() == "x86_64":
+            how = "on this processor, with the toolchain's loader"
         self.copy("crates")
         done = self.start()
         self.assertEqual(done.returncode, 0)
-        self.assertEqual(last_line(done), f"stick: play runs under the toolchain's emulator, {emulator}")
+        self.assertEqual(last_line(done), f"stick: play runs {how}")
         self.assertIn(b"GAUZE: 3 LEFT", done.stdout)
         # Once more, with all the crates as they were: at once, and rt is not asked.
         self.rt("exit 1")
