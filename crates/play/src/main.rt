@@ -9,8 +9,8 @@ use script::ops::Op;
 use script::streams::Streams;
 use std::io;
 
-mod calls;
-mod repairs;
+mod cut_calls;
+mod treatment;
 
 // A proved loop has to end, and nothing says that an input does: so its turns are counted, up to a number that no run reaches.
 fn main(rt: HostRuntime) -> io::Result<()> {
@@ -33,7 +33,7 @@ fn main(rt: HostRuntime) -> io::Result<()> {
         if op.ends() {
             break;
         }
-        let number = calls::perform_cut(
+        let number = cut_calls::perform_cut(
             op.call(),
             lengths,
             state,
@@ -44,7 +44,7 @@ fn main(rt: HostRuntime) -> io::Result<()> {
             images,
         );
         lengths = lengths.after(op);
-        repairs::done(&mut streams, op, images)?;
+        treatment::done(&mut streams, op, images)?;
         op = answers::next(
             &mut streams,
             op,
