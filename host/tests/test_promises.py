@@ -25,7 +25,7 @@ WORDS = {"play", "rt ci", "./test", "crate/name", "crates/", "host/", "model/", 
 WORDS |= {"specs", "src", "Decided.antt", "requires", "ensures", "match", "u8", "0x"}
 WORDS |= {"&mut", "&mut area[from..end]", 'extern "C"'}
 """What stands in code marks and names no file, nor anything in one."""
-FREE = {"≡", "length", "take", "drop", "set", "getD", "sets", "replicate", "io", "libc"}
+FREE = {"≡", "length", "take", "drop", "set", "get_or", "sets", "replicate"}
 FREE |= {crate.name for crate in CRATES.iterdir()}
 """The same where no file stands before it: the toolchain's words, and crates."""
 
