@@ -1,8 +1,9 @@
-// What several crates share: a byte of a lent buffer, read and written at any place; and, in specs/ and proofs/, the small
-// definitions and laws that would otherwise be said again in each.
+// What several crates share: bytes and numbers of two bytes, read from a lent buffer and written into it at any place; and, in specs/
+// and proofs/, the small definitions and laws that would otherwise be said again in each.
 #![tactic(auto)]
 
-ghost use Rattle.std.specs.Prelude.{◌≡◌, get_or, set};
+ghost use Rattle.std.specs.Prelude.{◌≡◌, ◌+◌, ◌*◌, ◌/◌, ◌%◌, [], ◌∷◌, get_or, set};
+ghost use Rattle.std.proofs.lemmas.List.Edits.{sets};
 
 // The byte at a place of a lent buffer, and 0 past its end.
 #[tactic(auto, using(crate::proofs::Lists::byte_past))]
@@ -23,4 +24,35 @@ pub fn set_byte(lent: &mut [u8], place: usize, byte: u8)
     if place < lent.len() {
         lent[place] = byte;
     }
+}
+
+// Two bytes as a number, the low one first.
+pub fn word(low: u8, high: u8) -> u16
+    ensures { result ≡ low + 256 * high }
+{
+    u16::from_le_bytes([low, high])
+}
+
+// The number that begins at a place of a lent buffer, whose bytes are 0 past its end.
+pub fn word_at(lent: &[u8], place: u32) -> u16
+    ensures { result ≡ get_or lent.now place 0 + 256 * get_or lent.now (place + 1) 0 }
+{
+    let low = place as usize;
+    word(byte_at(lent, low), byte_at(lent, low + 1))
+}
+
+// These bytes lie from a place of the lent buffer on, as far as it reaches.
+pub fn lay(lent: &mut [u8], place: u32, bytes: &[u8])
+    ensures { lent.new ≡ sets lent.old place bytes.now }
+{
+    for (i, byte) in bytes.iter().enumerate() {
+        set_byte(lent, place as usize + i, *byte);
+    }
+}
+
+// A number lies from a place on, its low byte first.
+pub fn set_word(lent: &mut [u8], place: u32, number: u16)
+    ensures { lent.new ≡ sets lent.old place (number % 256 ∷ number / 256 ∷ []) }
+{
+    lay(lent, place, &number.to_le_bytes());
 }
