@@ -55,12 +55,9 @@ fn back(editor: &mut Editor, screen: &mut [u8])
     if editor.column <= 2 {
         return;
     }
-    editor.column -= 1;
-    base::set_byte(
-        screen,
-        editor.row as usize * 40 + editor.column as usize,
-        0x20,
-    );
+    let left = editor.column - 1;
+    base::set_byte(screen, editor.row as usize * 40 + left as usize, 0x20);
+    editor.column = left;
 }
 
 fn data_byte(editor: &mut Editor, screen: &mut [u8], byte: u8)
