@@ -13,14 +13,10 @@ pub fn column_of(reading: Option<u16>) -> u16
 pub fn end(screen: &[u8], row: u16) -> u16
     ensures { result ≡ end_of row screen.now }
 {
-    let first = row as usize * 40 + 2;
-    let mut n: usize = 38;
-    while 0 < n {
-        let m = n - 1;
-        if base::byte_at(screen, first + m) != 0x20 {
-            return n as u16 + 2;
+    for column in (2..40).rev() {
+        if base::byte_at(screen, row as usize * 40 + column) != 0x20 {
+            return column as u16 + 1;
         }
-        n = m;
     }
     2
 }
