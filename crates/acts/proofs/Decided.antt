@@ -24,25 +24,25 @@ pub fresh_allows : Allows fresh_kinds.ps fresh_kinds.r fresh_reads.Pre fresh_rea
 fresh_allows κs a p = (_, (_, refl))
 
 pub open_decides : Decides open_kinds.ps open_kinds.r open_reads.Pre open_reads.Learnt
-open_decides κs a z z' ws ws' p e e' = let q = e ∙ sym e' in (ap (λ (w : Answer Done ConsoleGroup). record { console = w.leaves.console; done = w.says }) q, ap (λ (w : Answer Done ConsoleGroup). (tt, (tt, (w.leaves.screen, (tt, (tt, tt)))))) q)
+open_decides κs a z z' ws ws' p e e' = let q = e ∙ sym e' in (ap (λ (w : Answer Done ConsoleGroup). w.says) q, ap (λ (w : Answer Done ConsoleGroup). (tt, (w.leaves.console, (w.leaves.screen, (tt, (tt, tt)))))) q)
 
 pub open_allows : Allows open_kinds.ps open_kinds.r open_reads.Pre open_reads.Learnt
 open_allows κs a p = (_, (_, refl))
 
 pub prepare_decides : Decides prepare_kinds.ps prepare_kinds.r prepare_reads.Pre prepare_reads.Learnt
-prepare_decides κs a z z' ws ws' p e e' = let q = e ∙ sym e' in (ap (λ (w : Answer Done ConsoleGroup). record { console = w.leaves.console; done = w.says }) q, ap (λ (w : Answer Done ConsoleGroup). (tt, (tt, (w.leaves.screen, tt)))) q)
+prepare_decides κs a z z' ws ws' p e e' = let q = e ∙ sym e' in (ap (λ (w : Answer Done ConsoleGroup). w.says) q, ap (λ (w : Answer Done ConsoleGroup). (tt, (w.leaves.console, (w.leaves.screen, tt)))) q)
 
 pub prepare_allows : Allows prepare_kinds.ps prepare_kinds.r prepare_reads.Pre prepare_reads.Learnt
 prepare_allows κs a p = (_, (_, refl))
 
 pub read_decides : Decides read_kinds.ps read_kinds.r read_reads.Pre read_reads.Learnt
-read_decides κs a z z' ws ws' p e e' = let q = e ∙ sym e' in (ap (λ (w : Answer Got ConsoleGroup). record { console = w.leaves.console; got = w.says }) q, ap (λ (w : Answer Got ConsoleGroup). (tt, (tt, (w.leaves.screen, tt)))) q)
+read_decides κs a z z' ws ws' p e e' = let q = e ∙ sym e' in (ap (λ (w : Answer Got ConsoleGroup). w.says) q, ap (λ (w : Answer Got ConsoleGroup). (tt, (w.leaves.console, (w.leaves.screen, tt)))) q)
 
 pub read_allows : Allows read_kinds.ps read_kinds.r read_reads.Pre read_reads.Learnt
 read_allows κs a p = (_, (_, refl))
 
 pub write_decides : Decides write_kinds.ps write_kinds.r write_reads.Pre write_reads.Learnt
-write_decides κs a z z' ws ws' p e e' = let q = e ∙ sym e' in (ap (λ (w : Answer Done ConsoleGroup). record { console = w.leaves.console; done = w.says }) q, ap (λ (w : Answer Done ConsoleGroup). (tt, (tt, (w.leaves.screen, (tt, tt))))) q)
+write_decides κs a z z' ws ws' p e e' = let q = e ∙ sym e' in (ap (λ (w : Answer Done ConsoleGroup). w.says) q, ap (λ (w : Answer Done ConsoleGroup). (tt, (w.leaves.console, (w.leaves.screen, (tt, tt))))) q)
 
 pub write_allows : Allows write_kinds.ps write_kinds.r write_reads.Pre write_reads.Learnt
 write_allows κs a p = (_, (_, refl))

@@ -7,9 +7,9 @@ ghost use Rattle.cells.specs.Cells.{Whole};
 ghost use Rattle.console.specs.Group.{group, fresh_group};
 ghost use Rattle.console.specs.Handlers.{open_of, prepare_of, read_of, write_of};
 
+use console::Handler;
 use console::state::Console;
-use console::{ConsoleDone, ConsoleGot, Handler};
-use handler::Done;
+use handler::{Done, Got};
 
 // The fresh console, over whatever the screen held.
 pub fn fresh(screen: &mut [u8]) -> Console
@@ -21,76 +21,46 @@ pub fn fresh(screen: &mut [u8]) -> Console
     Console::fresh()
 }
 
-pub fn open(
-    handler: Handler,
-    console: Console,
-    screen: &mut [u8],
-    aux1: u8,
-    aux2: u8,
-) -> ConsoleDone
+pub fn open(handler: Handler, console: &mut Console, screen: &mut [u8], aux1: u8, aux2: u8) -> Done
     requires { Whole screen.old }
-    ensures { answer result.done (group result.console screen.new) ≡ open_of handler aux1 aux2 (group console screen.old) }
+    ensures { answer result (group console.new screen.new) ≡ open_of handler aux1 aux2 (group console.old screen.old) }
 {
     match handler {
         Handler::E => {
-            let next = console::each::open_editor(console, screen);
-            ConsoleDone {
-                console: next,
-                done: Done::Success,
-            }
+            console::each::open_editor(console, screen);
+            Done::Success
         }
         Handler::S => console::each::open_screen(console, screen, aux1, aux2),
-        Handler::K => ConsoleDone {
-            console: console,
-            done: Done::Success,
-        },
+        Handler::K => Done::Success,
     }
 }
 
 // Before the first character of a transfer: in another mode E is opened anew, in mode 0 S is refused.
-pub fn prepare(handler: Handler, console: Console, screen: &mut [u8]) -> ConsoleDone
+pub fn prepare(handler: Handler, console: &mut Console, screen: &mut [u8]) -> Done
     requires { Whole screen.old }
-    ensures { answer result.done (group result.console screen.new) ≡ prepare_of handler (group console screen.old) }
+    ensures { answer result (group console.new screen.new) ≡ prepare_of handler (group console.old screen.old) }
 {
-    let mode = console.mode;
     match handler {
         Handler::E => {
-            if mode == 0 {
-                return ConsoleDone {
-                    console: console,
-                    done: Done::Success,
-                };
+            if console.mode == 0 {
+                return Done::Success;
             }
-            let next = console::each::open_editor(console, screen);
-            return ConsoleDone {
-                console: next,
-                done: Done::Success,
-            };
+            console::each::open_editor(console, screen);
+            Done::Success
         }
         Handler::S => {
-            if mode == 0 {
-                return ConsoleDone {
-                    console: console,
-                    done: Done::Refused(0x91),
-                };
+            if console.mode == 0 {
+                return Done::Refused(0x91);
             }
-            return ConsoleDone {
-                console: console,
-                done: Done::Success,
-            };
+            Done::Success
         }
-        Handler::K => {
-            return ConsoleDone {
-                console: console,
-                done: Done::Success,
-            };
-        }
+        Handler::K => Done::Success,
     }
 }
 
-pub fn read(handler: Handler, console: Console, screen: &mut [u8]) -> ConsoleGot
+pub fn read(handler: Handler, console: &mut Console, screen: &mut [u8]) -> Got
     requires { Whole screen.old }
-    ensures { answer result.got (group result.console screen.new) ≡ read_of handler (group console screen.old) }
+    ensures { answer result (group console.new screen.new) ≡ read_of handler (group console.old screen.old) }
 {
     match handler {
         Handler::E => console::each::read_editor(console, screen),
@@ -99,16 +69,13 @@ pub fn read(handler: Handler, console: Console, screen: &mut [u8]) -> ConsoleGot
     }
 }
 
-pub fn write(handler: Handler, console: Console, screen: &mut [u8], byte: u8) -> ConsoleDone
+pub fn write(handler: Handler, console: &mut Console, screen: &mut [u8], byte: u8) -> Done
     requires { Whole screen.old }
-    ensures { answer result.done (group result.console screen.new) ≡ write_of handler byte (group console screen.old) }
+    ensures { answer result (group console.new screen.new) ≡ write_of handler byte (group console.old screen.old) }
 {
     match handler {
         Handler::E => console::each::write_editor(console, screen, byte),
         Handler::S => console::each::write_screen(console, screen, byte),
-        Handler::K => ConsoleDone {
-            console: console,
-            done: Done::Refused(0x87),
-        },
+        Handler::K => Done::Refused(0x87),
     }
 }

@@ -6,9 +6,6 @@ use Rattle.handler.specs.Answer.{Answer}
 use Rattle.handler.specs.declared.Got.{Got}
 use Rattle.handler.specs.declared.Done.{Done}
 use Rattle.cassette.specs.declared.Cassette.{Cassette}
-use Rattle.cassette.specs.declared.Opened.{Opened}
-use Rattle.cassette.specs.declared.Read.{Read}
-use Rattle.cassette.specs.declared.Written.{Written}
 use Rattle.cassette.specs.Cassette.{CassetteGroup, cassette_group, tape_opened, close_of, gotten_of, write_of}
 use Rattle.cassette.proofs.Cassette.fresh.Kinds as fresh_kinds
 use Rattle.cassette.proofs.Cassette.fresh.Reads as fresh_reads
@@ -27,43 +24,33 @@ fresh_decides κs a z z' ws ws' p e e' = (e ∙ sym e', refl)
 pub fresh_allows : Allows fresh_kinds.ps fresh_kinds.r fresh_reads.Pre fresh_reads.Learnt
 fresh_allows κs a p = (_, (_, refl))
 
--- what each returns, from its answer
-abbrev opened : Answer Done Cassette → Opened
-opened x = record { cassette = x.leaves; done = x.says }
-
-abbrev gotten : Answer Got Cassette → Read
-gotten x = record { cassette = x.leaves; got = x.says }
-
-abbrev written : Answer Done CassetteGroup → Written
-written x = record { cassette = x.leaves.cassette; done = x.says }
-
 pub open_decides : Decides open_kinds.ps open_kinds.r open_reads.Pre open_reads.Learnt
-open_decides κs a z z' ws ws' p e e' = (ap opened (e ∙ sym e'), refl)
+open_decides κs a z z' ws ws' p e e' = let q = e ∙ sym e' in (ap (λ (x : Answer Done Cassette). x.says) q, ap (λ (x : Answer Done Cassette). (x.leaves, (tt, tt))) q)
 
 pub open_allows : Allows open_kinds.ps open_kinds.r open_reads.Pre open_reads.Learnt
-open_allows κs a p = (opened (tape_opened a.1.0 a.0), (_, refl))
+open_allows κs a p = let x = tape_opened a.1.0 a.0.now in (x.says, ((x.leaves, (tt, tt)), refl))
 
 pub close_decides : Decides close_kinds.ps close_kinds.r close_reads.Pre close_reads.Learnt
-close_decides κs a z z' ws ws' p e e' =
-    (ap (λ (g : CassetteGroup). g.cassette) (e ∙ sym e'), ap (λ (g : CassetteGroup). (tt, (tt, (g.tape, tt)))) (e ∙ sym e'))
+close_decides κs a z z' ws ws' p e e' = (refl, ap (λ (g : CassetteGroup). (g.cassette, (tt, (g.tape, tt)))) (e ∙ sym e'))
 
 pub close_allows : Allows close_kinds.ps close_kinds.r close_reads.Pre close_reads.Learnt
 unfolding close_of
 close_allows κs a p =
-    let g = close_of (cassette_group a.0 a.1.0.now a.1.1.0.now) in
-    (g.cassette, ((tt, (tt, (g.tape, tt))), refl))
+    let g = close_of (cassette_group a.0.now a.1.0.now a.1.1.0.now) in
+    (tt, ((g.cassette, (tt, (g.tape, tt))), refl))
 
 pub read_decides : Decides read_kinds.ps read_kinds.r read_reads.Pre read_reads.Learnt
-read_decides κs a z z' ws ws' p e e' = (ap gotten (e ∙ sym e'), refl)
+read_decides κs a z z' ws ws' p e e' = let q = e ∙ sym e' in (ap (λ (x : Answer Got Cassette). x.says) q, ap (λ (x : Answer Got Cassette). (x.leaves, (tt, tt))) q)
 
 pub read_allows : Allows read_kinds.ps read_kinds.r read_reads.Pre read_reads.Learnt
-read_allows κs a p = (gotten (gotten_of a.0 a.1.0.now), (_, refl))
+read_allows κs a p = let x = gotten_of a.0.now a.1.0.now in (x.says, ((x.leaves, (tt, tt)), refl))
 
 pub write_decides : Decides write_kinds.ps write_kinds.r write_reads.Pre write_reads.Learnt
 write_decides κs a z z' ws ws' p e e' =
-    (ap written (e ∙ sym e'), ap (λ (x : Answer Done CassetteGroup). (tt, (x.leaves.pending, (x.leaves.tape, (tt, tt))))) (e ∙ sym e'))
+    let q = e ∙ sym e' in
+    (ap (λ (x : Answer Done CassetteGroup). x.says) q, ap (λ (x : Answer Done CassetteGroup). (x.leaves.cassette, (x.leaves.pending, (x.leaves.tape, (tt, tt))))) q)
 
 pub write_allows : Allows write_kinds.ps write_kinds.r write_reads.Pre write_reads.Learnt
 write_allows κs a p =
-    let x = write_of a.1.1.1.0 (cassette_group a.0 a.1.0.now a.1.1.0.now) in
-    (written x, ((tt, (x.leaves.pending, (x.leaves.tape, (tt, tt)))), refl))
+    let x = write_of a.1.1.1.0 (cassette_group a.0.now a.1.0.now a.1.1.0.now) in
+    (x.says, ((x.leaves.cassette, (x.leaves.pending, (x.leaves.tape, (tt, tt)))), refl))

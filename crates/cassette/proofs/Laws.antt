@@ -3,10 +3,9 @@
 use mathlib.Core.Path.{◌≡◌, ◌∙◌, refl, sym, ap, subst}
 use mathlib.Core.Bool.{Bool, true, false}
 use mathlib.Core.List.{List}
-use Prim.Native.Nat.{ℕ, ◌+◌, ◌*◌, ◌/◌, ◌%◌, ◌<◌, ◌≤◌}
+use Prim.Native.Nat.{ℕ, ◌+◌, ◌*◌, ◌<◌, ◌≤◌}
 use native.Mathlib.Omega.{arith}
 use borrow.Author.Tests.{lt-ltb, le-ltb, lt-leb, eq-eqb, ne_eqb}
-use lib.Dec.{leb}
 use lib.ListN.{length, get_or, set, length-set}
 use Rattle.base.proofs.Choices.{pick_go}
 use Rattle.handler.specs.Answer.{Answer, answer}
@@ -20,21 +19,13 @@ use Rattle.records.proofs.Laws.{characters_in, made_full, made_partial, made_end
 use Rattle.records.proofs.Judging.{Says, found_says, holds_some}
 use Rattle.cassette.specs.declared.Cassette.{Cassette}
 use Rattle.cassette.specs.declared.Stand.{Stand}
-use Rattle.cassette.specs.Cassette.{cassette_at, cassette_group, fresh_cassette, Found, RecordHolds, tape_opened, close_of, flushed, spent, stand_at, stand_of, behind, comes_with, given_with, given_at, gotten_of, taken_of, write_of}
+use Rattle.cassette.specs.Cassette.{cassette_at, cassette_group, fresh_cassette, mark_of, Found, RecordHolds, tape_opened, close_of, flushed, spent, stand_at, stand_of, behind, comes_with, given_with, given_at, gotten_of, taken_of, write_of}
 
 -- OPEN
 module _ (c : Cassette) (aux1 : ℕ) where
-  pub open_reading : c.mark ≡ 0 → aux1 / 4 % 2 ≡ 1 → answer Success (cassette_at 1 0 0) ≡ tape_opened aux1 c
+  pub open_first : (mark : ℕ) → c.mark ≡ 0 → mark ≡ mark_of aux1 → answer Success (cassette_at mark 0 0) ≡ tape_opened aux1 c
   unfolding tape_opened
-  open_reading m r = rw (eq-eqb c.mark 0 m, eq-eqb (aux1 / 4 % 2) 1 r)
-
-  pub open_writing : c.mark ≡ 0 → (aux1 / 4 % 2 ≡ 1 → ⊥) → aux1 / 8 % 2 ≡ 1 → answer Success (cassette_at 2 0 0) ≡ tape_opened aux1 c
-  unfolding tape_opened
-  open_writing m r w = rw (eq-eqb c.mark 0 m, ne_eqb (aux1 / 4 % 2) 1 r, eq-eqb (aux1 / 8 % 2) 1 w)
-
-  pub open_neither : c.mark ≡ 0 → (aux1 / 4 % 2 ≡ 1 → ⊥) → (aux1 / 8 % 2 ≡ 1 → ⊥) → answer Success (cassette_at 3 0 0) ≡ tape_opened aux1 c
-  unfolding tape_opened
-  open_neither m r w = rw (eq-eqb c.mark 0 m, ne_eqb (aux1 / 4 % 2) 1 r, ne_eqb (aux1 / 8 % 2) 1 w)
+  open_first mark m q = rw (eq-eqb c.mark 0 m, q)
 
   pub open_again : (c.mark ≡ 0 → ⊥) → answer (Refused 0x81) c ≡ tape_opened aux1 c
   unfolding tape_opened
@@ -55,16 +46,6 @@ found_in tape s n f e = characters_in tape s.«record» n (sym f.found ∙ e)
 
 pub found_holds : (tape : List ℕ) (s : Stand) (n : ℕ) → Found tape s → s.judged ≡ Characters n → RecordHolds tape s.«record» n
 found_holds tape s n f e = record { whole = f.whole; low = found_in tape s n f e; holds = sym f.found ∙ e }
-
--- a character, by what stands behind it
-pub comes_bad : (byte : ℕ) (k : Judged) → k ≡ Bad → got.Character byte ≡ comes_with byte k
-comes_bad byte k e = rw e
-
-pub comes_end : (byte : ℕ) (k : Judged) → k ≡ End → got.Last byte ≡ comes_with byte k
-comes_end byte k e = rw e
-
-pub comes_characters : (byte n : ℕ) (k : Judged) → k ≡ Characters n → got.Character byte ≡ comes_with byte k
-comes_characters byte n k e = rw e
 
 -- no record is spent at its beginning
 spent_none : (tape : List ℕ) (r : ℕ) (k : Judged) → found_at tape r ≡ k → spent 0 k ≡ false
@@ -89,9 +70,6 @@ module _ (tape : List ℕ) (r place n byte : ℕ) where
   more_behind says k l e q =
       q ∙ ap (comes_with byte) e ∙ sym (ap (λ (s : Stand). comes_with byte s.judged) (at_beginning tape (r + 1)))
       ∙ ap (λ (c : Cassette). given_with tape c byte) (behind_last r place n l)
-
-pub spent_characters : (place n : ℕ) (k : Judged) → k ≡ Characters n → leb n place ≡ spent place k
-spent_characters place n k e = rw e
 
 -- what stands there is given
 module _ (c : Cassette) (tape : List ℕ) (s : Stand) where
@@ -122,19 +100,19 @@ module _ (pending tape : List ℕ) (r place : ℕ) where
       (e ∙ ap (laid_at mid (r + 1)) (made_end pending) ∙ ap (λ (l : List ℕ). laid_at l (r + 1) end_record) (m ∙ ap (laid_at tape r) (made_partial pending place)))
 
 module _ (c : Cassette) (pending tape : List ℕ) where
-  pub close_none : (out : List ℕ) → c.mark ≡ 2 → c.place ≡ 0 → out ≡ laid_at tape c.«record» (record_made 0xFE pending 0)
-      → cassette_group fresh_cassette pending out ≡ close_of (cassette_group c pending tape)
+  pub close_none : (fresh : Cassette) (out : List ℕ) → fresh ≡ fresh_cassette → c.mark ≡ 2 → c.place ≡ 0 → out ≡ laid_at tape c.«record» (record_made 0xFE pending 0)
+      → cassette_group fresh pending out ≡ close_of (cassette_group c pending tape)
   unfolding close_of
-  close_none out m z e = rw (eq-eqb c.mark 2 m, flush_none pending tape c.«record» c.place out z e)
+  close_none fresh out q m z e = rw (q, eq-eqb c.mark 2 m, flush_none pending tape c.«record» c.place out z e)
 
-  pub close_some : (mid out : List ℕ) → c.mark ≡ 2 → (c.place ≡ 0 → ⊥) → mid ≡ laid_at tape c.«record» (record_made 0xFA pending c.place)
-      → out ≡ laid_at mid (c.«record» + 1) (record_made 0xFE pending 0) → cassette_group fresh_cassette pending out ≡ close_of (cassette_group c pending tape)
+  pub close_some : (fresh : Cassette) (mid out : List ℕ) → fresh ≡ fresh_cassette → c.mark ≡ 2 → (c.place ≡ 0 → ⊥) → mid ≡ laid_at tape c.«record» (record_made 0xFA pending c.place)
+      → out ≡ laid_at mid (c.«record» + 1) (record_made 0xFE pending 0) → cassette_group fresh pending out ≡ close_of (cassette_group c pending tape)
   unfolding close_of
-  close_some mid out m z f e = rw (eq-eqb c.mark 2 m, flush_some pending tape c.«record» c.place mid out z f e)
+  close_some fresh mid out q m z f e = rw (q, eq-eqb c.mark 2 m, flush_some pending tape c.«record» c.place mid out z f e)
 
-  pub close_other : (c.mark ≡ 2 → ⊥) → cassette_group fresh_cassette pending tape ≡ close_of (cassette_group c pending tape)
+  pub close_other : (fresh : Cassette) → fresh ≡ fresh_cassette → (c.mark ≡ 2 → ⊥) → cassette_group fresh pending tape ≡ close_of (cassette_group c pending tape)
   unfolding close_of
-  close_other m = rw (ne_eqb c.mark 2 m)
+  close_other fresh q m = rw (q, ne_eqb c.mark 2 m)
 
 -- GET
 not_true : false ≡ true → ⊥
@@ -177,18 +155,18 @@ read_closed c tape m = rw (ne_eqb c.mark 1 m)
 
 -- PUT
 module _ (c : Cassette) (byte : ℕ) (pending tape : List ℕ) where
-  pub write_pending : (p : List ℕ) → c.mark ≡ 2 → c.«record» < 249 → c.place < 127 → p ≡ set pending c.place byte
-      → answer Success (cassette_group (cassette_at 2 c.«record» (c.place + 1)) p tape) ≡ write_of byte (cassette_group c pending tape)
+  pub write_pending : (p : List ℕ) (mark : ℕ) → mark ≡ 2 → c.mark ≡ 2 → c.«record» < 249 → c.place < 127 → p ≡ set pending c.place byte
+      → answer Success (cassette_group (cassette_at mark c.«record» (c.place + 1)) p tape) ≡ write_of byte (cassette_group c pending tape)
   unfolding write_of taken_of
-  write_pending p m h k e = rw (eq-eqb c.mark 2 m, lt-ltb c.«record» 249 h, lt-ltb c.place 127 k, e)
+  write_pending p mark q m h k e = rw (q, eq-eqb c.mark 2 m, lt-ltb c.«record» 249 h, lt-ltb c.place 127 k, e)
 
-  pub write_full : (p out : List ℕ) → Reel pending tape → c.mark ≡ 2 → c.«record» < 249 → 127 ≤ c.place → p ≡ set pending c.place byte
+  pub write_full : (p out : List ℕ) (mark : ℕ) → Reel pending tape → mark ≡ 2 → c.mark ≡ 2 → c.«record» < 249 → 127 ≤ c.place → p ≡ set pending c.place byte
       → out ≡ laid_at tape c.«record» (record_made 0xFC p 128)
-      → answer Success (cassette_group (cassette_at 2 (c.«record» + 1) 0) p out) ≡ write_of byte (cassette_group c pending tape)
+      → answer Success (cassette_group (cassette_at mark (c.«record» + 1) 0) p out) ≡ write_of byte (cassette_group c pending tape)
   unfolding write_of taken_of
-  write_full p out f m h k e o =
+  write_full p out mark f q m h k e o =
       let l : length p ≡ 128 = rw e (simp length-set f.places) in
-      rw (eq-eqb c.mark 2 m, lt-ltb c.«record» 249 h, le-ltb c.place 127 k, o, made_full p l, e)
+      rw (q, eq-eqb c.mark 2 m, lt-ltb c.«record» 249 h, le-ltb c.place 127 k, o, made_full p l, e)
 
   pub write_end : c.mark ≡ 2 → 249 ≤ c.«record» → answer (Refused 0x90) (cassette_group c pending tape) ≡ write_of byte (cassette_group c pending tape)
   unfolding write_of

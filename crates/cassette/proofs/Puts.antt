@@ -88,7 +88,7 @@ module _ (byte : ℕ) (g : CassetteGroup) (f : FitCassette g) (m : g.cassette.ma
 
   pends : g.cassette.«record» < 249 → g.cassette.place < 127
       → write_of byte g ≡ answer Success (cassette_group (cassette_at 2 g.cassette.«record» (g.cassette.place + 1)) (set g.pending g.cassette.place byte) g.tape)
-  pends h k = sym (write_pending g.cassette byte g.pending g.tape (set g.pending g.cassette.place byte) m h k refl)
+  pends h k = sym (write_pending g.cassette byte g.pending g.tape (set g.pending g.cassette.place byte) 2 refl m h k refl)
 
   fills : g.cassette.«record» < 249 → 127 ≤ g.cassette.place
       → write_of byte g ≡ answer Success (cassette_group (cassette_at 2 (g.cassette.«record» + 1) 0) (set g.pending g.cassette.place byte)
@@ -96,7 +96,7 @@ module _ (byte : ℕ) (g : CassetteGroup) (f : FitCassette g) (m : g.cassette.ma
   fills h k =
       let p = set g.pending g.cassette.place byte in
       let r = g.cassette.«record» in
-      sym (write_full g.cassette byte g.pending g.tape p (laid_at g.tape r (full_record p)) (record { places = f.pending; whole = f.tape }) m h k refl
+      sym (write_full g.cassette byte g.pending g.tape p (laid_at g.tape r (full_record p)) 2 (record { places = f.pending; whole = f.tape }) refl m h k refl
       (ap (laid_at g.tape r) (sym (made_full p now_length))))
 
   pub put_rule : PutRule byte g

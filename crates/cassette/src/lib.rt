@@ -5,7 +5,7 @@ ghost use Rattle.std.specs.Prelude.{◌≡◌, ◌<◌};
 ghost use Rattle.handler.specs.Answer.{answer};
 ghost use Rattle.records.specs.Records.{WholeTape, Reel};
 ghost use Rattle.records.specs.declared.Judged.TheVariants.{Characters};
-ghost use Rattle.cassette.specs.Cassette.{cassette_group, fresh_cassette, tape_opened, close_of, spent, stand_of, behind, comes_with, given_with, given_at, gotten_of, write_of, Found, RecordHolds};
+ghost use Rattle.cassette.specs.Cassette.{cassette_group, fresh_cassette, mark_of, tape_opened, close_of, spent, stand_of, behind, comes_with, given_with, given_at, gotten_of, write_of, Found, RecordHolds};
 
 use handler::{Done, Got};
 use records::Judged;
@@ -15,6 +15,7 @@ pub const TAPE: usize = 33000;
 
 // How the tape is open: 0 closed, 1 reading, 2 writing, 3 with neither bit. The record that holds or takes the next character, and
 // the place in it or the number of pending characters.
+// The mark is a byte of the lent state, which a host may damage: `fits_cassette` speaks of marks past 3, so it is no enum.
 #[derive(Clone, Copy)]
 pub struct Cassette {
     pub mark: u8,
@@ -28,27 +29,6 @@ pub struct Stand {
     pub record: u8,
     pub place: u8,
     pub judged: Judged,
-}
-
-// What an OPEN answers, and the cassette as it leaves it.
-#[derive(Clone, Copy)]
-pub struct Opened {
-    pub cassette: Cassette,
-    pub done: Done,
-}
-
-// What a GET gives, and the cassette as it leaves it.
-#[derive(Clone, Copy)]
-pub struct Read {
-    pub cassette: Cassette,
-    pub got: Got,
-}
-
-// What a PUT answers, and the cassette as it leaves it.
-#[derive(Clone, Copy)]
-pub struct Written {
-    pub cassette: Cassette,
-    pub done: Done,
 }
 
 // Behind a character of a record of n: the next one, or the next record.
@@ -105,6 +85,19 @@ fn character(tape: &[u8], number: u8, place: u8, n: u8, byte: u8) -> Got
     with_next(byte, records::found(tape, number + 1))
 }
 
+// How an OPEN with this AUX1 opens the tape.
+fn mark_of(aux1: u8) -> u8
+    ensures { result ≡ mark_of aux1 }
+{
+    if aux1 / 4 % 2 == 1 {
+        return 1;
+    }
+    if aux1 / 8 % 2 == 1 {
+        return 2;
+    }
+    3
+}
+
 impl Cassette {
     // Closed, and nothing pending.
     pub fn fresh() -> Cassette
@@ -118,65 +111,38 @@ impl Cassette {
     }
 
     // By AUX1, at the tape's beginning; $81 while it is open.
-    pub fn open(self, aux1: u8) -> Opened
-        ensures { answer result.done result.cassette ≡ tape_opened aux1 self }
+    pub fn open(&mut self, aux1: u8) -> Done
+        ensures { answer result self.new ≡ tape_opened aux1 self.old }
     {
-        let mark = self.mark;
-        if mark == 0 {
-            let done = Done::Success;
-            if aux1 / 4 % 2 == 1 {
-                let cassette = Cassette {
-                    mark: 1,
-                    record: 0,
-                    place: 0,
-                };
-                return Opened { cassette, done };
-            }
-            if aux1 / 8 % 2 == 1 {
-                let cassette = Cassette {
-                    mark: 2,
-                    record: 0,
-                    place: 0,
-                };
-                return Opened { cassette, done };
-            }
-            let cassette = Cassette {
-                mark: 3,
-                record: 0,
-                place: 0,
-            };
-            return Opened { cassette, done };
+        if self.mark != 0 {
+            return Done::Refused(0x81);
         }
-        let done = Done::Refused(0x81);
-        Opened {
-            cassette: self,
-            done,
-        }
+        *self = Cassette {
+            mark: mark_of(aux1),
+            record: 0,
+            place: 0,
+        };
+        Done::Success
     }
 
     // After writing, what is pending becomes a partial record, and the end record comes behind it; any other CLOSE leaves the tape.
-    pub fn close(self, pending: &[u8], tape: &mut [u8]) -> Cassette
+    pub fn close(&mut self, pending: &[u8], tape: &mut [u8])
         requires { Reel pending.now tape.old }
-        ensures { cassette_group result pending.now tape.new ≡ close_of (cassette_group self pending.now tape.old) }
+        ensures { cassette_group self.new pending.now tape.new ≡ close_of (cassette_group self.old pending.now tape.old) }
     {
         let mark = self.mark;
         let number = self.record as u16;
         let place = self.place;
-        let closed = Cassette {
-            mark: 0,
-            record: 0,
-            place: 0,
-        };
-        if mark == 2 {
-            if place == 0 {
-                records::lay(tape, number, pending, 0xFE, 0);
-                return closed;
-            }
-            records::lay(tape, number, pending, 0xFA, place);
-            records::lay(tape, number + 1, pending, 0xFE, 0);
-            return closed;
+        *self = Cassette::fresh();
+        if mark != 2 {
+            return;
         }
-        closed
+        if place == 0 {
+            records::lay(tape, number, pending, 0xFE, 0);
+            return;
+        }
+        records::lay(tape, number, pending, 0xFA, place);
+        records::lay(tape, number + 1, pending, 0xFE, 0);
     }
 
     // Where the next character stands.
@@ -184,111 +150,70 @@ impl Cassette {
         requires { WholeTape tape.now }
         ensures { result ≡ stand_of self tape.now }
     {
-        let record = self.record;
-        let place = self.place;
-        let judged = records::found(tape, record);
-        if is_spent(place, judged) {
-            let after = record + 1;
-            let judged = records::found(tape, after);
+        let judged = records::found(tape, self.record);
+        if is_spent(self.place, judged) {
+            let after = self.record + 1;
             return Stand {
                 record: after,
                 place: 0,
-                judged,
+                judged: records::found(tape, after),
             };
         }
         Stand {
-            record,
-            place,
+            record: self.record,
+            place: self.place,
             judged,
         }
     }
 
     // The character there, or the record's refusal.
-    fn give(self, tape: &[u8], stand: Stand) -> Read
+    fn give(&mut self, tape: &[u8], stand: Stand) -> Got
         requires { Found tape.now stand }
-        ensures { answer result.got result.cassette ≡ given_at self tape.now stand }
+        ensures { answer result self.new ≡ given_at self.old tape.now stand }
     {
-        let judged = stand.judged;
-        match judged {
-            Judged::Bad => {
-                let got = Got::Refused(0x8F);
-                Read {
-                    cassette: self,
-                    got,
-                }
-            }
-            Judged::End => {
-                let got = Got::Refused(0x88);
-                Read {
-                    cassette: self,
-                    got,
-                }
-            }
+        match stand.judged {
+            Judged::Bad => Got::Refused(0x8F),
+            Judged::End => Got::Refused(0x88),
             Judged::Characters(n) => {
                 let at = records::RECORD * stand.record as usize + 3 + stand.place as usize;
                 let byte = base::byte_at(tape, at);
-                let cassette = next(stand.record, stand.place, n);
-                let got = character(tape, stand.record, stand.place, n, byte);
-                Read { cassette, got }
+                *self = next(stand.record, stand.place, n);
+                character(tape, stand.record, stand.place, n, byte)
             }
         }
     }
 
     // The next character; $83 if the tape is not open for reading.
-    pub fn read(self, tape: &[u8]) -> Read
+    pub fn read(&mut self, tape: &[u8]) -> Got
         requires { WholeTape tape.now }
-        ensures { answer result.got result.cassette ≡ gotten_of self tape.now }
+        ensures { answer result self.new ≡ gotten_of self.old tape.now }
     {
-        let mark = self.mark;
-        if mark == 1 {
+        if self.mark == 1 {
             let stand = self.stand(tape);
             return self.give(tape, stand);
         }
-        let got = Got::Refused(0x83);
-        Read {
-            cassette: self,
-            got,
-        }
+        Got::Refused(0x83)
     }
 
     // The character becomes pending, and the 128th makes a full record; $90 on a full tape, $87 if it is not open for writing.
-    pub fn write(self, pending: &mut [u8], tape: &mut [u8], byte: u8) -> Written
+    pub fn write(&mut self, pending: &mut [u8], tape: &mut [u8], byte: u8) -> Done
         requires { Reel pending.old tape.old }
-        ensures { answer result.done (cassette_group result.cassette pending.new tape.new) ≡ write_of byte (cassette_group self pending.old tape.old) }
+        ensures { answer result (cassette_group self.new pending.new tape.new) ≡ write_of byte (cassette_group self.old pending.old tape.old) }
     {
-        let mark = self.mark;
-        let record = self.record;
-        let place = self.place;
-        if mark == 2 {
-            if record < 249 {
-                base::set_byte(pending, place as usize, byte);
-                let done = Done::Success;
-                if place < 127 {
-                    let cassette = Cassette {
-                        mark: 2,
-                        record,
-                        place: place + 1,
-                    };
-                    return Written { cassette, done };
-                }
-                records::lay(tape, record as u16, pending, 0xFC, records::CHARACTERS);
-                let cassette = Cassette {
-                    mark: 2,
-                    record: record + 1,
-                    place: 0,
-                };
-                return Written { cassette, done };
-            }
-            let done = Done::Refused(0x90);
-            return Written {
-                cassette: self,
-                done,
-            };
+        if self.mark != 2 {
+            return Done::Refused(0x87);
         }
-        let done = Done::Refused(0x87);
-        Written {
-            cassette: self,
-            done,
+        if 249 <= self.record {
+            return Done::Refused(0x90);
         }
+        base::set_byte(pending, self.place as usize, byte);
+        if self.place < 127 {
+            self.place += 1;
+            return Done::Success;
+        }
+        records::lay(tape, self.record as u16, pending, 0xFC, records::CHARACTERS);
+        self.record += 1;
+        self.place = 0;
+        Done::Success
     }
 }

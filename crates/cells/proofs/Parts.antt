@@ -5,10 +5,11 @@ use mathlib.Core.List.{List, ◌∷◌, ◌++◌, append-nil}
 use native.Mathlib.Nat.{not-suc-le-zero, le_of_suc-le-suc}
 use Prim.Native.Nat.{ℕ, zero, suc, ◌+◌, ◌-◌, ◌*◌, ◌%◌, ◌<◌, ◌≤◌}
 use native.Mathlib.Omega.{arith}
-use borrow.Author.Fill.{fill_more}
-use Rattle.base.proofs.Lists.{move_step, map_step, part_tail, back_tail}
-use lib.ListN.{length, get_or, set, length-set, take, drop, replicate, length-take, length-drop, length-append, length-replicate, length-map}
-use lib.Seq.{length-take-le, take_all, take-length, drop-length, take-append-add, take_at}
+use native.Mathlib.Nat.{zero-add}
+use Rattle.std.proofs.lemmas.List.Edits.{paste_all}
+use Rattle.base.proofs.Lists.{map_step, part_tail, back_tail}
+use lib.ListN.{length, get_or, set, take, drop, drop_of_length-le, replicate, length-take, length-drop, length-append, length-replicate, length-map}
+use lib.Seq.{paste, length-take-le, take-length, drop-length, take-append-add, take_at}
 use Rattle.cells.specs.Modes.{shape_of, count_of}
 use Rattle.cells.specs.Cells.{Whole, reduced_all, filled, reduced, raised, shifted, scrolled, scrolled_by}
 use borrow.Rule.Slice.PartMut.{put_mid}
@@ -37,38 +38,28 @@ module _ (cells : List ℕ) (w : Whole cells) where
   unfolding scrolled
   scrolled_length = simp (length-append, length-take, length-drop) (omega (arith, w.all))
 
--- a turn of each loop, and its end
-module _ (d s : List ℕ) (i : ℕ) (l : length s ≡ length d) where
-  pub paint_step : (v : ℕ) → i < length s → s ≡ replicate i v ++ drop i d
-      → (i + 1 ≤ length d) × ((set s i v ≡ replicate (i + 1) v ++ drop (i + 1) d) × (length (set s i v) ≡ length d))
-  paint_step v h e = (omega arith, (ap (λ (x : List ℕ). set x i v) e ∙ fill_more i v d (omega arith), simp length-set l))
+-- a turn of the loop, and its end
+module _ (d s : List ℕ) (i k : ℕ) (e : s ≡ reduced_all k (take i d) ++ drop i d) where
+  pub reduce_step : i < length d → set s i (get_or s i 0 % k) ≡ reduced_all k (take (i + 1) d) ++ drop (i + 1) d
+  reduce_step h = map_step (λ (x : ℕ). x % k) d s i h e
 
-  pub painted : (v : ℕ) → i ≤ length d → length s ≤ i → s ≡ replicate i v ++ drop i d → s ≡ replicate (length d) v
-  painted v h k e =
-      let q : i ≡ length d = omega arith in
-      e ∙ simp (q, drop-length, append-nil)
-
-  pub reduce_step : (k : ℕ) → i < length s → s ≡ reduced_all k (take i d) ++ drop i d
-      → (i + 1 ≤ length d) × ((set s i (get_or s i 0 % k) ≡ reduced_all k (take (i + 1) d) ++ drop (i + 1) d) × (length (set s i (get_or s i 0 % k)) ≡ length d))
-  reduce_step k h e = (omega arith, (map_step (λ (x : ℕ). x % k) d s i (omega arith) e, simp length-set l))
-
-  pub reduced_all_lem : (k : ℕ) → i ≤ length d → length s ≤ i → s ≡ reduced_all k (take i d) ++ drop i d → s ≡ reduced_all k d
-  reduced_all_lem k h n e =
+  pub reduced_all_lem : i ≤ length d → length d ≤ i → s ≡ reduced_all k d
+  reduced_all_lem h n =
       let q : i ≡ length d = omega arith in
       e ∙ simp (q, drop-length, take-length, append-nil)
 
-  pub raise_step : (by : ℕ) → i + by < length s → s ≡ take i (drop by d) ++ drop i d
-      → (i + 1 ≤ length d - by) × ((set s i (get_or s (i + by) 0) ≡ take (i + 1) (drop by d) ++ drop (i + 1) d) × (length (set s i (get_or s (i + by) 0)) ≡ length d))
-  raise_step by h e = (omega arith, (move_step d s by i (omega arith) e, simp length-set l))
-
-  pub raised_all : (by : ℕ) → i ≤ length d - by → length s ≤ i + by → s ≡ take i (drop by d) ++ drop i d → s ≡ raised by d
+-- the cells that have one so many places behind them become those
+module _ (by : ℕ) (d : List ℕ) where
+  pub raised_some : paste d 0 (drop by d) (length d - by) ≡ raised by d
   unfolding raised
-  raised_all by h k e =
-      let q : i ≡ length d - by = omega arith in
-      e ∙ simp (q, take_all (length d - by) (drop by d) (simp length-drop (omega arith)))
+  raised_some = paste_all d 0 (drop by d) (length d - by) (sym (length-drop by d)) ∙ simp zero-add
 
-  pub raised_end : (by : ℕ) → i ≤ length d - by → length s ≤ i + by → i ≡ length d - by
-  raised_end by h k = omega arith
+  pub raised_none : length d < by → d ≡ raised by d
+  unfolding raised
+  raised_none h =
+      let e : length d - by ≡ 0 = omega arith in
+      let l : length d ≤ by = omega arith in
+      sym (simp (drop_of_length-le d l, e))
 
 -- a number of cells that `count` gave
 module _ (mode n : ℕ) (cells : List ℕ) (w : Whole cells) (e : n ≡ count_of mode) where

@@ -57,13 +57,10 @@ const MODES: [Shape; 7] = [
 pub fn is_mode(mode: u8) -> bool
     ensures { result ≡ is_mode mode }
 {
-    if mode == 0 {
-        return true;
+    match mode {
+        0 | 3..=8 => true,
+        _ => false,
     }
-    if mode < 3 {
-        return false;
-    }
-    mode <= 8
 }
 
 // A mode's row of the table, each by its own number, so that nothing of the table is left to be looked up when the code runs; a
@@ -72,31 +69,19 @@ pub fn shape_of(mode: u8) -> Shape
     ensures { result ≡ shape_of mode }
 {
     let modes = MODES;
-    if mode == 0 {
-        return modes[0];
-    }
-    if mode == 3 {
-        return modes[1];
-    }
-    if mode == 4 {
-        return modes[2];
-    }
-    if mode == 5 {
-        return modes[3];
-    }
-    if mode == 6 {
-        return modes[4];
-    }
-    if mode == 7 {
-        return modes[5];
-    }
-    if mode == 8 {
-        return modes[6];
-    }
-    Shape {
-        columns: 0,
-        rows: 0,
-        colours: 1,
+    match mode {
+        0 => modes[0],
+        3 => modes[1],
+        4 => modes[2],
+        5 => modes[3],
+        6 => modes[4],
+        7 => modes[5],
+        8 => modes[6],
+        _ => Shape {
+            columns: 0,
+            rows: 0,
+            colours: 1,
+        },
     }
 }
 
@@ -120,13 +105,11 @@ fn colour(byte: u8, colours: u16) -> u8
     requires { Colours colours }
     ensures { result ≡ byte % colours }
 {
-    if colours == 2 {
-        return byte % 2;
+    match colours {
+        2 => byte % 2,
+        4 => byte % 4,
+        _ => (byte as u16 % colours) as u8,
     }
-    if colours == 4 {
-        return byte % 4;
-    }
-    (byte as u16 % colours) as u8
 }
 
 // A cell of a mode of this shape, modulo the mode's colours.

@@ -17,7 +17,7 @@ use Rattle.graphics.specs.Picture.{picture}
 use Rattle.graphics.specs.Picture as graphics
 use Rattle.graphics.specs.declared.Graphics.{Graphics}
 use Rattle.console.specs.declared.state.Console.{Console}
-use Rattle.console.specs.Group.{group, fresh_console, editor_of, with_editor, with_mode, graphics_of, with_graphics, with_keyboard, pressed_of}
+use Rattle.console.specs.Group.{group, editor_of, with_editor, with_mode, graphics_of, with_graphics, with_keyboard}
 use Rattle.console.specs.Handlers.{with_text, with_picture, open_e, open_s, read_e, read_s, read_k, write_e, write_s}
 
 module _ (c r : Console) (s t : List ℕ) where
@@ -51,9 +51,3 @@ module _ (c : Console) (k : Keyboard) where
   pub read_k_lem : (x : Got) → answer x k ≡ keys.get_of c.keyboard → answer x (with_keyboard k c) ≡ read_k c
   unfolding read_k
   read_k_lem x p = ap (seen (λ (y : Keyboard). with_keyboard y c)) p
-
-  pub press_law : (code : ℕ) → k ≡ keys.press_of code c.keyboard → with_keyboard k c ≡ pressed_of code c
-  press_law code p = rw p
-
-pub fresh_state : (k : Keyboard) → k ≡ keys.fresh_keyboard → with_keyboard k fresh_console ≡ fresh_console
-fresh_state k e = rw e

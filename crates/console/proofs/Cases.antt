@@ -19,7 +19,7 @@ use Rattle.controls.specs.Decide as controls_acts
 use Rattle.editor.specs.Text as editor
 use Rattle.controls.specs.Put as controls
 use Rattle.editor.specs.Get as editor_get
-use Rattle.editor.specs.declared.ReadColumn.TheVariants.{Dropped}
+use Rattle.std.specs.Prelude.{None}
 use Rattle.graphics.specs.Picture as graphics
 use Rattle.console.specs.declared.Handler.{Handler}
 use Rattle.console.specs.declared.Handler.TheVariants.{E, S, K}
@@ -60,7 +60,7 @@ none = gave (got.Refused 0x88)
 -- a console by its mode, cursor, last character and lock, with no key, and its screen
 abbrev left : (mode row column last lock : ℕ) → List ℕ → ConsoleGroup
 left mode row column last lock screen =
-    group (record { mode = mode; row = row; column = column; last = last; escape = false; reading = Dropped; keyboard = record { code = 0xFF; lock = lock; inverse = 0 } }) screen
+    group (record { mode = mode; row = row; column = column; last = last; escape = false; reading = None; keyboard = record { code = 0xFF; lock = lock; inverse = 0 } }) screen
 
 -- cells (0,2) and (0,3) are A and B
 abbrev ab : List ℕ

@@ -23,8 +23,7 @@ use Rattle.controls.specs.Put as controls
 use Rattle.editor.specs.Get as editor_get
 use Rattle.editor.specs.Fit.{FitReading, FitEditor, FitText}
 use Rattle.editor.specs.declared.Editor.{Editor}
-use Rattle.editor.specs.declared.ReadColumn.{ReadColumn}
-use Rattle.editor.specs.declared.ReadColumn.TheVariants.{Dropped, At}
+use Rattle.std.specs.Prelude.{Option, None, Some}
 use Rattle.editor.proofs.Keeps as editor_keeps
 use Rattle.controls.proofs.Keeps as controls_keeps
 use Rattle.graphics.specs.Picture as graphics
@@ -48,15 +47,15 @@ pub record Fits (c : Console) : Type 0 where
 both_true : (a b : Bool) → a ≡ true → b ≡ true → and a b ≡ true
 both_true a b p q = rw (p, q)
 
-reading_of : (r : ReadColumn) → reading_fits r ≡ true → FitReading r
+reading_of : (r : Option ℕ) → reading_fits r ≡ true → FitReading r
 unfolding reading_fits
-reading_of Dropped e = tt
-reading_of (At column) e = (leb-true 2 column (and_left (leb 2 column) (leb column 40) e), leb-true column 40 (and_right (leb 2 column) (leb column 40) e))
+reading_of None e = tt
+reading_of (Some column) e = (leb-true 2 column (and_left (leb 2 column) (leb column 40) e), leb-true column 40 (and_right (leb 2 column) (leb column 40) e))
 
-of_reading : (r : ReadColumn) → FitReading r → reading_fits r ≡ true
+of_reading : (r : Option ℕ) → FitReading r → reading_fits r ≡ true
 unfolding reading_fits
-of_reading Dropped f = refl
-of_reading (At column) f = both_true (leb 2 column) (leb column 40) (le-leb 2 column f.0) (le-leb column 40 f.1)
+of_reading None f = refl
+of_reading (Some column) f = both_true (leb 2 column) (leb column 40) (le-leb 2 column f.0) (le-leb column 40 f.1)
 
 keys_of : (k : Keyboard) → keys_fit k ≡ true → FitKeys k
 unfolding keys_fit

@@ -1,12 +1,10 @@
 -- Document 01, Damaged: the console is fit where none of that sentence's words on it hold. A fit group also has its whole screen.
 -- Assumes nothing.
-use Rattle.std.specs.Prelude.{ℕ, ◌≡◌, Bool, true, eqb, leb, ltb}
+use Rattle.std.specs.Prelude.{ℕ, ◌≡◌, Bool, true, eqb, leb, ltb, Option, None, Some}
 use Rattle.base.specs.Choice.{choose, and, within}
 use Rattle.cells.specs.Modes.{shape_of, is_mode}
 use Rattle.cells.specs.Cells.{Whole}
 use Rattle.keys.specs.declared.keyboard.Keyboard.{Keyboard}
-use Rattle.editor.specs.declared.ReadColumn.{ReadColumn}
-use Rattle.editor.specs.declared.ReadColumn.TheVariants.{Dropped, At}
 use Rattle.console.specs.declared.Handler.{Handler}
 use Rattle.console.specs.declared.Handler.TheVariants.{E, S, K}
 use Rattle.console.specs.declared.state.Console.{Console}
@@ -20,9 +18,9 @@ cursor_fits mode row column =
     (λ u. and (leb row (shape_of mode).rows) (ltb column (shape_of mode).columns))
 
 -- a read column is 2 to 40
-unfoldable pub reading_fits : ReadColumn → Bool
-reading_fits Dropped = true
-reading_fits (At column) = within 2 40 column
+unfoldable pub reading_fits : Option ℕ → Bool
+reading_fits None = true
+reading_fits (Some column) = within 2 40 column
 
 -- "lock (0 none, 1 shift, 2 control) and inverse (0, 1)"
 unfoldable pub keys_fit : Keyboard → Bool

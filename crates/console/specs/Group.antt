@@ -1,10 +1,9 @@
 -- Document 01: "the console (E, S, K; a lent screen of 61,440 cells, a byte each)": its state with the screen, and each
 -- handler's part of the state.
 -- Assumes nothing.
-use Rattle.std.specs.Prelude.{ℕ, false, List, ◌++◌, replicate}
+use Rattle.std.specs.Prelude.{ℕ, false, List, ◌++◌, replicate, None}
 use Rattle.keys.specs.declared.keyboard.Keyboard.{Keyboard}
 use Rattle.keys.specs.Keyboard.{fresh_keyboard, press_of}
-use Rattle.editor.specs.declared.ReadColumn.TheVariants.{Dropped}
 use Rattle.editor.specs.declared.Editor.{Editor}
 use Rattle.graphics.specs.declared.Graphics.{Graphics}
 use Rattle.console.specs.declared.state.Console.{Console}
@@ -18,7 +17,7 @@ group console screen = record { console = console; screen = screen }
 
 -- "Fresh: .. screen as after opening E with cells past 960 zero, no key, shift lock, inverse off, last character 0"
 abbrev pub fresh_console : Console
-fresh_console = record { mode = 0; row = 0; column = 2; last = 0; escape = false; reading = Dropped; keyboard = fresh_keyboard }
+fresh_console = record { mode = 0; row = 0; column = 2; last = 0; escape = false; reading = None; keyboard = fresh_keyboard }
 
 abbrev pub fresh_group : ConsoleGroup
 fresh_group = group fresh_console (replicate 960 0x20 ++ replicate 60480 0)

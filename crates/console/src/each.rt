@@ -6,98 +6,69 @@ ghost use Rattle.console.specs.Group.{group};
 ghost use Rattle.console.specs.Handlers.{open_e, open_s, read_e, read_s, read_k, write_e, write_s};
 
 use crate::state::Console;
-use crate::{ConsoleDone, ConsoleGot};
+use handler::{Done, Got};
 
-pub fn open_editor(console: Console, screen: &mut [u8]) -> Console
+pub fn open_editor(console: &mut Console, screen: &mut [u8])
     requires { Whole screen.old }
-    ensures { group result screen.new ≡ open_e (group console screen.old) }
+    ensures { group console.new screen.new ≡ open_e (group console.old screen.old) }
 {
-    let next = editor::open(console.editor(), screen);
-    let mut text = console.with_editor(next);
-    text.mode = 0;
-    text
+    let mut editor = console.editor();
+    editor.open(screen);
+    console.set_editor(editor);
+    console.mode = 0;
 }
 
-pub fn open_screen(console: Console, screen: &mut [u8], aux1: u8, aux2: u8) -> ConsoleDone
+pub fn open_screen(console: &mut Console, screen: &mut [u8], aux1: u8, aux2: u8) -> Done
     requires { Whole screen.old }
-    ensures { answer result.done (group result.console screen.new) ≡ open_s aux1 aux2 (group console screen.old) }
+    ensures { answer result (group console.new screen.new) ≡ open_s aux1 aux2 (group console.old screen.old) }
 {
-    let w = graphics::open(console.graphics(), screen, aux1, aux2);
-    let g = w.graphics;
-    let done = w.done;
-    let next = console.with_graphics(g);
-    ConsoleDone {
-        console: next,
-        done: done,
-    }
+    let mut graphics = console.graphics();
+    let done = graphics.open(screen, aux1, aux2);
+    console.set_graphics(graphics);
+    done
 }
 
-pub fn read_editor(console: Console, screen: &mut [u8]) -> ConsoleGot
+pub fn read_editor(console: &mut Console, screen: &mut [u8]) -> Got
     requires { Whole screen.old }
-    ensures { answer result.got (group result.console screen.new) ≡ read_e (group console screen.old) }
+    ensures { answer result (group console.new screen.new) ≡ read_e (group console.old screen.old) }
 {
-    let r = editor::get(console.editor(), screen);
-    let e = r.editor;
-    let got = r.got;
-    let next = console.with_editor(e);
-    ConsoleGot {
-        console: next,
-        got: got,
-    }
+    let mut editor = console.editor();
+    let got = editor.get(screen);
+    console.set_editor(editor);
+    got
 }
 
-pub fn read_screen(console: Console, screen: &[u8]) -> ConsoleGot
-    ensures { answer result.got result.console ≡ read_s screen.now console }
+pub fn read_screen(console: &mut Console, screen: &[u8]) -> Got
+    ensures { answer result console.new ≡ read_s screen.now console.old }
 {
-    let r = graphics::get(console.graphics(), screen);
-    let g = r.graphics;
-    let got = r.got;
-    let next = console.with_graphics(g);
-    ConsoleGot {
-        console: next,
-        got: got,
-    }
+    let mut graphics = console.graphics();
+    let got = graphics.get(screen);
+    console.set_graphics(graphics);
+    got
 }
 
-pub fn read_keyboard(console: Console) -> ConsoleGot
-    ensures { answer result.got result.console ≡ read_k console }
+pub fn read_keyboard(console: &mut Console) -> Got
+    ensures { answer result console.new ≡ read_k console.old }
 {
-    let keyboard = console.keyboard;
-    let r = keyboard.get();
-    let k = r.keyboard;
-    let got = r.got;
-    let mut next = console;
-    next.keyboard = k;
-    ConsoleGot {
-        console: next,
-        got: got,
-    }
+    console.keyboard.get()
 }
 
-pub fn write_editor(console: Console, screen: &mut [u8], byte: u8) -> ConsoleDone
+pub fn write_editor(console: &mut Console, screen: &mut [u8], byte: u8) -> Done
     requires { Whole screen.old }
-    ensures { answer result.done (group result.console screen.new) ≡ write_e byte (group console screen.old) }
+    ensures { answer result (group console.new screen.new) ≡ write_e byte (group console.old screen.old) }
 {
-    let w = controls::put(console.editor(), screen, byte);
-    let e = w.editor;
-    let done = w.done;
-    let next = console.with_editor(e);
-    ConsoleDone {
-        console: next,
-        done: done,
-    }
+    let mut editor = console.editor();
+    let done = controls::put(&mut editor, screen, byte);
+    console.set_editor(editor);
+    done
 }
 
-pub fn write_screen(console: Console, screen: &mut [u8], byte: u8) -> ConsoleDone
+pub fn write_screen(console: &mut Console, screen: &mut [u8], byte: u8) -> Done
     requires { Whole screen.old }
-    ensures { answer result.done (group result.console screen.new) ≡ write_s byte (group console screen.old) }
+    ensures { answer result (group console.new screen.new) ≡ write_s byte (group console.old screen.old) }
 {
-    let w = graphics::put(console.graphics(), screen, byte);
-    let g = w.graphics;
-    let done = w.done;
-    let next = console.with_graphics(g);
-    ConsoleDone {
-        console: next,
-        done: done,
-    }
+    let mut graphics = console.graphics();
+    let done = graphics.put(screen, byte);
+    console.set_graphics(graphics);
+    done
 }

@@ -1,8 +1,8 @@
-// The console's state by value, and each handler's part of it.
+// The console's state, and each handler's part of it.
 ghost use Rattle.std.specs.Prelude.{◌≡◌};
 ghost use Rattle.console.specs.Group.{fresh_console, editor_of, with_editor, graphics_of, with_graphics, pressed_of};
 
-use editor::{Editor, ReadColumn};
+use editor::Editor;
 use graphics::Graphics;
 use keys::keyboard::Keyboard;
 
@@ -13,7 +13,7 @@ pub struct Console {
     pub column: u16,
     pub last: u8,
     pub escape: bool,
-    pub reading: ReadColumn,
+    pub reading: Option<u16>,
     pub keyboard: Keyboard,
 }
 
@@ -27,7 +27,7 @@ impl Console {
             column: 2,
             last: 0,
             escape: false,
-            reading: ReadColumn::Dropped,
+            reading: None,
             keyboard: Keyboard::fresh(),
         }
     }
@@ -36,30 +36,26 @@ impl Console {
     pub fn editor(self) -> Editor
         ensures { result ≡ editor_of self }
     {
-        let reading = self.reading;
         Editor {
             row: self.row,
             column: self.column,
             last: self.last,
             escape: self.escape,
-            reading: reading,
+            reading: self.reading,
         }
     }
 
-    pub fn with_editor(self, editor: Editor) -> Console
-        ensures { result ≡ with_editor editor self }
+    pub fn set_editor(&mut self, editor: Editor)
+        ensures { self.new ≡ with_editor editor self.old }
     {
-        let reading = editor.reading;
-        let keyboard = self.keyboard;
-        Console {
-            mode: self.mode,
+        *self = Console {
             row: editor.row,
             column: editor.column,
             last: editor.last,
             escape: editor.escape,
-            reading: reading,
-            keyboard: keyboard,
-        }
+            reading: editor.reading,
+            ..*self
+        };
     }
 
     // S's part.
@@ -74,25 +70,22 @@ impl Console {
         }
     }
 
-    pub fn with_graphics(self, graphics: Graphics) -> Console
-        ensures { result ≡ with_graphics graphics self }
+    pub fn set_graphics(&mut self, graphics: Graphics)
+        ensures { self.new ≡ with_graphics graphics self.old }
     {
-        let mut next = self;
-        next.mode = graphics.mode;
-        next.row = graphics.row;
-        next.column = graphics.column;
-        next.last = graphics.last;
-        next
+        *self = Console {
+            mode: graphics.mode,
+            row: graphics.row,
+            column: graphics.column,
+            last: graphics.last,
+            ..*self
+        };
     }
 
     // A key pressed.
-    pub fn press(self, code: u8) -> Console
-        ensures { result ≡ pressed_of code self }
+    pub fn press(&mut self, code: u8)
+        ensures { self.new ≡ pressed_of code self.old }
     {
-        let keyboard = self.keyboard;
-        let pressed = keyboard.press(code);
-        let mut next = self;
-        next.keyboard = pressed;
-        next
+        self.keyboard.press(code);
     }
 }

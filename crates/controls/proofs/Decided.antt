@@ -25,7 +25,7 @@ pub act_of_allows : Allows act_of_kinds.ps act_of_kinds.r act_of_reads.Pre act_o
 act_of_allows κs a p = (_, (_, refl))
 
 pub put_decides : Decides put_kinds.ps put_kinds.r put_reads.Pre put_reads.Learnt
-put_decides κs a z z' ws ws' p e e' = let q = e ∙ sym e' in (ap (λ (w : Answer Done Text). record { editor = w.leaves.editor; done = w.says }) q, ap (λ (w : Answer Done Text). (tt, (w.leaves.cells, (tt, tt)))) q)
+put_decides κs a z z' ws ws' p e e' = let q = e ∙ sym e' in (ap (λ (w : Answer Done Text). w.says) q, ap (λ (w : Answer Done Text). (w.leaves.editor, (w.leaves.cells, (tt, tt)))) q)
 
 pub put_allows : Allows put_kinds.ps put_kinds.r put_reads.Pre put_reads.Learnt
 put_allows κs a p = (_, (_, refl))

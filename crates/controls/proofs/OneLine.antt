@@ -23,7 +23,7 @@ use Rattle.handler.specs.InOrder.{and_then, puts_of, gets_of, Each}
 use Rattle.handler.proofs.InOrder.{puts_more, gets_none, gets_one}
 use Rattle.cells.specs.Cells.{Whole, scrolled}
 use Rattle.cells.proofs.Scrolls.{scrolled_at}
-use Rattle.editor.specs.declared.ReadColumn.TheVariants.{Dropped}
+use Rattle.std.specs.Prelude.{None}
 use Rattle.editor.specs.Text.{Text, text, cell_at, placed, with_escape, move_to, new_row, unread}
 use Rattle.editor.specs.Get.{column_of, cells_held, end_of, read_on, get_of}
 use Rattle.editor.specs.Fit.{FitText}
@@ -162,7 +162,7 @@ module _ (line : List ℕ) (above : ℕ) (t : Text) where
         escape = ap (λ (x : Text). x.editor.escape) e;
       }
 
-  up_drops : Stands line (suc above) t → (put_of 0x1C t).leaves.editor.reading ≡ Dropped
+  up_drops : Stands line (suc above) t → (put_of 0x1C t).leaves.editor.reading ≡ None
   unfolding plain_of doing
   up_drops s = ap (λ (x : Text). x.editor.reading) (put_act line (suc above) t s Up 0x1C refl)
 
@@ -192,7 +192,7 @@ module _ (line : List ℕ) (byte : ℕ) (t : Text) (p : Plain byte) (s : Stands 
   -- "then right"
   right_is : length line < 37 → (put_of byte t).leaves ≡ move_to t.editor.row (t.editor.column + 1) drawn
   right_is h =
-      put_data ∙ sym (data_right (quiet t).editor (placed t.editor.row (t.editor.column + 1) (with_last byte (quiet t).editor)) t.cells t.cells byte drawn.cells refl (omega arith) refl)
+      put_data ∙ sym (data_right (quiet t).editor (placed t.editor.row (t.editor.column + 1) (with_last byte (quiet t).editor)) t.cells t.cells byte drawn.cells refl (omega arith))
 
   right_stands : length line < 37 → Stands (line ++ (byte ∷ [])) 0 (put_of byte t).leaves
   right_stands h =
@@ -283,7 +283,7 @@ gets_line [] line t c s l e =
     let below = new_row t in
     ap (λ (x : Answer (List Got) Text). x.says)
     (gets_one get_of 0 t (text (unread below.editor) below.cells) (Character 0x9B)
-    (sym (get_row t.editor t.cells (column_of t.editor.reading) (end_of t.editor.row t.cells) refl refl below.editor (unread below.editor) below.cells (omega arith) refl refl))
+    (sym (get_row t.editor t.cells (column_of t.editor.reading) (end_of t.editor.row t.cells) refl refl below.editor below.cells (omega arith) refl))
     ∙ ap (and_then (Character 0x9B)) (gets_none get_of (text (unread below.editor) below.cells)))
 gets_line (byte ∷ rest) line t c s l e =
     let column = column_of t.editor.reading in
@@ -305,7 +305,7 @@ puts_says [] t = refl
 puts_says (byte ∷ bytes) t = ap (λ (l : List Done). Success ∷ l) (puts_says bytes (put_of byte t).leaves)
 
 -- the row that the line stands on is read
-got_line : (bytes : List ℕ) (t : Text) → OneLine bytes → Stands bytes 0 t → t.editor.reading ≡ Dropped
+got_line : (bytes : List ℕ) (t : Text) → OneLine bytes → Stands bytes 0 t → t.editor.reading ≡ None
     → (gets_of get_of (length (bytes ++ (0x9B ∷ []))) t).says ≡ map Character (bytes ++ (0x9B ∷ []))
 got_line bytes t o s d =
     let r : t.editor.row ≡ s.row = s.cursor ∙ add-zero s.row in
@@ -341,19 +341,19 @@ module _ (bytes : List ℕ) (t : Text) where
   up_twice h = rw (le-leb 38 (length bytes) h) (after_more bytes (0x9B ∷ 0x1C ∷ 0x1C ∷ []) t)
 
   -- the cursor is on the line again
-  on_line : OneLine bytes → FitText t → OnBlankRow t → Stands bytes 0 (after (put_and_up bytes) t) × ((after (put_and_up bytes) t).editor.reading ≡ Dropped)
+  on_line : OneLine bytes → FitText t → OnBlankRow t → Stands bytes 0 (after (put_and_up bytes) t) × ((after (put_and_up bytes) t).editor.reading ≡ None)
   on_line o f b =
       by_lt (length bytes) 38
       (λ h.
       let s = eol_row bytes 0 (after bytes t) (puts_short bytes [] t o.each (begins t f b) b.margin (omega arith)) (omega arith) in
       let u = (put_of 0x9B (after bytes t)).leaves in
-      subst (λ (x : Text). Stands bytes 0 x × (x.editor.reading ≡ Dropped)) (sym (up_once h)) (up_row bytes 0 u s, up_drops bytes 0 u s))
+      subst (λ (x : Text). Stands bytes 0 x × (x.editor.reading ≡ None)) (sym (up_once h)) (up_row bytes 0 u s, up_drops bytes 0 u s))
       (λ h.
       let s = eol_row bytes 1 (after bytes t) (full_line bytes t o.each f b (omega (arith, o.fits))) (omega arith) in
       let u = (put_of 0x9B (after bytes t)).leaves in
       let v = (put_of 0x1C u).leaves in
       let r = up_row bytes 1 u s in
-      subst (λ (x : Text). Stands bytes 0 x × (x.editor.reading ≡ Dropped)) (sym (up_twice h)) (up_row bytes 0 v r, up_drops bytes 0 v r))
+      subst (λ (x : Text). Stands bytes 0 x × (x.editor.reading ≡ None)) (sym (up_twice h)) (up_row bytes 0 v r, up_drops bytes 0 v r))
 
   pub line_back : OneLine bytes → FitText t → OnBlankRow t → LineBack Text put_of get_of bytes t
   line_back o f b =

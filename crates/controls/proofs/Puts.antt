@@ -21,9 +21,9 @@ module _ (e r : Editor) (s t : List ℕ) where
   unfolding clear_of
   clear_law p q = rw (p, q)
 
-  pub back_left : 2 < e.column → t ≡ set s (e.row * 40 + (e.column - 1)) 0x20 → r ≡ placed e.row (e.column - 1) e → text r t ≡ back_of (text e s)
+  pub back_left : 2 < e.column → t ≡ set s (e.row * 40 + (e.column - 1)) 0x20 → text (placed e.row (e.column - 1) e) t ≡ back_of (text e s)
   unfolding back_of
-  back_left h p q = rw (p, q, lt-ltb 2 e.column h)
+  back_left h p = rw (p, lt-ltb 2 e.column h)
 
   pub back_margin : e.column ≤ 2 → text e s ≡ back_of (text e s)
   unfolding back_of
@@ -34,9 +34,9 @@ module _ (e r : Editor) (s t : List ℕ) where
     unfolding data_of onward
     data_row h q = q ∙ rw (p, le-leb 39 e.column h)
 
-    pub data_right : e.column < 39 → r ≡ placed e.row (e.column + 1) (with_last b e) → text r written ≡ data_of b (text e s)
+    pub data_right : e.column < 39 → text (placed e.row (e.column + 1) (with_last b e)) written ≡ data_of b (text e s)
     unfolding data_of onward
-    data_right h q = rw (q, p, lt-leb 39 e.column h)
+    data_right h = rw (p, lt-leb 39 e.column h)
 
 -- the act that the match found, with what its arm did
 module _ (act : Act) (b : ℕ) (e r : Editor) (s t : List ℕ) where
@@ -44,21 +44,21 @@ module _ (act : Act) (b : ℕ) (e r : Editor) (s t : List ℕ) where
   unfolding doing
   do_escape a q = rw (a, q)
 
-  pub do_up : (row : ℕ) → act ≡ Up → row ≡ less_of 0 23 e.row → r ≡ placed row e.column e → text r s ≡ doing act b (text e s)
+  pub do_up : (row : ℕ) → act ≡ Up → row ≡ less_of 0 23 e.row → text (placed row e.column e) s ≡ doing act b (text e s)
   unfolding doing
-  do_up row a p q = rw (a, q, p)
+  do_up row a p = rw (a, p)
 
-  pub do_down : (row : ℕ) → act ≡ Down → row ≡ more_of 0 23 e.row → r ≡ placed row e.column e → text r s ≡ doing act b (text e s)
+  pub do_down : (row : ℕ) → act ≡ Down → row ≡ more_of 0 23 e.row → text (placed row e.column e) s ≡ doing act b (text e s)
   unfolding doing
-  do_down row a p q = rw (a, q, p)
+  do_down row a p = rw (a, p)
 
-  pub do_left : (column : ℕ) → act ≡ Left → column ≡ less_of 2 39 e.column → r ≡ placed e.row column e → text r s ≡ doing act b (text e s)
+  pub do_left : (column : ℕ) → act ≡ Left → column ≡ less_of 2 39 e.column → text (placed e.row column e) s ≡ doing act b (text e s)
   unfolding doing
-  do_left column a p q = rw (a, q, p)
+  do_left column a p = rw (a, p)
 
-  pub do_right : (column : ℕ) → act ≡ Right → column ≡ more_of 2 39 e.column → r ≡ placed e.row column e → text r s ≡ doing act b (text e s)
+  pub do_right : (column : ℕ) → act ≡ Right → column ≡ more_of 2 39 e.column → text (placed e.row column e) s ≡ doing act b (text e s)
   unfolding doing
-  do_right column a p q = rw (a, q, p)
+  do_right column a p = rw (a, p)
 
   pub do_clear : act ≡ Clear → text r t ≡ clear_of (text e s) → text r t ≡ doing act b (text e s)
   unfolding doing

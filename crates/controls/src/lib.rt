@@ -10,15 +10,8 @@ ghost use Rattle.editor.specs.Text.{text, with_escape};
 ghost use Rattle.controls.specs.Put.{less_of, more_of, clear_of, back_of, data_of, doing, put_of};
 
 use decide::Act;
-use editor::{Editor, ReadColumn};
+use editor::Editor;
 use handler::Done;
-
-// What a PUT says, and the editor after it.
-#[derive(Clone, Copy)]
-pub struct Written {
-    pub editor: Editor,
-    pub done: Done,
-}
 
 // One less, and from low to high.
 fn less(x: u16, low: u16, high: u16) -> u16
@@ -41,83 +34,72 @@ fn more(x: u16, low: u16, high: u16) -> u16
 }
 
 // No read column, and the escape as told.
-fn told(editor: Editor, escape: bool) -> Editor
-    ensures { result ≡ with_escape escape editor }
+fn tell(editor: &mut Editor, escape: bool)
+    ensures { editor.new ≡ with_escape escape editor.old }
 {
-    Editor {
-        row: editor.row,
-        column: editor.column,
-        last: editor.last,
-        escape: escape,
-        reading: ReadColumn::Dropped,
-    }
+    editor.escape = escape;
+    editor.reading = None;
 }
 
-fn clear(editor: Editor, screen: &mut [u8]) -> Editor
+fn clear(editor: &mut Editor, screen: &mut [u8])
     requires { Whole screen.old }
-    ensures { text result screen.new ≡ clear_of (text editor screen.old) }
+    ensures { text editor.new screen.new ≡ clear_of (text editor.old screen.old) }
 {
     cells::fill(screen, 0, 0x20);
-    editor.place(0, 2)
+    editor.place(0, 2);
 }
 
-fn back(editor: Editor, screen: &mut [u8]) -> Editor
-    ensures { text result screen.new ≡ back_of (text editor screen.old) }
+fn back(editor: &mut Editor, screen: &mut [u8])
+    ensures { text editor.new screen.new ≡ back_of (text editor.old screen.old) }
 {
-    let row = editor.row;
-    let column = editor.column;
-    if 2 < column {
-        let left = column - 1;
-        base::set_byte(screen, row as usize * 40 + left as usize, 0x20);
-        return editor.place(row, left);
+    if editor.column <= 2 {
+        return;
     }
-    editor
+    let left = editor.column - 1;
+    base::set_byte(screen, editor.row as usize * 40 + left as usize, 0x20);
+    editor.column = left;
 }
 
-fn data_byte(editor: Editor, screen: &mut [u8], byte: u8) -> Editor
+fn data_byte(editor: &mut Editor, screen: &mut [u8], byte: u8)
     requires { Whole screen.old }
-    ensures { text result screen.new ≡ data_of byte (text editor screen.old) }
+    ensures { text editor.new screen.new ≡ data_of byte (text editor.old screen.old) }
 {
-    let row = editor.row;
-    let column = editor.column;
-    base::set_byte(screen, row as usize * 40 + column as usize, byte);
-    let mut seen = editor;
-    seen.last = byte;
-    if 39 <= column {
-        return editor::new_row(seen, screen);
+    base::set_byte(
+        screen,
+        editor.row as usize * 40 + editor.column as usize,
+        byte,
+    );
+    editor.last = byte;
+    if 39 <= editor.column {
+        return editor.new_row(screen);
     }
-    seen.place(row, column + 1)
+    editor.column += 1;
 }
 
-fn perform(act: Act, editor: Editor, screen: &mut [u8], byte: u8) -> Editor
+fn perform(act: Act, editor: &mut Editor, screen: &mut [u8], byte: u8)
     requires { Whole screen.old }
-    ensures { text result screen.new ≡ doing act byte (text editor screen.old) }
+    ensures { text editor.new screen.new ≡ doing act byte (text editor.old screen.old) }
 {
-    let row = editor.row;
-    let column = editor.column;
     match act {
-        Act::Escape => told(editor, true),
-        Act::Up => editor.place(less(row, 0, 23), column),
-        Act::Down => editor.place(more(row, 0, 23), column),
-        Act::Left => editor.place(row, less(column, 2, 39)),
-        Act::Right => editor.place(row, more(column, 2, 39)),
+        Act::Escape => tell(editor, true),
+        Act::Up => editor.row = less(editor.row, 0, 23),
+        Act::Down => editor.row = more(editor.row, 0, 23),
+        Act::Left => editor.column = less(editor.column, 2, 39),
+        Act::Right => editor.column = more(editor.column, 2, 39),
         Act::Clear => clear(editor, screen),
         Act::Back => back(editor, screen),
-        Act::NewRow => editor::new_row(editor, screen),
-        Act::Nothing => editor,
+        Act::NewRow => editor.new_row(screen),
+        Act::Nothing => {}
         Act::Data => data_byte(editor, screen, byte),
     }
 }
 
-pub fn put(editor: Editor, screen: &mut [u8], byte: u8) -> Written
+pub fn put(editor: &mut Editor, screen: &mut [u8], byte: u8) -> Done
     requires { Whole screen.old }
-    ensures { answer result.done (text result.editor screen.new) ≡ put_of byte (text editor screen.old) }
+    ensures { answer result (text editor.new screen.new) ≡ put_of byte (text editor.old screen.old) }
 {
     let act = decide::act_of(editor.escape, byte);
-    let plain = told(editor, false);
-    let next = perform(act, plain, screen, byte);
-    Written {
-        editor: next,
-        done: Done::Success,
-    }
+    tell(editor, false);
+    perform(act, editor, screen, byte);
+    Done::Success
 }

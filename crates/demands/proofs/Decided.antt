@@ -85,18 +85,16 @@ use Rattle.cells.proofs.part.shift.Reads as cells_shift_reads
 use Rattle.cells.proofs.Decided as cells
 use Rattle.editor.proofs.Editor.place.Kinds as editor_place_kinds
 use Rattle.editor.proofs.Editor.place.Reads as editor_place_reads
-use Rattle.editor.proofs.new_row.Kinds as editor_new_row_kinds
-use Rattle.editor.proofs.new_row.Reads as editor_new_row_reads
-use Rattle.editor.proofs.open.Kinds as editor_open_kinds
-use Rattle.editor.proofs.open.Reads as editor_open_reads
-use Rattle.editor.proofs.get.Kinds as editor_get_kinds
-use Rattle.editor.proofs.get.Reads as editor_get_reads
+use Rattle.editor.proofs.Editor.new_row.Kinds as editor_new_row_kinds
+use Rattle.editor.proofs.Editor.new_row.Reads as editor_new_row_reads
+use Rattle.editor.proofs.Editor.open.Kinds as editor_open_kinds
+use Rattle.editor.proofs.Editor.open.Reads as editor_open_reads
+use Rattle.editor.proofs.Editor.get.Kinds as editor_get_kinds
+use Rattle.editor.proofs.Editor.get.Reads as editor_get_reads
 use Rattle.editor.proofs.line.column_of.Kinds as editor_column_of_kinds
 use Rattle.editor.proofs.line.column_of.Reads as editor_column_of_reads
 use Rattle.editor.proofs.line.end.Kinds as editor_end_kinds
 use Rattle.editor.proofs.line.end.Reads as editor_end_reads
-use Rattle.editor.proofs.line.dropped.Kinds as editor_dropped_kinds
-use Rattle.editor.proofs.line.dropped.Reads as editor_dropped_reads
 use Rattle.editor.proofs.Decided as editor
 use Rattle.controls.proofs.decide.plain.Kinds as controls_plain_kinds
 use Rattle.controls.proofs.decide.plain.Reads as controls_plain_reads
@@ -107,12 +105,12 @@ use Rattle.controls.proofs.put.Reads as controls_put_reads
 use Rattle.controls.proofs.Decided as controls
 use Rattle.graphics.proofs.Graphics.place.Kinds as graphics_place_kinds
 use Rattle.graphics.proofs.Graphics.place.Reads as graphics_place_reads
-use Rattle.graphics.proofs.open.Kinds as graphics_open_kinds
-use Rattle.graphics.proofs.open.Reads as graphics_open_reads
-use Rattle.graphics.proofs.get.Kinds as graphics_get_kinds
-use Rattle.graphics.proofs.get.Reads as graphics_get_reads
-use Rattle.graphics.proofs.put.Kinds as graphics_put_kinds
-use Rattle.graphics.proofs.put.Reads as graphics_put_reads
+use Rattle.graphics.proofs.Graphics.open.Kinds as graphics_open_kinds
+use Rattle.graphics.proofs.Graphics.open.Reads as graphics_open_reads
+use Rattle.graphics.proofs.Graphics.get.Kinds as graphics_get_kinds
+use Rattle.graphics.proofs.Graphics.get.Reads as graphics_get_reads
+use Rattle.graphics.proofs.Graphics.put.Kinds as graphics_put_kinds
+use Rattle.graphics.proofs.Graphics.put.Reads as graphics_put_reads
 use Rattle.graphics.proofs.Decided as graphics
 use Rattle.printer.proofs.Printer.fresh.Kinds as printer_fresh_kinds
 use Rattle.printer.proofs.Printer.fresh.Reads as printer_fresh_reads
@@ -180,12 +178,12 @@ use Rattle.console.proofs.state.Console.fresh.Kinds as console_state_fresh_kinds
 use Rattle.console.proofs.state.Console.fresh.Reads as console_state_fresh_reads
 use Rattle.console.proofs.state.Console.editor.Kinds as console_editor_kinds
 use Rattle.console.proofs.state.Console.editor.Reads as console_editor_reads
-use Rattle.console.proofs.state.Console.with_editor.Kinds as console_with_editor_kinds
-use Rattle.console.proofs.state.Console.with_editor.Reads as console_with_editor_reads
+use Rattle.console.proofs.state.Console.set_editor.Kinds as console_set_editor_kinds
+use Rattle.console.proofs.state.Console.set_editor.Reads as console_set_editor_reads
 use Rattle.console.proofs.state.Console.graphics.Kinds as console_graphics_kinds
 use Rattle.console.proofs.state.Console.graphics.Reads as console_graphics_reads
-use Rattle.console.proofs.state.Console.with_graphics.Kinds as console_with_graphics_kinds
-use Rattle.console.proofs.state.Console.with_graphics.Reads as console_with_graphics_reads
+use Rattle.console.proofs.state.Console.set_graphics.Kinds as console_set_graphics_kinds
+use Rattle.console.proofs.state.Console.set_graphics.Reads as console_set_graphics_reads
 use Rattle.console.proofs.state.Console.press.Kinds as console_press_kinds
 use Rattle.console.proofs.state.Console.press.Reads as console_press_reads
 use Rattle.console.proofs.each.open_editor.Kinds as console_open_editor_kinds
@@ -511,8 +509,7 @@ editor_decided =
     promise editor_open_kinds.ps editor_open_kinds.r editor_open_reads.Pre editor_open_reads.Learnt editor.open_decides editor.open_allows (
     promise editor_get_kinds.ps editor_get_kinds.r editor_get_reads.Pre editor_get_reads.Learnt editor.get_decides editor.get_allows (
     promise editor_column_of_kinds.ps editor_column_of_kinds.r editor_column_of_reads.Pre editor_column_of_reads.Learnt editor.column_of_decides editor.column_of_allows (
-    promise editor_end_kinds.ps editor_end_kinds.r editor_end_reads.Pre editor_end_reads.Learnt editor.end_decides editor.end_allows (
-    promise editor_dropped_kinds.ps editor_dropped_kinds.r editor_dropped_reads.Pre editor_dropped_reads.Learnt editor.dropped_decides editor.dropped_allows cells_decided))))))
+    promise editor_end_kinds.ps editor_end_kinds.r editor_end_reads.Pre editor_end_reads.Learnt editor.end_decides editor.end_allows cells_decided)))))
 
 pub controls_decided : Promises
 controls_decided =
@@ -587,9 +584,9 @@ pub console_decided : Promises
 console_decided =
     promise console_state_fresh_kinds.ps console_state_fresh_kinds.r console_state_fresh_reads.Pre console_state_fresh_reads.Learnt console.state_fresh_decides console.state_fresh_allows (
     promise console_editor_kinds.ps console_editor_kinds.r console_editor_reads.Pre console_editor_reads.Learnt console.editor_decides console.editor_allows (
-    promise console_with_editor_kinds.ps console_with_editor_kinds.r console_with_editor_reads.Pre console_with_editor_reads.Learnt console.with_editor_decides console.with_editor_allows (
+    promise console_set_editor_kinds.ps console_set_editor_kinds.r console_set_editor_reads.Pre console_set_editor_reads.Learnt console.set_editor_decides console.set_editor_allows (
     promise console_graphics_kinds.ps console_graphics_kinds.r console_graphics_reads.Pre console_graphics_reads.Learnt console.graphics_decides console.graphics_allows (
-    promise console_with_graphics_kinds.ps console_with_graphics_kinds.r console_with_graphics_reads.Pre console_with_graphics_reads.Learnt console.with_graphics_decides console.with_graphics_allows (
+    promise console_set_graphics_kinds.ps console_set_graphics_kinds.r console_set_graphics_reads.Pre console_set_graphics_reads.Learnt console.set_graphics_decides console.set_graphics_allows (
     promise console_press_kinds.ps console_press_kinds.r console_press_reads.Pre console_press_reads.Learnt console.press_decides console.press_allows (
     promise console_open_editor_kinds.ps console_open_editor_kinds.r console_open_editor_reads.Pre console_open_editor_reads.Learnt console.open_editor_decides console.open_editor_allows (
     promise console_open_screen_kinds.ps console_open_screen_kinds.r console_open_screen_reads.Pre console_open_screen_reads.Learnt console.open_screen_decides console.open_screen_allows (

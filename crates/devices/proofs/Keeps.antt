@@ -12,8 +12,7 @@ use Rattle.base.proofs.Choices.{by_eq, and_left, and_right}
 use Rattle.handler.specs.declared.Asked.{Asked}
 use Rattle.cells.specs.Modes.{shape_of, is_mode}
 use Rattle.cells.proofs.Shapes.{shape_good}
-use Rattle.editor.specs.declared.ReadColumn.{ReadColumn}
-use Rattle.editor.specs.declared.ReadColumn.TheVariants.{Dropped, At}
+use Rattle.std.specs.Prelude.{Option, None, Some}
 use Rattle.console.specs.declared.state.Console.{Console}
 use Rattle.console.specs.Fit.{cursor_fits, reading_fits, keys_fit, fit_of}
 use Rattle.layout.specs.InBytes.{ReadingInBytes}
@@ -54,10 +53,10 @@ row_in mode row column e =
     let m : and (leb row (shape_of mode).rows) (ltb column (shape_of mode).columns) ≡ true = rw (ne_eqb mode 0 z) at e in
     omega (arith, (shape_good mode).high, leb-true row (shape_of mode).rows (and_left (leb row (shape_of mode).rows) (ltb column (shape_of mode).columns) m)))
 
-reading_in_lem : (r : ReadColumn) → reading_fits r ≡ true → ReadingInBytes r
+reading_in_lem : (r : Option ℕ) → reading_fits r ≡ true → ReadingInBytes r
 unfolding reading_fits
-reading_in_lem Dropped e = tt
-reading_in_lem (At column) e = omega (arith, leb-true column 40 (and_right (leb 2 column) (leb column 40) e))
+reading_in_lem None e = tt
+reading_in_lem (Some column) e = omega (arith, leb-true column 40 (and_right (leb 2 column) (leb column 40) e))
 
 module _ (c : Console) (e : fit_of c ≡ true) where
   pub console_row : c.row < 256

@@ -115,11 +115,9 @@ pub fn open(
     let owner = owner_of(device);
     match owner {
         Owner::Console(handler) => {
-            let console = numbers::console_of(numbers);
-            let opened = acts::open(handler, console, screen, asked.aux1, asked.aux2);
-            let next = opened.console;
-            let done = opened.done;
-            numbers::set_console(numbers, next);
+            let mut console = numbers::console_of(numbers);
+            let done = acts::open(handler, &mut console, screen, asked.aux1, asked.aux2);
+            numbers::set_console(numbers, console);
             done
         }
         Owner::Printer => Done::Success,
@@ -169,11 +167,9 @@ pub fn prepare(
     let owner = owner_of(device);
     match owner {
         Owner::Console(handler) => {
-            let console = numbers::console_of(numbers);
-            let prepared = acts::prepare(handler, console, screen);
-            let next = prepared.console;
-            let done = prepared.done;
-            numbers::set_console(numbers, next);
+            let mut console = numbers::console_of(numbers);
+            let done = acts::prepare(handler, &mut console, screen);
+            numbers::set_console(numbers, console);
             done
         }
         Owner::Printer => Done::Success,
@@ -198,11 +194,9 @@ pub fn read(
     let owner = owner_of(device);
     match owner {
         Owner::Console(handler) => {
-            let console = numbers::console_of(numbers);
-            let read = acts::read(handler, console, screen);
-            let next = read.console;
-            let got = read.got;
-            numbers::set_console(numbers, next);
+            let mut console = numbers::console_of(numbers);
+            let got = acts::read(handler, &mut console, screen);
+            numbers::set_console(numbers, console);
             got
         }
         Owner::Printer => Got::Refused(0x83),
@@ -228,19 +222,15 @@ pub fn write(
     let owner = owner_of(device);
     match owner {
         Owner::Console(handler) => {
-            let console = numbers::console_of(numbers);
-            let written = acts::write(handler, console, screen, byte);
-            let next = written.console;
-            let done = written.done;
-            numbers::set_console(numbers, next);
+            let mut console = numbers::console_of(numbers);
+            let done = acts::write(handler, &mut console, screen, byte);
+            numbers::set_console(numbers, console);
             done
         }
         Owner::Printer => {
-            let printer = numbers::printer_of(numbers);
-            let printed = printer.put(paper, byte);
-            let next = printed.printer;
-            let done = printed.done;
-            numbers::set_printer(numbers, next);
+            let mut printer = numbers::printer_of(numbers);
+            let done = printer.put(paper, byte);
+            numbers::set_printer(numbers, printer);
             done
         }
         Owner::Cassette => recorder::write(numbers, tape, byte),

@@ -2,7 +2,7 @@
 -- Assumes nothing.
 use mathlib.Core.Path.{◌≡◌, ◌∙◌, refl, sym, ap}
 use mathlib.Core.List.{List}
-use Prim.Native.Nat.{ℕ, zero, suc, ◌+◌, ◌-◌, ◌<◌, ◌≤◌}
+use Prim.Native.Nat.{ℕ, zero, suc, ◌+◌, ◌-◌, ◌*◌, ◌<◌, ◌≤◌}
 use native.Mathlib.Omega.{arith}
 use lib.ListN.{get_or}
 use borrow.Author.Tests.{eq-eqb, ne_eqb}
@@ -30,16 +30,26 @@ module _ (cells : List ℕ) (place : ℕ) where
   unfolding cells_held
   held_none = refl
 
-module _ (cells : List ℕ) (row n b : ℕ) (k : cells_held cells (cell_at row 2) 38 ≡ cells_held cells (cell_at row 2) n) where
-  pub end_found : 0 < n → b ≡ get_or cells (cell_at row 2 + (n - 1)) 0 → (b ≡ 0x20 → ⊥) → n + 2 ≡ end_of row cells
+-- the column before this one is looked at
+module _ (cells : List ℕ) (row column b : ℕ) (k : cells_held cells (cell_at row 2) 38 ≡ cells_held cells (cell_at row 2) (column - 2)) where
+  there : 2 < column → b ≡ get_or cells (row * 40 + (column - 1)) 0 → b ≡ get_or cells (cell_at row 2 + (column - 2 - 1)) 0
+  there l e =
+      let p : row * 40 + (column - 1) ≡ cell_at row 2 + (column - 2 - 1) = omega arith in
+      e ∙ ap (λ (x : ℕ). get_or cells x 0) p
+
+  pub end_found : 2 < column → b ≡ get_or cells (row * 40 + (column - 1)) 0 → (b ≡ 0x20 → ⊥) → column - 1 + 1 ≡ end_of row cells
   unfolding end_of
-  end_found l e h = ap (λ (x : ℕ). x + 2) (sym (k ∙ held_found cells (cell_at row 2) n l (λ q. h (e ∙ q))))
+  end_found l e h =
+      let n : column - 1 + 1 ≡ column - 2 + 2 = omega arith in
+      n ∙ ap (λ (x : ℕ). x + 2) (sym (k ∙ held_found cells (cell_at row 2) (column - 2) (omega arith) (λ q. h (there l e ∙ q))))
 
-  pub end_blank : 0 < n → b ≡ get_or cells (cell_at row 2 + (n - 1)) 0 → b ≡ 0x20 → cells_held cells (cell_at row 2) 38 ≡ cells_held cells (cell_at row 2) (n - 1)
-  end_blank l e h = k ∙ held_blank cells (cell_at row 2) n l (sym e ∙ h)
+  pub end_blank : 2 < column → b ≡ get_or cells (row * 40 + (column - 1)) 0 → b ≡ 0x20 → cells_held cells (cell_at row 2) 38 ≡ cells_held cells (cell_at row 2) (column - 1 - 2)
+  end_blank l e h =
+      let n : column - 2 - 1 ≡ column - 1 - 2 = omega arith in
+      k ∙ held_blank cells (cell_at row 2) (column - 2) (omega arith) (sym (there l e) ∙ h) ∙ ap (cells_held cells (cell_at row 2)) n
 
-  pub end_none : n ≤ 0 → 2 ≡ end_of row cells
+  pub end_none : column ≤ 2 → 2 ≡ end_of row cells
   unfolding end_of
   end_none h =
-      let z : n ≡ 0 = omega arith in
+      let z : column - 2 ≡ 0 = omega arith in
       ap (λ (x : ℕ). x + 2) (sym (k ∙ ap (cells_held cells (cell_at row 2)) z ∙ held_none cells (cell_at row 2)))

@@ -16,6 +16,6 @@ module _ (e : Editor) (s : List ℕ) (column end : ℕ) (c : column ≡ column_o
   unfolding get_of get_at
   get_cell cell h q = rw (← c, ← n, lt-ltb column end h, q)
 
-  pub get_row : (below next : Editor) (t : List ℕ) → end ≤ column → text below t ≡ new_row (text e s) → next ≡ unread below → answer (Character 0x9B) (text next t) ≡ get_of (text e s)
+  pub get_row : (below : Editor) (t : List ℕ) → end ≤ column → text below t ≡ new_row (text e s) → answer (Character 0x9B) (text (unread below) t) ≡ get_of (text e s)
   unfolding get_of get_at
-  get_row below next t h p q = rw (← c, ← n, le-ltb column end h, ← p, q)
+  get_row below t h p = rw (← c, ← n, le-ltb column end h, ← p)

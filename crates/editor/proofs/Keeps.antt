@@ -15,8 +15,7 @@ use Rattle.cells.proofs.Parts.{filled_length, scrolled_length}
 use Rattle.editor.specs.Text.{Text, text, placed, move_to, cell_at, new_row, open_of}
 use Rattle.editor.specs.Get.{column_of, cells_held, end_of, get_at, get_of}
 use Rattle.editor.specs.Fit.{FitReading, FitText}
-use Rattle.editor.specs.declared.ReadColumn.{ReadColumn}
-use Rattle.editor.specs.declared.ReadColumn.TheVariants.{Dropped, At}
+use Rattle.std.specs.Prelude.{Option, None, Some}
 
 -- E's cells are those of mode 0 in the modes' table
 pub cell_at_lem : (row column : ℕ) → cell_at row column ≡ place_of (shape_of 0) row column
@@ -60,9 +59,9 @@ end_le : (row : ℕ) (cells : List ℕ) → end_of row cells ≤ 40
 unfolding end_of
 end_le row cells = omega (arith, held_le cells (cell_at row 2) 38)
 
-column_low : (r : ReadColumn) → FitReading r → 2 ≤ column_of r
-column_low Dropped f = omega arith
-column_low (At column) f = f.0
+column_low : (r : Option ℕ) → FitReading r → 2 ≤ column_of r
+column_low None f = omega arith
+column_low (Some column) f = f.0
 
 -- "other devices never give it"
 pub get_never_last : (t : Text) → NeverLast (get_of t).says

@@ -1,16 +1,14 @@
 -- Document 01, Damaged: what is in range of the editor in mode 0; and with it the whole screen.
 -- Assumes nothing.
-use Rattle.std.specs.Prelude.{◌<◌, ◌≤◌}
+use Rattle.std.specs.Prelude.{ℕ, ◌<◌, ◌≤◌, Option, None, Some}
 use Rattle.cells.specs.Cells.{Whole}
 use Rattle.editor.specs.Text.{Text}
-use Rattle.editor.specs.declared.ReadColumn.{ReadColumn}
-use Rattle.editor.specs.declared.ReadColumn.TheVariants.{Dropped, At}
 use Rattle.editor.specs.declared.Editor.{Editor}
 
 -- a read column is 2 to 40: column 39 read, it is 40
-abbrev pub FitReading : ReadColumn → Type 0
-FitReading Dropped = Unit {0}
-FitReading (At column) = (2 ≤ column) × (column ≤ 40)
+abbrev pub FitReading : Option ℕ → Type 0
+FitReading None = Unit {0}
+FitReading (Some column) = (2 ≤ column) × (column ≤ 40)
 
 -- "a mode 0 cursor off rows 0 to 23 or columns 2 to 39" is damaged
 pub record FitEditor (e : Editor) : Type 0 where

@@ -1,19 +1,17 @@
 -- Document 01, E, GET: the row read as a line.
 -- Assumes nothing.
-use Rattle.std.specs.Prelude.{ℕ, zero, suc, ◌+◌, List, eqb, ltb, get_or}
+use Rattle.std.specs.Prelude.{ℕ, zero, suc, ◌+◌, List, eqb, ltb, get_or, Option, None, Some}
 use Rattle.base.specs.Choice.{choose}
 use Rattle.handler.specs.declared.Got.{Got}
 use Rattle.handler.specs.declared.Got.TheVariants.{Character}
 use Rattle.handler.specs.Answer.{Answer, answer}
 use Rattle.editor.specs.Text.{Text, text, cell_at, unread, new_row}
-use Rattle.editor.specs.declared.ReadColumn.{ReadColumn}
-use Rattle.editor.specs.declared.ReadColumn.TheVariants.{Dropped, At}
 use Rattle.editor.specs.declared.Editor.{Editor}
 
 -- "no read column means 2"
-abbrev pub column_of : ReadColumn → ℕ
-column_of Dropped = 2
-column_of (At column) = column
+abbrev pub column_of : Option ℕ → ℕ
+column_of None = 2
+column_of (Some column) = column
 
 -- of the n cells from this place on, how many there are up to the last that does not hold $20
 unfoldable pub cells_held : List ℕ → (place n : ℕ) → ℕ
@@ -26,7 +24,7 @@ end_of row cells = cells_held cells (cell_at row 2) 38 + 2
 
 -- the next column is read, and this character is the last
 abbrev pub read_on : (column cell : ℕ) → Editor → Editor
-read_on column cell e = record { row = e.row; column = e.column; last = cell; escape = e.escape; reading = At (column + 1) }
+read_on column cell e = record { row = e.row; column = e.column; last = cell; escape = e.escape; reading = Some (column + 1) }
 
 -- "If it is at most the row's last column of 2 to 39 not holding $20, that cell is returned, becomes the last character, and
 -- the read column grows. Else $9B, new row, read column dropped."

@@ -1,9 +1,8 @@
 -- Document 01, E: the editor with the screen's cells, and what OPEN and the new row make of them.
 -- Assumes nothing.
-use Rattle.std.specs.Prelude.{ℕ, ◌+◌, ◌*◌, Bool, false, List, leb}
+use Rattle.std.specs.Prelude.{ℕ, ◌+◌, ◌*◌, Bool, false, List, leb, None}
 use Rattle.base.specs.Choice.{choose}
 use Rattle.cells.specs.Cells.{filled, scrolled}
-use Rattle.editor.specs.declared.ReadColumn.TheVariants.{Dropped}
 use Rattle.editor.specs.declared.Editor.{Editor}
 
 pub record Text : Type 0 where
@@ -23,11 +22,11 @@ placed row column e = record { row = row; column = column; last = e.last; escape
 
 -- read column dropped
 abbrev pub unread : Editor → Editor
-unread e = record { row = e.row; column = e.column; last = e.last; escape = e.escape; reading = Dropped }
+unread e = record { row = e.row; column = e.column; last = e.last; escape = e.escape; reading = None }
 
 -- read column dropped, and escape on or off
 abbrev pub with_escape : Bool → Editor → Editor
-with_escape escape e = record { row = e.row; column = e.column; last = e.last; escape = escape; reading = Dropped }
+with_escape escape e = record { row = e.row; column = e.column; last = e.last; escape = escape; reading = None }
 
 abbrev pub move_to : (row column : ℕ) → Text → Text
 move_to row column t = text (placed row column t.editor) t.cells

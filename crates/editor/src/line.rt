@@ -1,44 +1,22 @@
 // A row read as a line: where reading begins, and where it ends.
 ghost use Rattle.std.specs.Prelude.{◌≡◌};
-ghost use Rattle.editor.specs.Text.{unread};
 ghost use Rattle.editor.specs.Get.{column_of, end_of};
 
-use crate::{Editor, ReadColumn};
-
 // No read column means 2.
-pub fn column_of(reading: ReadColumn) -> u16
+pub fn column_of(reading: Option<u16>) -> u16
     ensures { result ≡ column_of reading }
 {
-    match reading {
-        ReadColumn::Dropped => 2,
-        ReadColumn::At(column) => column,
-    }
+    reading.unwrap_or(2)
 }
 
 // The column after the row's last one, of 2 to 39, that does not hold $20: 2 where all do.
 pub fn end(screen: &[u8], row: u16) -> u16
     ensures { result ≡ end_of row screen.now }
 {
-    let first = row as usize * 40 + 2;
-    let mut n: usize = 38;
-    while 0 < n {
-        let m = n - 1;
-        if base::byte_at(screen, first + m) != 0x20 {
-            return n as u16 + 2;
+    for column in (2..40).rev() {
+        if base::byte_at(screen, row as usize * 40 + column) != 0x20 {
+            return column as u16 + 1;
         }
-        n = m;
     }
     2
-}
-
-pub fn dropped(editor: Editor) -> Editor
-    ensures { result ≡ unread editor }
-{
-    Editor {
-        row: editor.row,
-        column: editor.column,
-        last: editor.last,
-        escape: editor.escape,
-        reading: ReadColumn::Dropped,
-    }
 }

@@ -16,9 +16,9 @@ use Rattle.graphics.specs.Picture.{picture, placed, with_last, Drawn, onward, ce
 use Rattle.graphics.specs.declared.Graphics.{Graphics}
 
 module _ (shape : Shape) (g r : Graphics) where
-  pub on_right : g.column + 1 < shape.columns → r ≡ placed g.row (g.column + 1) g → r ≡ onward shape g
+  pub on_right : g.column + 1 < shape.columns → placed g.row (g.column + 1) g ≡ onward shape g
   unfolding onward
-  on_right h q = q ∙ rw (lt-ltb (g.column + 1) shape.columns h)
+  on_right h = rw (lt-ltb (g.column + 1) shape.columns h)
 
   pub on_next : shape.columns ≤ g.column + 1 → r ≡ placed (g.row + 1) 0 g → r ≡ onward shape g
   unfolding onward

@@ -17,43 +17,102 @@ pub struct Graphics {
     pub last: u8,
 }
 
-// What a GET gives, and the screen's state after it.
-#[derive(Clone, Copy)]
-pub struct Read {
-    pub graphics: Graphics,
-    pub got: Got,
-}
-
-// What an OPEN or a PUT says, and the screen's state after it.
-#[derive(Clone, Copy)]
-pub struct Written {
-    pub graphics: Graphics,
-    pub done: Done,
-}
-
 impl Graphics {
     // The cursor at another place.
-    pub fn place(self, row: u16, column: u16) -> Graphics
-        ensures { result ≡ placed row column self }
+    pub fn place(&mut self, row: u16, column: u16)
+        ensures { self.new ≡ placed row column self.old }
     {
-        let mut next = self;
-        next.row = row;
-        next.column = column;
-        next
+        self.row = row;
+        self.column = column;
     }
-}
 
-// One right, or from the last column to column 0 of the next row.
-fn move_on(graphics: Graphics, shape: Shape) -> Graphics
-    requires { graphics.row < 65535 }
-    ensures { result ≡ onward shape graphics }
-{
-    let row = graphics.row;
-    let right = graphics.column as usize + 1;
-    if right < shape.columns as usize {
-        return graphics.place(row, right as u16);
+    // One right, or from the last column to column 0 of the next row.
+    fn move_on(&mut self, shape: Shape)
+        requires { self.old.row < 65535 }
+        ensures { self.new ≡ onward shape self.old }
+    {
+        let right = self.column as usize + 1;
+        if right < shape.columns as usize {
+            self.column = right as u16;
+            return;
+        }
+        self.place(self.row + 1, 0);
     }
-    graphics.place(row + 1, 0)
+
+    pub fn open(&mut self, screen: &mut [u8], aux1: u8, aux2: u8) -> Done
+        requires { Whole screen.old }
+        ensures { answer result (picture self.new screen.new) ≡ open_of aux1 aux2 (picture self.old screen.old) }
+    {
+        if aux1 / 16 % 2 == 1 {
+            return Done::Refused(0x91);
+        }
+        if aux2 < 3 {
+            return Done::Refused(0x91);
+        }
+        if 8 < aux2 {
+            return Done::Refused(0x91);
+        }
+        start(screen, aux2, aux1);
+        *self = Graphics {
+            mode: aux2,
+            row: 0,
+            column: 0,
+            ..*self
+        };
+        Done::Success
+    }
+
+    pub fn get(&mut self, screen: &[u8]) -> Got
+        ensures { answer result self.new ≡ get_of screen.now self.old }
+    {
+        let shape = cells::shape_of(self.mode);
+        if self.row < shape.rows {
+            let cell = cells::read(screen, shape, self.row, self.column);
+            self.last = cell;
+            self.move_on(shape);
+            return Got::Character(cell);
+        }
+        Got::Refused(0x8D)
+    }
+
+    // $7D: the mode's cells zero, cursor (0,0).
+    fn clear(&mut self, screen: &mut [u8])
+        requires { Whole screen.old }
+        ensures { picture self.new screen.new ≡ clear_of (picture self.old screen.old) }
+    {
+        cells::fill(screen, self.mode, 0);
+        self.place(0, 0);
+    }
+
+    // A cell and the last character; the cursor moves on.
+    fn data_byte(&mut self, shape: Shape, screen: &mut [u8], byte: u8)
+        requires { Drawn self.old shape }
+        ensures { picture self.new screen.new ≡ data_of shape byte (picture self.old screen.old) }
+    {
+        cells::write(screen, shape, self.row, self.column, byte);
+        self.last = byte;
+        self.move_on(shape);
+    }
+
+    pub fn put(&mut self, screen: &mut [u8], byte: u8) -> Done
+        requires { Whole screen.old }
+        ensures { answer result (picture self.new screen.new) ≡ put_of byte (picture self.old screen.old) }
+    {
+        if byte == 0x7D {
+            self.clear(screen);
+            return Done::Success;
+        }
+        let shape = cells::shape_of(self.mode);
+        if shape.rows <= self.row {
+            return Done::Refused(0x8D);
+        }
+        if byte == 0x9B {
+            self.place(self.row + 1, 0);
+            return Done::Success;
+        }
+        self.data_byte(shape, screen, byte);
+        Done::Success
+    }
 }
 
 // The cells of a mode as its opening leaves them.
@@ -66,113 +125,4 @@ fn start(screen: &mut [u8], mode: u8, aux1: u8)
         return;
     }
     cells::fill(screen, mode, 0);
-}
-
-pub fn open(graphics: Graphics, screen: &mut [u8], aux1: u8, aux2: u8) -> Written
-    requires { Whole screen.old }
-    ensures { answer result.done (picture result.graphics screen.new) ≡ open_of aux1 aux2 (picture graphics screen.old) }
-{
-    if aux1 / 16 % 2 == 1 {
-        return Written {
-            graphics: graphics,
-            done: Done::Refused(0x91),
-        };
-    }
-    if aux2 < 3 {
-        return Written {
-            graphics: graphics,
-            done: Done::Refused(0x91),
-        };
-    }
-    if 8 < aux2 {
-        return Written {
-            graphics: graphics,
-            done: Done::Refused(0x91),
-        };
-    }
-    start(screen, aux2, aux1);
-    let next = Graphics {
-        mode: aux2,
-        row: 0,
-        column: 0,
-        last: graphics.last,
-    };
-    Written {
-        graphics: next,
-        done: Done::Success,
-    }
-}
-
-pub fn get(graphics: Graphics, screen: &[u8]) -> Read
-    ensures { answer result.got result.graphics ≡ get_of screen.now graphics }
-{
-    let row = graphics.row;
-    let shape = cells::shape_of(graphics.mode);
-    if row < shape.rows {
-        let cell = cells::read(screen, shape, row, graphics.column);
-        let mut seen = graphics;
-        seen.last = cell;
-        let next = move_on(seen, shape);
-        return Read {
-            graphics: next,
-            got: Got::Character(cell),
-        };
-    }
-    Read {
-        graphics: graphics,
-        got: Got::Refused(0x8D),
-    }
-}
-
-// $7D: the mode's cells zero, cursor (0,0).
-fn clear(graphics: Graphics, screen: &mut [u8]) -> Graphics
-    requires { Whole screen.old }
-    ensures { picture result screen.new ≡ clear_of (picture graphics screen.old) }
-{
-    cells::fill(screen, graphics.mode, 0);
-    graphics.place(0, 0)
-}
-
-// A cell and the last character; the cursor moves on.
-fn data_byte(graphics: Graphics, shape: Shape, screen: &mut [u8], byte: u8) -> Graphics
-    requires { Drawn graphics shape }
-    ensures { picture result screen.new ≡ data_of shape byte (picture graphics screen.old) }
-{
-    cells::write(screen, shape, graphics.row, graphics.column, byte);
-    let mut seen = graphics;
-    seen.last = byte;
-    move_on(seen, shape)
-}
-
-pub fn put(graphics: Graphics, screen: &mut [u8], byte: u8) -> Written
-    requires { Whole screen.old }
-    ensures { answer result.done (picture result.graphics screen.new) ≡ put_of byte (picture graphics screen.old) }
-{
-    if byte == 0x7D {
-        let next = clear(graphics, screen);
-        return Written {
-            graphics: next,
-            done: Done::Success,
-        };
-    }
-    let row = graphics.row;
-    let shape = cells::shape_of(graphics.mode);
-    if shape.rows <= row {
-        return Written {
-            graphics: graphics,
-            done: Done::Refused(0x8D),
-        };
-    }
-    if byte == 0x9B {
-        let next = graphics.place(row + 1, 0);
-        return Written {
-            graphics: next,
-            done: Done::Success,
-        };
-    }
-    let next = data_byte(graphics, shape, screen, byte);
-    Written {
-        graphics: next,
-        done: Done::Success,
-    }
 }

@@ -6,7 +6,6 @@ use Rattle.handler.specs.Answer.{Answer}
 use Rattle.handler.specs.declared.Got.{Got}
 use Rattle.keys.specs.Keyboard.{get_of}
 use Rattle.keys.specs.declared.keyboard.Keyboard.{Keyboard}
-use Rattle.keys.specs.declared.keyboard.Struck.{Struck}
 use Rattle.keys.proofs.table.entry.Kinds as entry_kinds
 use Rattle.keys.proofs.table.entry.Reads as entry_reads
 use Rattle.keys.proofs.translate.Kinds as translate_kinds
@@ -37,17 +36,15 @@ pub fresh_allows : Allows fresh_kinds.ps fresh_kinds.r fresh_reads.Pre fresh_rea
 fresh_allows κs a p = (_, (_, refl))
 
 pub press_decides : Decides press_kinds.ps press_kinds.r press_reads.Pre press_reads.Learnt
-press_decides κs a z z' ws ws' p e e' = (e ∙ sym e', refl)
+press_decides κs a z z' ws ws' p e e' = (refl, ap (λ (k : Keyboard). (k, (tt, tt))) (e ∙ sym e'))
 
 pub press_allows : Allows press_kinds.ps press_kinds.r press_reads.Pre press_reads.Learnt
 press_allows κs a p = (_, (_, refl))
 
--- what `get` returns, from its answer
-abbrev struck : Answer Got Keyboard → Struck
-struck x = record { keyboard = x.leaves; got = x.says }
-
 pub get_decides : Decides get_kinds.ps get_kinds.r get_reads.Pre get_reads.Learnt
-get_decides κs a z z' ws ws' p e e' = (ap struck (e ∙ sym e'), refl)
+get_decides κs a z z' ws ws' p e e' =
+    let q = e ∙ sym e' in
+    (ap (λ (x : Answer Got Keyboard). x.says) q, ap (λ (x : Answer Got Keyboard). (x.leaves, tt)) q)
 
 pub get_allows : Allows get_kinds.ps get_kinds.r get_reads.Pre get_reads.Learnt
-get_allows κs a p = (struck (get_of a.0), (_, refl))
+get_allows κs a p = let x = get_of a.0.now in (x.says, ((x.leaves, tt), refl))

@@ -37,14 +37,10 @@ pub fn entry(code: u8, lock: u8) -> u8
     if 0x7A < own {
         return own;
     }
-    if lock == 0 {
-        return own;
+    match lock {
+        0 => own,
+        1 => own - 32,
+        2 => own - 96,
+        _ => 0x80,
     }
-    if lock == 1 {
-        return own - 32;
-    }
-    if lock == 2 {
-        return own - 96;
-    }
-    0x80
 }

@@ -27,8 +27,7 @@ use Rattle.blocks.specs.declared.Phase.TheVariants.{Gathering, Ready, Running, R
 use Rattle.blocks.specs.declared.Port.{Port}
 use Rattle.blocks.specs.Blocks.{closed_block, block_at}
 use Rattle.wire.specs.Messages.{word_of}
-use Rattle.editor.specs.declared.ReadColumn.{ReadColumn}
-use Rattle.editor.specs.declared.ReadColumn.TheVariants.{Dropped, At}
+use Rattle.std.specs.Prelude.{Option, None, Some}
 use Rattle.console.specs.declared.state.Console.{Console}
 use Rattle.printer.specs.declared.Printer.{Printer}
 use Rattle.cassette.specs.declared.Cassette.{Cassette}
@@ -148,9 +147,9 @@ module _ (p : Port) (r : List ℕ) where
   unfolding port_stands
   port_stands_lem = rw (past_phase, table_stands_lem p.table r, joined, phase_stands_lem p.phase (table_bytes p.table ++ r))
 
-reading_same : (c : ReadColumn) → ReadingInBytes c → reading_in (reading_byte c) ≡ c
-reading_same Dropped h = refl
-reading_same (At column) h =
+reading_same : (c : Option ℕ) → ReadingInBytes c → reading_in (reading_byte c) ≡ c
+reading_same None h = refl
+reading_same (Some column) h =
     let n : column ≡ 255 → ⊥ = λ e. omega arith in
     let l : column < 256 = omega arith in
     rw (mod-eq_of_lt l, ne_eqb column 255 n)

@@ -1,11 +1,9 @@
 -- What the laws of the lent bytes ask: that a list is made of bytes, and that a stick's numbers go into theirs. Three of them are cut
 -- to their bytes by `head_of`: the bytes taken, the row and the read column. The others come back whatever they are.
 -- Assumes nothing.
-use Rattle.std.specs.Prelude.{◌≡◌, List, ℕ, ◌<◌, length}
+use Rattle.std.specs.Prelude.{◌≡◌, List, ℕ, ◌<◌, length, Option, None, Some}
 use Rattle.blocks.specs.declared.Phase.{Phase}
 use Rattle.blocks.specs.declared.Phase.TheVariants.{Gathering, Ready, Running, Replying}
-use Rattle.editor.specs.declared.ReadColumn.{ReadColumn}
-use Rattle.editor.specs.declared.ReadColumn.TheVariants.{Dropped, At}
 use Rattle.disk.specs.Disk.{places_length}
 use Rattle.layout.specs.Places.{pending_length}
 use Rattle.layout.specs.Stick.{Stick}
@@ -23,9 +21,9 @@ PhaseInBytes (Running run) = Unit
 PhaseInBytes (Replying reply) = Unit
 
 -- a read column goes into a byte that is not 255
-abbrev pub ReadingInBytes : ReadColumn → Type 0
-ReadingInBytes Dropped = Unit
-ReadingInBytes (At column) = column < 255
+abbrev pub ReadingInBytes : Option ℕ → Type 0
+ReadingInBytes None = Unit
+ReadingInBytes (Some column) = column < 255
 
 -- the numbers of a stick go into their bytes, its tables have eight blocks, and its arrays their bytes
 pub record InBytes (s : Stick) : Type 0 where

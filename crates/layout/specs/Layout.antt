@@ -1,7 +1,7 @@
 -- A stick as bytes: where each number of its state stands in the head of the lent state, part by part; the parts' own places are those
 -- of Places. Two-byte numbers are low byte first. A byte that a phase does not use is 0.
 -- Assumes nothing.
-use Rattle.std.specs.Prelude.{List, [], ◌∷◌, ◌++◌, ℕ, zero, suc, ◌+◌, ◌*◌, ◌/◌, ◌%◌, eqb, get_or, take, drop, replicate}
+use Rattle.std.specs.Prelude.{List, [], ◌∷◌, ◌++◌, ℕ, zero, suc, ◌+◌, ◌*◌, ◌/◌, ◌%◌, eqb, get_or, take, drop, replicate, Option, None, Some}
 use Rattle.base.specs.Choice.{pick}
 use Rattle.blocks.specs.declared.Device.{Device}
 use Rattle.blocks.specs.declared.Device.TheVariants.{E, S, K, P, C, D}
@@ -22,8 +22,6 @@ use Rattle.blocks.specs.declared.Phase.TheVariants.{Gathering, Ready, Running, R
 use Rattle.blocks.specs.declared.Port.{Port}
 use Rattle.blocks.specs.Blocks.{closed_block, open_block, block_at}
 use Rattle.wire.specs.Messages.{word_at}
-use Rattle.editor.specs.declared.ReadColumn.{ReadColumn}
-use Rattle.editor.specs.declared.ReadColumn.TheVariants.{Dropped, At}
 use Rattle.console.specs.declared.state.Console.{Console}
 use Rattle.printer.specs.declared.Printer.{Printer}
 use Rattle.cassette.specs.declared.Cassette.{Cassette}
@@ -102,9 +100,9 @@ unfoldable pub port_bytes : Port → List ℕ
 port_bytes port = phase_bytes port.phase ++ table_bytes port.table
 
 -- a read column; 255 is none
-abbrev pub reading_byte : ReadColumn → ℕ
-reading_byte Dropped = 255
-reading_byte (At column) = column % 256
+abbrev pub reading_byte : Option ℕ → ℕ
+reading_byte None = 255
+reading_byte (Some column) = column % 256
 
 unfoldable pub console_bytes : Console → List ℕ
 console_bytes c =
@@ -190,8 +188,8 @@ phase_in b =
 unfoldable pub port_in : List ℕ → Port
 port_in b = record { table = table_in (drop phase_length b); phase = phase_in b }
 
-abbrev pub reading_in : ℕ → ReadColumn
-reading_in n = pick (eqb n 255) Dropped (At n)
+abbrev pub reading_in : ℕ → Option ℕ
+reading_in n = pick (eqb n 255) None (Some n)
 
 unfoldable pub console_in : List ℕ → Console
 console_in b =

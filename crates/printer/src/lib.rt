@@ -15,13 +15,6 @@ pub struct Printer {
     pub used: u16,
 }
 
-// What a PUT answers, and the printer as it leaves it.
-#[derive(Clone, Copy)]
-pub struct Printed {
-    pub printer: Printer,
-    pub done: Done,
-}
-
 impl Printer {
     // Nothing of the paper is used.
     pub fn fresh() -> Printer
@@ -31,21 +24,14 @@ impl Printer {
     }
 
     // The byte is appended; on a full paper $90, and nothing changes.
-    pub fn put(self, paper: &mut [u8], byte: u8) -> Printed
-        ensures { answer result.done (printer_group result.printer.used paper.new) ≡ put_of byte (printer_group self.used paper.old) }
+    pub fn put(&mut self, paper: &mut [u8], byte: u8) -> Done
+        ensures { answer result (printer_group self.new.used paper.new) ≡ put_of byte (printer_group self.old.used paper.old) }
     {
-        let used = self.used;
-        if used < PAPER {
-            let next = used + 1;
-            base::set_byte(paper, used as usize, byte);
-            let printer = Printer { used: next };
-            let done = Done::Success;
-            return Printed { printer, done };
+        if PAPER <= self.used {
+            return Done::Refused(0x90);
         }
-        let done = Done::Refused(0x90);
-        Printed {
-            printer: self,
-            done,
-        }
+        base::set_byte(paper, self.used as usize, byte);
+        self.used += 1;
+        Done::Success
     }
 }

@@ -14,8 +14,7 @@ use Rattle.blocks.specs.declared.Reply.{Reply}
 use Rattle.blocks.specs.declared.Phase.TheVariants.{Gathering, Ready, Running, Replying}
 use Rattle.blocks.specs.Blocks.{closed_block, open_block}
 use Rattle.wire.specs.Messages.{word_of}
-use Rattle.editor.specs.declared.ReadColumn.{ReadColumn}
-use Rattle.editor.specs.declared.ReadColumn.TheVariants.{Dropped, At}
+use Rattle.std.specs.Prelude.{Option, None, Some}
 use Rattle.layout.specs.Layout.{byte_at, device_in, block_of, gather_in, header_in, run_in, reply_in, phase_in, reading_in, console_in}
 
 module _ (number unit aux1 : ℕ) where
@@ -46,14 +45,14 @@ module _ (b : List ℕ) where
       unfolding phase_in
       phase_replying r z e = rw (ne_eqb (byte_at b 0) 0 n0, ne_eqb (byte_at b 0) 1 n1, ne_eqb (byte_at b 0) 2 z, e)
 
-  pub console_read : (row column : ℕ) (reading : ReadColumn) → row ≡ word_of (byte_at b 1) 0 → column ≡ word_of (byte_at b 2) (byte_at b 3) → reading ≡ reading_in (byte_at b 6)
+  pub console_read : (row column : ℕ) (reading : Option ℕ) → row ≡ word_of (byte_at b 1) 0 → column ≡ word_of (byte_at b 2) (byte_at b 3) → reading ≡ reading_in (byte_at b 6)
       → record { mode = byte_at b 0; row = row; column = column; last = byte_at b 4; escape = eqb (byte_at b 5) 1; reading = reading; keyboard = record { code = byte_at b 7; lock = byte_at b 8; inverse = byte_at b 9 } } ≡ console_in b
   unfolding console_in
   console_read row column reading e f g = let h : word_of (byte_at b 1) 0 ≡ byte_at b 1 = omega arith in rw (e, f, g, h)
 
 module _ (byte : ℕ) where
-  pub reading_none : byte ≡ 255 → Dropped ≡ reading_in byte
+  pub reading_none : byte ≡ 255 → None ≡ reading_in byte
   reading_none z = rw (eq-eqb byte 255 z)
 
-  pub reading_at_lem : (column : ℕ) → (byte ≡ 255 → ⊥) → column ≡ word_of byte 0 → At column ≡ reading_in byte
+  pub reading_at_lem : (column : ℕ) → (byte ≡ 255 → ⊥) → column ≡ word_of byte 0 → Some column ≡ reading_in byte
   reading_at_lem column z e = let h : word_of byte 0 ≡ byte = omega arith in rw (ne_eqb byte 255 z, e, h)

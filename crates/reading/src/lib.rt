@@ -9,7 +9,6 @@ ghost use Rattle.layout.specs.Layout.{device_in, kind_in, block_of, block_in, ga
 use blocks::{BlockState, ControlBlock, Device, Gather, Header, Kind, Phase, Reply, Run, Way};
 use cassette::Cassette;
 use console::state::Console;
-use editor::ReadColumn;
 use keys::keyboard::Keyboard;
 use printer::Printer;
 
@@ -154,13 +153,13 @@ pub fn phase(bytes: &[u8]) -> Phase
     Phase::Replying(reply(bytes))
 }
 
-fn read_column(byte: u8) -> ReadColumn
+fn read_column(byte: u8) -> Option<u16>
     ensures { result ≡ reading_in byte }
 {
     if byte == 255 {
-        return ReadColumn::Dropped;
+        return None;
     }
-    ReadColumn::At(word(byte, 0))
+    Some(word(byte, 0))
 }
 
 pub fn console(bytes: &[u8]) -> Console

@@ -35,11 +35,9 @@ pub fn open(numbers: &mut [u8], tape: &[u8], aux1: u8) -> Done
     requires { Wound numbers.old tape.now }
     ensures { answer result (tape_lent numbers.new tape.now) ≡ seen (put_tape numbers.old) (open_of aux1 (get_tape numbers.old tape.now)) }
 {
-    let cassette = cassette_of(numbers);
-    let opened = cassette.open(aux1);
-    let next = opened.cassette;
-    let done = opened.done;
-    set_cassette(numbers, next);
+    let mut cassette = cassette_of(numbers);
+    let done = cassette.open(aux1);
+    set_cassette(numbers, cassette);
     done
 }
 
@@ -48,9 +46,9 @@ pub fn close(numbers: &mut [u8], tape: &mut [u8])
     requires { Wound numbers.old tape.old }
     ensures { tape_lent numbers.new tape.new ≡ put_tape numbers.old (close_of (get_tape numbers.old tape.old)) }
 {
-    let cassette = cassette_of(numbers);
-    let next = cassette.close(&numbers[PENDING..DISK], tape);
-    set_cassette(numbers, next);
+    let mut cassette = cassette_of(numbers);
+    cassette.close(&numbers[PENDING..DISK], tape);
+    set_cassette(numbers, cassette);
 }
 
 // A character is read.
@@ -58,11 +56,9 @@ pub fn read(numbers: &mut [u8], tape: &[u8]) -> Got
     requires { Wound numbers.old tape.now }
     ensures { answer result (tape_lent numbers.new tape.now) ≡ seen (put_tape numbers.old) (read_of (get_tape numbers.old tape.now)) }
 {
-    let cassette = cassette_of(numbers);
-    let read = cassette.read(tape);
-    let next = read.cassette;
-    let got = read.got;
-    set_cassette(numbers, next);
+    let mut cassette = cassette_of(numbers);
+    let got = cassette.read(tape);
+    set_cassette(numbers, cassette);
     got
 }
 
@@ -71,11 +67,9 @@ pub fn write(numbers: &mut [u8], tape: &mut [u8], byte: u8) -> Done
     requires { Wound numbers.old tape.old }
     ensures { answer result (tape_lent numbers.new tape.new) ≡ seen (put_tape numbers.old) (write_of byte (get_tape numbers.old tape.old)) }
 {
-    let cassette = cassette_of(numbers);
-    let written = cassette.write(&mut numbers[PENDING..DISK], tape, byte);
-    let next = written.cassette;
-    let done = written.done;
-    set_cassette(numbers, next);
+    let mut cassette = cassette_of(numbers);
+    let done = cassette.write(&mut numbers[PENDING..DISK], tape, byte);
+    set_cassette(numbers, cassette);
     done
 }
 

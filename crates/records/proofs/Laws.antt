@@ -2,43 +2,21 @@
 -- Assumes nothing.
 use mathlib.Core.Path.{◌≡◌, ◌∙◌, refl, sym, ap}
 use mathlib.Core.List.{List, [], ◌∷◌, ◌++◌, append-nil}
-use Prim.Native.Nat.{ℕ, zero, suc, ◌+◌, ◌-◌, ◌*◌, ◌<◌, ◌≤◌}
-use native.Mathlib.Numerals.{add-one}
+use Prim.Native.Nat.{ℕ, suc, min, ◌+◌, ◌-◌, ◌*◌, ◌<◌, ◌≤◌}
+use native.Mathlib.Nat.{min-le_right, min-eq_left, min-eq_right}
 use native.Mathlib.Omega.{arith}
 use borrow.Author.Tests.{lt-ltb, le-ltb, eq-eqb, ne_eqb}
 use lib.Dec.{eqb}
-use lib.ListN.{length, get_or, take, drop, replicate, set, get_or-eq_default, length-append, length-replicate, length-set, drop_of_length-le}
-use lib.Seq.{get_or-take, take_all, paste-suc, length-take-le, set_split, take_at, drop_at, sets, set_out, drop-set-add, take-set-lt}
+use lib.ListN.{length, get_or, take, drop, replicate, set, length-append, length-replicate, length-set, drop_of_length-le, length-drop}
+use lib.Seq.{take_all, length-take-le, set_split, take_at, drop_at, sets, set_out, drop-set-add, take-set-lt}
 use Rattle.base.specs.Parts.{part}
 use Rattle.base.proofs.Choices.{by_lt, pick_lt, pick_go}
+use Rattle.base.proofs.Lists.{part_tail, back_tail}
+use borrow.Rule.Slice.PartMut.{put_mid}
 use Rattle.base.proofs.Parts.{back, lent_count}
 use Rattle.records.specs.declared.Judged.{Judged}
 use Rattle.records.specs.declared.Judged.TheVariants.{Bad, End, Characters}
 use Rattle.records.specs.Records.{checksum_of, judged_by, judged_of, found_at, sealed_record, record_data, record_made, full_record, partial_record, end_record, laid_at, Reel}
-
--- how long what is shown of a list is
-take_most : (n : ℕ) (l : List ℕ) → length (take n l) ≤ n
-take_most n l =
-    by_lt n (length l)
-    (λ k. let t = length-take-le n l (omega arith) in omega arith)
-    (λ k. let t : length (take n l) ≡ length l = ap length (take_all n l k) in omega arith)
-
--- a pending character, and 0 behind the last
-pub character_in : (pending : List ℕ) (count place byte : ℕ) → place < count → byte ≡ get_or pending place 0 → byte ≡ get_or (take count pending) place 0
-character_in pending count place byte h e = e ∙ sym (get_or-take count pending place 0 h)
-
-pub character_past : (pending : List ℕ) (count place : ℕ) → count ≤ place → 0 ≡ get_or (take count pending) place 0
-character_past pending count place h =
-    let l : length (take count pending) ≤ place = omega (arith, take_most count pending) in
-    sym (get_or-eq_default (take count pending) 0 l)
-
--- zeros behind a list are what is read there
-zeros_behind : (xs : List ℕ) (k i : ℕ) → get_or (xs ++ replicate k 0) i 0 ≡ get_or xs i 0
-zeros_behind [] zero i = refl
-zeros_behind [] (suc k) zero = refl
-zeros_behind [] (suc k) (suc i) = zeros_behind [] k i
-zeros_behind (x ∷ xs) k zero = refl
-zeros_behind (x ∷ xs) k (suc i) = zeros_behind xs k i
 
 pub data_length : (pending : List ℕ) (count : ℕ) → length pending ≡ 128 → length (record_data pending count) ≡ 128
 data_length pending count e =
@@ -46,23 +24,34 @@ data_length pending count e =
     (λ k. let t = length-take-le count pending (omega arith) in simp (length-append, length-replicate) (omega arith))
     (λ k. let t : length (take count pending) ≡ length pending = ap length (take_all count pending (omega arith)) in simp (length-append, length-replicate) (omega arith))
 
--- a turn of the loop that fills, and its end
-module _ (pending : List ℕ) (count : ℕ) where
-  pub fill_turn : (into₀ into : List ℕ) (i byte : ℕ) → length into₀ ≡ 128 → length pending ≡ 128 → length into ≡ length into₀ → i < length into → into ≡ take i (record_data pending count) ++ drop i into₀
-      → byte ≡ get_or (take count pending) i 0 → set into i byte ≡ take (i + 1) (record_data pending count) ++ drop (i + 1) into₀
-  fill_turn into₀ into i byte l p q h e b =
-      let d = record_data pending count in
-      let g : byte ≡ get_or d i 0 = b ∙ sym (zeros_behind (take count pending) (128 - count) i) in
-      let z : 0 + i ≡ i = omega arith in
-      let y : 0 + suc i ≡ i + 1 = omega arith in
-      ap (λ (x : List ℕ). set x i byte) e ∙ ap (set (take i d ++ drop i into₀) i) g
-      ∙ (rw (z, y, ← add-one i) at (paste-suc into₀ 0 d i 0 (omega arith) (omega (arith, data_length pending count p))))
+-- the pending characters copied, and zeros written behind them
+module _ (into pending start blank : List ℕ) (count some : ℕ) (l : length into ≡ 128) (p : length pending ≡ 128)
+    (m : some ≡ min count (length pending)) (a : start ≡ take some pending) where
+  abbrev pub copied : List ℕ
+  copied = start ++ drop some into
 
-  pub filled : (into₀ into : List ℕ) (i : ℕ) → length into₀ ≡ 128 → length pending ≡ 128 → length into ≡ length into₀ → length into ≤ i → into ≡ take i (record_data pending count) ++ drop i into₀ → into ≡ record_data pending count
-  filled into₀ into i l p q h e =
-      let d = record_data pending count in
-      let k : length into₀ ≤ i = omega arith in
-      e ∙ rw (take_all i d (omega (arith, data_length pending count p)), drop_of_length-le into₀ k, append-nil d)
+  at_most : some ≤ 128
+  at_most = let k : min count (length pending) ≤ length pending = min-le_right _ _ in omega arith
+
+  start_length : length start ≡ some
+  start_length = ap length a ∙ length-take-le some pending (omega (arith, p, at_most))
+
+  rest_length : length (drop some copied) ≡ 128 - some
+  rest_length = ap length (drop_at start (drop some into) some start_length) ∙ length-drop some into ∙ ap (λ (n : ℕ). n - some) l
+
+  characters_and_zeros : take some pending ++ replicate (128 - some) 0 ≡ record_data pending count
+  characters_and_zeros =
+      by_lt count 128
+      (λ h. let e : some ≡ count = m ∙ min-eq_left (omega (arith, p)) in rw e)
+      (λ h. let e : some ≡ length pending = m ∙ min-eq_right (omega (arith, p)) in
+      let z : 128 - length pending ≡ 0 = omega arith in
+      let y : 128 - count ≡ 0 = omega arith in
+      rw (e, z, y, take_all (length pending) pending (omega arith), take_all count pending (omega arith)))
+
+  pub filled : blank ≡ replicate (length (take (length copied - some) (drop some copied))) 0 → put_mid some (length copied - some) copied blank ≡ record_data pending count
+  filled b =
+      let zeros : blank ≡ replicate (128 - some) 0 = b ∙ ap (λ (n : ℕ). replicate n 0) (ap length (part_tail some copied) ∙ rest_length) in
+      back_tail some copied blank ∙ rw (take_at start (drop some into) some start_length, a, zeros) characters_and_zeros
 
 -- a record with characters is one of the tape's
 never : (k : Judged) (n : ℕ) → k ≡ End → k ≡ Characters n → ⊥

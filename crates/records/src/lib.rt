@@ -26,10 +26,8 @@ fn checksum(bytes: &[u8]) -> u8
     ensures { result ≡ checksum_of bytes.now }
 {
     let mut sum: u16 = 0;
-    let mut i: usize = 0;
-    while i < bytes.len() {
-        sum += bytes[i] as u16;
-        i += 1;
+    for byte in bytes {
+        sum += *byte as u16;
     }
     if sum == 0 {
         return 0;
@@ -41,22 +39,15 @@ fn checksum(bytes: &[u8]) -> u8
 fn kind(control: u8, count: u8) -> Judged
     ensures { result ≡ judged_by control count }
 {
-    if control == 0xFC {
-        return Judged::Characters(CHARACTERS);
+    match control {
+        0xFC => Judged::Characters(CHARACTERS),
+        0xFA => match count {
+            1..=127 => Judged::Characters(count),
+            _ => Judged::Bad,
+        },
+        0xFE => Judged::End,
+        _ => Judged::Bad,
     }
-    if control == 0xFA {
-        if 1 <= count {
-            if count <= 127 {
-                return Judged::Characters(count);
-            }
-            return Judged::Bad;
-        }
-        return Judged::Bad;
-    }
-    if control == 0xFE {
-        return Judged::End;
-    }
-    Judged::Bad
 }
 
 // What a record is.
@@ -64,9 +55,7 @@ fn judge(bytes: &[u8]) -> Judged
     requires { length bytes.now ≡ 132 }
     ensures { result ≡ judged_of bytes.now }
 {
-    let sum = checksum(&bytes[0..131]);
-    let last = bytes[131];
-    if sum == last {
+    if checksum(&bytes[0..131]) == bytes[131] {
         return kind(bytes[2], bytes[130]);
     }
     Judged::Bad
@@ -85,26 +74,14 @@ pub fn found(tape: &[u8], number: u8) -> Judged
     Judged::End
 }
 
-// A pending character, and 0 behind the last.
-fn character(pending: &[u8], count: u8, place: usize) -> u8
-    ensures { result ≡ get_or (take count pending.now) place 0 }
-{
-    if place < count as usize {
-        return base::byte_at(pending, place);
-    }
-    0
-}
-
 // The pending characters, and zeros behind them.
 fn fill(into: &mut [u8], pending: &[u8], count: u8)
     requires { (length into.old ≡ 128) × (length pending.now ≡ 128) }
     ensures { into.new ≡ record_data pending.now count }
 {
-    let mut i: usize = 0;
-    while i < into.len() {
-        into[i] = character(pending, count, i);
-        i += 1;
-    }
+    let some = (count as usize).min(pending.len());
+    into[..some].copy_from_slice(&pending[..some]);
+    into[some..].fill(0);
 }
 
 // $55, $55 and the control byte before the data, and the checksum behind.

@@ -87,9 +87,9 @@ fn store_key(code: u8, state: &mut [u8])
     requires { Rooms 0 state.old }
     ensures { state.new ≡ key_on code state.old }
 {
-    let console = devices::numbers::console_of(&state[DEVICES..ROOMS]);
-    let next = console.press(code);
-    devices::numbers::set_console(&mut state[DEVICES..ROOMS], next);
+    let mut console = devices::numbers::console_of(&state[DEVICES..ROOMS]);
+    console.press(code);
+    devices::numbers::set_console(&mut state[DEVICES..ROOMS], console);
 }
 
 // A key of the console.

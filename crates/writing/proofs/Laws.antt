@@ -20,8 +20,7 @@ use Rattle.blocks.specs.declared.Phase.{Phase}
 use Rattle.blocks.specs.declared.Phase.TheVariants.{Running}
 use Rattle.blocks.specs.declared.Port.{Port}
 use Rattle.blocks.specs.Blocks.{block_at}
-use Rattle.editor.specs.declared.ReadColumn.{ReadColumn}
-use Rattle.editor.specs.declared.ReadColumn.TheVariants.{At}
+use Rattle.std.specs.Prelude.{Option, Some}
 use Rattle.console.specs.declared.state.Console.{Console}
 use Rattle.layout.specs.Places.{phase_length, block_length, table_length, port_length}
 use Rattle.layout.specs.Layout.{low_byte, high_byte, device_number, kind_number, block_bytes, blocks_bytes, table_bytes, phase_bytes, port_bytes, reading_byte, console_bytes}
@@ -95,5 +94,5 @@ module _ (l : List ℕ) where
   pub phase_written : (next : List ℕ) (p q : Phase) → p ≡ q → next ≡ sets l 0 (phase_bytes q) → next ≡ sets l 0 (phase_bytes p)
   phase_written next p q h e = e ∙ rw h
 
-pub reading_written : (r : ReadColumn) (column : ℕ) → r ≡ At column → column % 256 ≡ reading_byte r
+pub reading_written : (r : Option ℕ) (column : ℕ) → r ≡ Some column → column % 256 ≡ reading_byte r
 reading_written r column e = rw e

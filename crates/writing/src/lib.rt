@@ -12,7 +12,6 @@ use blocks::{
 };
 use cassette::Cassette;
 use console::state::Console;
-use editor::ReadColumn;
 use layout::places::{BLOCK, PHASE, PORT};
 use printer::Printer;
 
@@ -187,12 +186,12 @@ pub fn port(bytes: &mut [u8], port: Port)
     table(&mut bytes[PHASE..PORT], t);
 }
 
-fn reading_byte(reading: ReadColumn) -> u8
+fn reading_byte(reading: Option<u16>) -> u8
     ensures { result ≡ reading_byte reading }
 {
     match reading {
-        ReadColumn::Dropped => 255,
-        ReadColumn::At(column) => (column % 256) as u8,
+        None => 255,
+        Some(column) => (column % 256) as u8,
     }
 }
 

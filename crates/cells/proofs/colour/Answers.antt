@@ -3,11 +3,11 @@
 use Rattle.cells.proofs.Shapes.{colour_is, colour_byte}
 use Rattle.cells.proofs.colour.Goals as goal
 
-pub returns-then-colours-eq2 : goal.returns-then-colours-eq2
-returns-then-colours-eq2 c = search colour_is
+pub returns-in-2 : goal.returns-in-2
+returns-in-2 c = search colour_is
 
-pub returns-then-colours-eq4 : goal.returns-then-colours-eq4
-returns-then-colours-eq4 c = search colour_is
+pub returns-in-4 : goal.returns-in-4
+returns-in-4 c = search colour_is
 
-pub overflow_cast-result-2 : goal.overflow_cast-result-2
-overflow_cast-result-2 c = search colour_byte
+pub overflow_cast-result-in_default : goal.overflow_cast-result-in_default
+overflow_cast-result-in_default c = search colour_byte

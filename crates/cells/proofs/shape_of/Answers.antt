@@ -4,34 +4,34 @@ use Rattle.cells.specs.Modes.{modes, row_of, shape_of}
 use Rattle.cells.proofs.Shapes.{shape_by, shape_none}
 use Rattle.cells.proofs.shape_of.Goals as goal
 
-pub returns-then-mode-eq0 : goal.returns-then-mode-eq0
+pub returns-in-0 : goal.returns-in-0
 unfolding shape_of row_of modes
-returns-then-mode-eq0 c = search shape_by
+returns-in-0 c = search shape_by
 
-pub returns-then-mode-eq3 : goal.returns-then-mode-eq3
+pub returns-in-3 : goal.returns-in-3
 unfolding shape_of row_of modes
-returns-then-mode-eq3 c = search shape_by
+returns-in-3 c = search shape_by
 
-pub returns-then-mode-eq4 : goal.returns-then-mode-eq4
+pub returns-in-4 : goal.returns-in-4
 unfolding shape_of row_of modes
-returns-then-mode-eq4 c = search shape_by
+returns-in-4 c = search shape_by
 
-pub returns-then-mode-eq5 : goal.returns-then-mode-eq5
+pub returns-in-5 : goal.returns-in-5
 unfolding shape_of row_of modes
-returns-then-mode-eq5 c = search shape_by
+returns-in-5 c = search shape_by
 
-pub returns-then-mode-eq6 : goal.returns-then-mode-eq6
+pub returns-in-6 : goal.returns-in-6
 unfolding shape_of row_of modes
-returns-then-mode-eq6 c = search shape_by
+returns-in-6 c = search shape_by
 
-pub returns-then-mode-eq7 : goal.returns-then-mode-eq7
+pub returns-in-7 : goal.returns-in-7
 unfolding shape_of row_of modes
-returns-then-mode-eq7 c = search shape_by
+returns-in-7 c = search shape_by
 
-pub returns-then-mode-eq8 : goal.returns-then-mode-eq8
+pub returns-in-8 : goal.returns-in-8
 unfolding shape_of row_of modes
-returns-then-mode-eq8 c = search shape_by
+returns-in-8 c = search shape_by
 
-pub returns : goal.returns
+pub returns-in_default : goal.returns-in_default
 unfolding shape_of row_of modes
-returns c = search shape_none
+returns-in_default c = search shape_none

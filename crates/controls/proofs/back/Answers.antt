@@ -3,8 +3,8 @@
 use Rattle.controls.proofs.Puts.{back_left, back_margin}
 use Rattle.controls.proofs.back.Goals as goal
 
-pub returns-then-column-gt2 : goal.returns-then-column-gt2
-returns-then-column-gt2 c = search back_left
+pub returns-then-editor-le2 : goal.returns-then-editor-le2
+returns-then-editor-le2 c = search back_margin
 
 pub returns : goal.returns
-returns c = search back_margin
+returns c = search back_left

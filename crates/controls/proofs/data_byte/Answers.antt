@@ -3,8 +3,8 @@
 use Rattle.controls.proofs.Puts.{data_row, data_right}
 use Rattle.controls.proofs.data_byte.Goals as goal
 
-pub returns-then-column-ge39 : goal.returns-then-column-ge39
-returns-then-column-ge39 c = search data_row
+pub returns-then-editor-ge39 : goal.returns-then-editor-ge39
+returns-then-editor-ge39 c = search data_row
 
 pub returns : goal.returns
 returns c = search data_right

@@ -1,15 +1,8 @@
--- `fill` meets its contract, by `fill_turn` and `filled`.
+-- `fill` meets its contract, by `filled`.
 -- Assumes nothing.
-use mathlib.Core.Path.{refl}
-use Rattle.records.proofs.Laws.{fill_turn, filled}
-use borrow.Author.Rules.{rules}
+use Rattle.records.proofs.Laws.{filled}
 use Rattle.records.proofs.fill.Goals as goal
 
-pub loop-i-init : goal.loop-i-init
-loop-i-init c = (search rules, (refl, refl))
-
-pub loop-i-preserved : goal.loop-i-preserved
-loop-i-preserved c = (search rules, (search fill_turn, search rules))
-
 pub returns : goal.returns
-returns c = search filled
+returns c =
+    filled c.args.into.now _ _ _ c.args.count _ c.requires.0 c.requires.1 c.min-some.ensures c.copy_from_slice.ensures.after (c.fill.ensures.after (λ y e. e))

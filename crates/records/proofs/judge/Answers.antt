@@ -3,8 +3,8 @@
 use Rattle.records.proofs.Laws.{judge_right, judge_wrong}
 use Rattle.records.proofs.judge.Goals as goal
 
-pub returns-then-sum-last : goal.returns-then-sum-last
-returns-then-sum-last c = search judge_right
+pub returns-then-checksum-bytes : goal.returns-then-checksum-bytes
+returns-then-checksum-bytes c = search judge_right
 
 pub returns : goal.returns
 returns c = search judge_wrong

@@ -3,5 +3,5 @@
 use Rattle.writing.proofs.Laws.{reading_written}
 use Rattle.writing.proofs.reading_byte.Goals as goal
 
-pub returns-in-At : goal.returns-in-At
-returns-in-At c = search reading_written
+pub returns-in-Some : goal.returns-in-Some
+returns-in-Some c = search reading_written

@@ -3,11 +3,11 @@
 use Rattle.cassette.proofs.Laws.{close_none, close_some, close_other}
 use Rattle.cassette.proofs.Cassette.close.Goals as goal
 
+pub returns-then-mark-ne2 : goal.returns-then-mark-ne2
+returns-then-mark-ne2 c = search close_other
+
 pub returns-then-place-eq0 : goal.returns-then-place-eq0
 returns-then-place-eq0 c = search close_none
 
-pub returns-then-mark-eq2 : goal.returns-then-mark-eq2
-returns-then-mark-eq2 c = search close_some
-
 pub returns : goal.returns
-returns c = search close_other
+returns c = search close_some

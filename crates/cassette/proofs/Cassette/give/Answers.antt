@@ -3,11 +3,11 @@
 use Rattle.cassette.proofs.Laws.{found_in, found_holds, give_bad, give_end, give_character}
 use Rattle.cassette.proofs.Cassette.give.Goals as goal
 
-pub next-cassette-requires : goal.next-cassette-requires
-next-cassette-requires c = search found_in
+pub next-requires : goal.next-requires
+next-requires c = search found_in
 
-pub character-got-requires : goal.character-got-requires
-character-got-requires c = search found_holds
+pub character-requires : goal.character-requires
+character-requires c = search found_holds
 
 pub returns-in-Bad : goal.returns-in-Bad
 returns-in-Bad c = search give_bad

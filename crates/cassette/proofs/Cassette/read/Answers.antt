@@ -6,8 +6,8 @@ use Rattle.cassette.proofs.Cassette.read.Goals as goal
 pub give-requires : goal.give-requires
 give-requires c = search stand_found
 
-pub returns-then-mark-eq1 : goal.returns-then-mark-eq1
-returns-then-mark-eq1 c = search read_there
+pub returns-then-self-eq1 : goal.returns-then-self-eq1
+returns-then-self-eq1 c = search read_there
 
 pub returns : goal.returns
 returns c = search read_closed

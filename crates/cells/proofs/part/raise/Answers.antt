@@ -1,15 +1,12 @@
--- `raise` meets its contract, by `raise_step`, `raised_all` and `raised_end`.
+-- `raise` meets its contract, by `raised_none` and `raised_some`.
 -- Assumes nothing.
-use mathlib.Core.Path.{refl}
-use Rattle.cells.proofs.Parts.{raise_step, raised_all, raised_end}
-use borrow.Author.Rules.{rules}
+use native.Mathlib.Omega.{arith}
+use Rattle.cells.proofs.Parts.{raised_none, raised_some}
+use mathlib.Core.Path.{◌∙◌}
 use Rattle.cells.proofs.part.raise.Goals as goal
 
-pub loop-i-init : goal.loop-i-init
-loop-i-init c = (search rules, (refl, refl))
-
-pub loop-i-preserved : goal.loop-i-preserved
-loop-i-preserved c = let l = c.loop-i.invariant.1 in raise_step c.args.cells.now _ _ l.1 _ c.loop-i-test.true l.0
+pub returns-then-cells-by : goal.returns-then-cells-by
+returns-then-cells-by c = (raised_none _ _ c.if-cells-by.true, omega (arith, c.if-cells-by.true))
 
 pub returns : goal.returns
-returns c = search (raised_all, raised_end)
+returns c = (c.copy_within.ensures.after ∙ raised_some _ _, omega (arith, c.copy_within.ensures.len))

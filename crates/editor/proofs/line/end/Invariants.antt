@@ -1,12 +1,10 @@
 -- `end` meets its contract, by `end_found`, `end_blank` and `end_none`.
 -- Assumes nothing.
 use mathlib.Core.Path.{◌≡◌}
-use Prim.Native.Nat.{◌≤◌, ◌+◌, ◌*◌}
+use Prim.Native.Nat.{◌≤◌, ◌-◌}
+use Rattle.editor.specs.Text.{cell_at}
 use Rattle.editor.specs.Get.{cells_held}
 use Rattle.editor.proofs.line.end.Given as goal
 
-abbrev pub invariant-loop-n : goal.invariant-loop-n
-invariant-loop-n l = (l.n ≤ 38) × (cells_held l.screen (l.row * 40 + 2) 38 ≡ cells_held l.screen (l.row * 40 + 2) l.n)
-
-abbrev pub decreases-loop-n : goal.decreases-loop-n
-decreases-loop-n l = l.n
+abbrev pub invariant-loop-column : goal.invariant-loop-column
+invariant-loop-column l = (2 ≤ l.column) × (cells_held l.screen (cell_at l.row 2) 38 ≡ cells_held l.screen (cell_at l.row 2) (l.column - 2))

@@ -20,18 +20,18 @@ pub returns-then-own-gt122 : goal.returns-then-own-gt122
 unfolding keys
 returns-then-own-gt122 c = search own_above
 
-pub returns-then-lock-eq0 : goal.returns-then-lock-eq0
+pub returns-in-0 : goal.returns-in-0
 unfolding keys
-returns-then-lock-eq0 c = search letter_plain
+returns-in-0 c = search letter_plain
 
-pub returns-then-lock-eq1 : goal.returns-then-lock-eq1
+pub returns-in-1 : goal.returns-in-1
 unfolding keys
-returns-then-lock-eq1 c = search letter_shift
+returns-in-1 c = search letter_shift
 
-pub returns-then-lock-eq2 : goal.returns-then-lock-eq2
+pub returns-in-2 : goal.returns-in-2
 unfolding keys
-returns-then-lock-eq2 c = search letter_control
+returns-in-2 c = search letter_control
 
-pub returns : goal.returns
+pub returns-in_default : goal.returns-in_default
 unfolding keys
-returns c = search letter_none
+returns-in_default c = search letter_none

@@ -3,8 +3,8 @@
 use Rattle.base.proofs.Tests.{tests}
 use Rattle.keys.proofs.keyboard.Keyboard.flip.Goals as goal
 
-pub returns-then-inverse-eq0 : goal.returns-then-inverse-eq0
-returns-then-inverse-eq0 c = search tests
+pub returns-in-0 : goal.returns-in-0
+returns-in-0 c = search tests
 
-pub returns : goal.returns
-returns c = search tests
+pub returns-in_default : goal.returns-in_default
+returns-in_default c = search tests

@@ -5,22 +5,22 @@ use Rattle.keys.specs.Keyboard.{obeyed}
 use Rattle.keys.proofs.Laws.{obey_at}
 use Rattle.keys.proofs.keyboard.Keyboard.obey.Goals as goal
 
-pub returns-then-number-eq257 : goal.returns-then-number-eq257
+pub returns-in-257 : goal.returns-in-257
 unfolding obeyed
-returns-then-number-eq257 c = search obey_at
+returns-in-257 c = search obey_at
 
-pub returns-then-number-eq258 : goal.returns-then-number-eq258
+pub returns-in-258 : goal.returns-in-258
 unfolding obeyed
-returns-then-number-eq258 c = search obey_at
+returns-in-258 c = search obey_at
 
-pub returns-then-number-eq259 : goal.returns-then-number-eq259
+pub returns-in-259 : goal.returns-in-259
 unfolding obeyed
-returns-then-number-eq259 c = search obey_at
+returns-in-259 c = search obey_at
 
-pub returns-then-number-eq260 : goal.returns-then-number-eq260
+pub returns-in-260 : goal.returns-in-260
 unfolding obeyed
-returns-then-number-eq260 c = search obey_at
+returns-in-260 c = search obey_at
 
-pub returns : goal.returns
+pub returns-in_default : goal.returns-in_default
 unfolding obeyed
-returns c = search tests
+returns-in_default c = search tests

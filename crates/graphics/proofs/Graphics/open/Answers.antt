@@ -1,7 +1,7 @@
 -- `open` meets its contract, by `open_bit`, `open_low`, `open_high` and `open_law`.
 -- Assumes nothing.
 use Rattle.graphics.proofs.Acts.{open_bit, open_low, open_high, open_law}
-use Rattle.graphics.proofs.open.Goals as goal
+use Rattle.graphics.proofs.Graphics.open.Goals as goal
 
 pub returns-then-aux1-eq1 : goal.returns-then-aux1-eq1
 returns-then-aux1-eq1 c = search open_bit

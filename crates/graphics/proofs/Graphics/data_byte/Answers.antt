@@ -1,7 +1,7 @@
 -- `data_byte` meets its contract, by `data_law`.
 -- Assumes nothing.
 use Rattle.graphics.proofs.Acts.{data_law}
-use Rattle.graphics.proofs.data_byte.Goals as goal
+use Rattle.graphics.proofs.Graphics.data_byte.Goals as goal
 
 pub returns : goal.returns
 returns c = search data_law

@@ -2,13 +2,13 @@
 -- Assumes nothing.
 use Rattle.cells.proofs.Shapes.{shape_colours}
 use Rattle.graphics.proofs.Acts.{get_cell, get_past}
-use Rattle.graphics.proofs.get.Goals as goal
+use Rattle.graphics.proofs.Graphics.get.Goals as goal
 
 pub read-cell-requires : goal.read-cell-requires
 read-cell-requires c = search shape_colours
 
-pub returns-then-row-shape : goal.returns-then-row-shape
-returns-then-row-shape c = search get_cell
+pub returns-then-self-shape : goal.returns-then-self-shape
+returns-then-self-shape c = search get_cell
 
 pub returns : goal.returns
 returns c = search get_past
