@@ -51,7 +51,7 @@ pub holds_good : (b : Bool) (x held : Holding) → Some held ≡ pick b None (So
 holds_good true x held e = cc
 holds_good false x held e = refl
 
-holds_this : (b : Bool) (x held : Holding) → Some held ≡ pick b None (Some x) → held ≡ x
+pub holds_this : (b : Bool) (x held : Holding) → Some held ≡ pick b None (Some x) → held ≡ x
 holds_this true x held e = cc
 holds_this false x held e = cc
 

@@ -71,6 +71,11 @@ abbrev pub Eleven : Option (List ℕ) → Type 0
 Eleven None = Unit {0}
 Eleven (Some pattern) = length pattern ≡ 11
 
+-- a name as it is read, by what is kept of it: none is kept of a name with a byte that no name has
+abbrev pub as_read : Option (List ℕ) → Result (List ℕ) NameError
+as_read None = Err Bad
+as_read (Some pattern) = Ok pattern
+
 -- of a device that has no names
 abbrev pub no_name : List ℕ
 no_name = 0 ∷ 0 ∷ 0 ∷ 0 ∷ 0 ∷ 0 ∷ 0 ∷ 0 ∷ 0 ∷ 0 ∷ 0 ∷ []

@@ -21,8 +21,7 @@ fn note_count(image: &[u8], list: &mut [u8], number: u16, entry: u8, count: u16)
     requires { number < 511 }
     ensures { as_listed result list.new ≡ listed_on number list.old (differing (count_changes image.now entry count)) }
 {
-    let low = (count % 256) as u8;
-    let high = (count / 256) as u8;
+    let [low, high] = count.to_le_bytes();
     let between = note_entry(image, list, number, entry, 1, low);
     note_entry(image, list, between, entry, 2, high)
 }
@@ -73,8 +72,7 @@ fn note_free(image: &[u8], list: &mut [u8], number: u16, free: u16) -> u16
     requires { number < 511 }
     ensures { as_listed result list.new ≡ listed_on number list.old (differing (free_changes image.now free)) }
 {
-    let low = (free % 256) as u8;
-    let high = (free / 256) as u8;
+    let [low, high] = free.to_le_bytes();
     let between = changes::note(image, list, number, 360, 3, low);
     changes::note(image, list, between, 360, 4, high)
 }
@@ -125,11 +123,9 @@ fn note_map(image: &[u8], marks: &[u8], list: &mut [u8], number: u16) -> u16
     ensures { as_listed result list.new ≡ listed_on number list.old (differing (map_in image.now (marked marks.now) 90 0)) }
 {
     let mut there = number;
-    let mut byte: u8 = 0;
-    while byte < 90 {
+    for byte in 0..90 {
         let new = map_byte(image, marks, 8 * byte as u16);
         there = changes::note(image, list, there, 360, 10 + byte, new);
-        byte += 1;
     }
     there
 }

@@ -11,8 +11,8 @@ loop-count-init c = (refl, (search rules, refl))
 pub returns-then-at-eq0 : goal.returns-then-at-eq0
 returns-then-at-eq0 c = search walk_ended
 
-pub returns-in-Wrong : goal.returns-in-Wrong
-returns-in-Wrong c = search walk_stopped
+pub returns-in-None : goal.returns-in-None
+returns-in-None c = search walk_stopped
 
 pub loop-count-preserved : goal.loop-count-preserved
 loop-count-preserved c = (search walk_turn, (search marks_length, search rules))
