@@ -18,7 +18,7 @@ use Rattle.image.specs.Image.{next_of, data_count, holding, bad_sector}
 use Rattle.image.proofs.Laws.{wrong_bad, holds_good, holds_this}
 use Rattle.image.proofs.Standing.{good_there}
 use Rattle.chains.specs.Chains.{is_reserved, among, claims, stops_at, kept_in, is_free, free_in, last_or}
-use Rattle.chains.specs.Marks.{marked, mark_all, step_of, walked_over, walk_of}
+use Rattle.chains.specs.Marks.{marked, mark_all, step_of, Walked, walked_over, walk_of}
 use Rattle.chains.proofs.Truths.{or_right_false, at_most_one}
 use Rattle.chains.proofs.Claims.{claims_none, claims_both}
 
@@ -91,9 +91,12 @@ module _ (image marks₀ : List ℕ) (file first : ℕ) (marks : List ℕ) (at l
   pub walk_ended : at ≡ 0 → record { last = last; count = count; marks = marks } ≡ walk_of image marks₀ file first
   walk_ended z = sym walked_none ∙ stands (kept_none image file (marked marks) (719 - count) at z)
 
-  pub walk_spent : 719 ≤ count → record { last = last; count = count; marks = marks } ≡ walk_of image marks₀ file first
+  abbrev counted : ℕ → Walked
+  counted n = record { last = last; count = n; marks = marks }
+
+  pub walk_spent : count ≡ 719 → counted 719 ≡ walk_of image marks₀ file first
   unfolding kept_in
-  walk_spent h = sym walked_none ∙ stands (let z : 719 - count ≡ 0 = omega arith in rw z)
+  walk_spent h = let z : 719 - count ≡ 0 = omega arith in sym (ap counted h) ∙ sym walked_none ∙ stands (rw z)
 
   module _ (found : Option Holding) (f : found ≡ step_of image marks file at) where
     abbrev holds : Holding

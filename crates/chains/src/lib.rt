@@ -49,8 +49,7 @@ pub fn keep(image: &[u8], marks: &mut [u8; MARKS], file: u8, first: u16) -> Walk
 {
     let mut at = first;
     let mut last: u16 = 0;
-    let mut count: u16 = 0;
-    while count < 719 {
+    for count in 0..719 {
         if at == 0 {
             return Walk { last, count };
         }
@@ -60,11 +59,10 @@ pub fn keep(image: &[u8], marks: &mut [u8; MARKS], file: u8, first: u16) -> Walk
                 mark(marks, at);
                 last = at;
                 at = held.next;
-                count += 1;
             }
         }
     }
-    Walk { last, count }
+    Walk { last, count: 719 }
 }
 
 // 1 for a sector that is neither reserved nor claimed.

@@ -10,7 +10,8 @@ ghost use Rattle.changes.specs.Changes.{change_to, differing, as_listed, listed_
 // The bytes of a list: room for 512 changes.
 pub const LIST: usize = 2560;
 
-// A byte of the image that shall be this one is listed, behind so many others, if it is not; how many there are then.
+// A byte of the image that shall be this one is listed, behind so many others, if it is not; how many there are then. A struct that held
+// the list and its number would ask of each function that notes one clause more, that it holds the same reference.
 #[tactic(auto, unfolding(crate::specs::Changes::differing, crate::specs::Changes::list_bytes))]
 pub fn note(image: &[u8], list: &mut [u8], number: u16, sector: u16, place: u8, new: u8) -> u16
     requires { number < 512 }

@@ -154,8 +154,7 @@ pub fn stand_of(images: &[u8], unit: u8, file: u8, sector: u16, place: u8, passe
 {
     let mut at = sector;
     let mut character = place;
-    let mut behind = passed;
-    while behind < 719 {
+    for behind in passed..719 {
         if at == 0 {
             return Stand::End;
         }
@@ -167,7 +166,6 @@ pub fn stand_of(images: &[u8], unit: u8, file: u8, sector: u16, place: u8, passe
         }
         at = held.next;
         character = 0;
-        behind += 1;
     }
     if at == 0 {
         return Stand::End;

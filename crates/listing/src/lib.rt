@@ -79,7 +79,7 @@ fn free_character(images: &[u8], unit: u8, place: u8) -> u8
     0x9B
 }
 
-// A character of an entry's record; 64 is the free record.
+// A character of an entry's record; 64 is the free record, a number as the entry that a block's place has.
 pub fn record_character(images: &[u8], unit: u8, entry: u8, place: u8) -> u8
     ensures { result ≡ record_byte images.now unit entry place }
 {

@@ -66,34 +66,6 @@ pub cut_none : cut_of [] ≡ past
 unfolding cut_of
 cut_none = refl
 
--- a byte that may stand in a name, by its range
-or_false : (a : Bool) → or a false ≡ a
-or_false true = refl
-or_false false = refl
-
-module _ (byte : ℕ) where
-  pub stand_low : byte < 0x30 → eqb byte 0x2A ≡ may_stand byte
-  stand_low h =
-      let k : byte < 0x41 = omega arith in
-      let n : (byte ≡ 0x3F → ⊥) = λ e. omega arith in
-      rw (lt-leb 0x41 byte k, lt-leb 0x30 byte h, ne_eqb byte 0x3F n) (sym (or_false (eqb byte 0x2A)))
-
-  module _ (l : 0x30 ≤ byte) where
-    pub stand_digit : byte ≤ 0x39 → true ≡ may_stand byte
-    stand_digit h = let k : byte < 0x41 = omega arith in rw (lt-leb 0x41 byte k, le-leb 0x30 byte l, le-leb byte 0x39 h)
-
-    module _ (m : 0x39 < byte) where
-      no_star : byte ≡ 0x2A → ⊥
-      no_star e = omega arith
-
-      pub stand_between : byte < 0x41 → eqb byte 0x3F ≡ may_stand byte
-      stand_between h = rw (lt-leb 0x41 byte h, le-leb 0x30 byte l, lt-leb byte 0x39 m, ne_eqb byte 0x2A no_star)
-
-      pub stand_high : 0x41 ≤ byte → leb byte 0x5A ≡ may_stand byte
-      stand_high h =
-          let n : (byte ≡ 0x3F → ⊥) = λ e. omega arith in
-          rw (le-leb 0x41 byte h, le-leb 0x30 byte l, lt-leb byte 0x39 m, ne_eqb byte 0x2A no_star, ne_eqb byte 0x3F n) (sym (or_false (leb byte 0x5A)))
-
 -- the loop over a field's bytes: those before i begin it
 pub record Begun (half : List ℕ) (from i : ℕ) : Type 0 where
   pub after : from ≤ i

@@ -33,16 +33,7 @@ pub fn none() -> Pattern
 fn may_stand(byte: u8) -> bool
     ensures { result ≡ may_stand byte }
 {
-    if byte < b'0' {
-        return byte == b'*';
-    }
-    if byte <= b'9' {
-        return true;
-    }
-    if byte < b'A' {
-        return byte == b'?';
-    }
-    byte <= b'Z'
+    matches!(byte, b'A'..=b'Z' | b'0'..=b'9' | b'*' | b'?')
 }
 
 // The end of a field that begins at `from`.

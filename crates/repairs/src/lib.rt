@@ -88,33 +88,16 @@ fn map_bit(image: &[u8], marks: &[u8], sector: u16) -> u8
     chains::free(marks, sector)
 }
 
-// The bits of two sectors, and of four.
-fn map_pair(image: &[u8], marks: &[u8], sector: u16) -> u8
-    requires { sector < 2048 }
-    ensures { (result ≡ 2 * map_bit image.now (marked marks.now) sector + map_bit image.now (marked marks.now) (sector + 1)) × (result ≤ 3) }
-{
-    let one = map_bit(image, marks, sector);
-    let other = map_bit(image, marks, sector + 1);
-    2 * one + other
-}
-
-fn map_four(image: &[u8], marks: &[u8], sector: u16) -> u8
-    requires { sector < 2046 }
-    ensures { (result ≡ 8 * map_bit image.now (marked marks.now) sector + 4 * map_bit image.now (marked marks.now) (sector + 1) + 2 * map_bit image.now (marked marks.now) (sector + 2) + map_bit image.now (marked marks.now) (sector + 3)) × (result ≤ 15) }
-{
-    let one = map_pair(image, marks, sector);
-    let other = map_pair(image, marks, sector + 2);
-    4 * one + other
-}
-
 // A byte of the map, by its first sector.
 fn map_byte(image: &[u8], marks: &[u8], sector: u16) -> u8
     requires { sector < 2040 }
     ensures { result ≡ map_byte image.now (marked marks.now) sector }
 {
-    let one = map_four(image, marks, sector);
-    let other = map_four(image, marks, sector + 4);
-    16 * one + other
+    let mut byte: u8 = 0;
+    for bit in 0..8 {
+        byte = 2 * byte + map_bit(image, marks, sector + bit);
+    }
+    byte
 }
 
 // The map's 90 bytes.

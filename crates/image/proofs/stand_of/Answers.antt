@@ -1,13 +1,9 @@
 -- `stand_of` meets its contract, by `stands_ended`, `stands_wrong`, `stands_here`, `stands_turn` and `stands_last`.
 -- Assumes nothing.
-use mathlib.Core.Path.{refl}
 use Prim.Native.Nat.{◌<◌, ◌≤◌}
 use native.Mathlib.Omega.{arith}
 use Rattle.image.proofs.Laws.{stands_ended, stands_wrong, stands_here, stands_turn, stands_last}
 use Rattle.image.proofs.stand_of.Goals as goal
-
-pub loop-behind-init : goal.loop-behind-init
-loop-behind-init c = refl
 
 pub returns-then-at-eq0 : goal.returns-then-at-eq0
 returns-then-at-eq0 c = search stands_ended
