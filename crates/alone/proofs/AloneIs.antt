@@ -5,8 +5,8 @@ use mathlib.Core.Bool.{Bool, true, false}
 use mathlib.Core.List.{List, []}
 use Prim.Native.Nat.{ℕ}
 use native.Mathlib.Omega.{arith}
+use Rattle.std.specs.Prelude.{Option}
 use Rattle.base.specs.Choice.{choose}
-use Rattle.names.specs.declared.Name.{Name}
 use Rattle.handler.specs.declared.Asked.{Asked}
 use Rattle.handler.specs.declared.Done.{Done}
 use Rattle.handler.specs.declared.Done.TheVariants as done
@@ -91,7 +91,7 @@ module _ {D : Type 0} (H : Asked → Acts D) (left : D → ℕ) (Before Fit : D 
     still_ends : (x : D) (status : ℕ) → Ends H c.iocb (over c before x status) l (answered c l x status)
     still_ends x status = record { number = refl; table = block_back l.table c.iocb; comes = over_comes x status }
 
-    opening_ends : (then : After) (number : ℕ) (name : Name) (device : Device) (x : D)
+    opening_ends : (then : After) (number : ℕ) (name : Option (List ℕ)) (device : Device) (x : D)
         → Ends H c.iocb (opening_of H l.number then number name device c before x) l (alone_opening H left then number name device c l x)
     unfolding opening_of alone_opening
     opening_ends then number name device x = by (offers_of device c.aux1)

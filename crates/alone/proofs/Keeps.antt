@@ -6,12 +6,12 @@ use mathlib.Core.List.{List, []}
 use Prim.Native.Nat.{ℕ, zero, suc}
 use lib.ListN.{length}
 use lib.Seq.{length-sets}
+use Rattle.std.specs.Prelude.{Option}
 use Rattle.base.specs.Choice.{within}
 use Rattle.base.proofs.Choices.{choose_go}
 use Rattle.handler.specs.declared.Asked.{Asked}
 use Rattle.handler.specs.declared.Done.{Done}
 use Rattle.handler.specs.declared.Done.TheVariants as done
-use Rattle.names.specs.declared.Name.{Name}
 use Rattle.handler.specs.Acts.{Acts, asks_open, asks_on}
 use Rattle.blocks.specs.declared.ControlBlock.{ControlBlock}
 use Rattle.blocks.specs.declared.Device.{Device}
@@ -170,7 +170,7 @@ module _ {D : Type 0} (H : Asked → Acts D) (left : D → ℕ) (Before Fit : D 
     pub reply : ReplyFits w.reply
 
   module _ (c : Call) (l : Local) (x : D) (Z : Lines (H (asks_on l.number c.iocb)) left Fit) (f : FitLocal l) (b : Before x) where
-    opening_fit : (then : After) (number : ℕ) (name : Name) → within 1 (highest_of device) number ≡ true → FitOn (alone_opening H left then number name device c l x)
+    opening_fit : (then : After) (number : ℕ) (name : Option (List ℕ)) → within 1 (highest_of device) number ≡ true → FitOn (alone_opening H left then number name device c l x)
     unfolding alone_opening
     opening_fit then number name n =
         let asked = asks_open l.number c.iocb number c.aux1 c.aux2 name in

@@ -7,10 +7,11 @@ use Prim.Native.Nat.{ℕ, ◌+◌, ◌≤◌}
 use native.Mathlib.Omega.{arith}
 use lib.Dec.{eqb, leb, ltb}
 use borrow.Author.Tests.{ne_eqb, leb-true}
+use Rattle.std.specs.Prelude.{Result, Ok, Err, Some, None}
 use Rattle.base.specs.Choice.{pick, or, within}
 use Rattle.base.proofs.Choices.{pick_go, pick_eq}
-use Rattle.names.specs.declared.Named.{Named}
-use Rattle.names.specs.declared.Named.TheVariants.{Past, Found}
+use Rattle.names.specs.declared.NameError.{NameError}
+use Rattle.names.specs.declared.NameError.TheVariants.{Past, Bad}
 use Rattle.blocks.specs.declared.BlockState.{BlockState}
 use Rattle.blocks.specs.declared.BlockState.TheVariants as block
 use Rattle.blocks.specs.declared.ControlBlock.{ControlBlock}
@@ -59,9 +60,10 @@ open_planned : (then : After) (s : Specification) (half : List ℕ) (c : Call) �
 open_planned then (Refused status) half c n = tt
 open_planned then (Names device number) half c n = by (named_for device half c.address)
   where
-    by : (named : Named) → Planned (named_plan then device number named c)
-    by Past = tt
-    by (Found name) = n device number refl
+    by : (named : Result (List ℕ) NameError) → Planned (named_plan then device number named c)
+    by (Err Past) = tt
+    by (Err Bad) = n device number refl
+    by (Ok pattern) = n device number refl
 
 -- a length that is not 0
 some_way : (records : Bool) (n address : ℕ) → (n ≡ 0 → ⊥) → address + n ≤ area_length → Span (pick records Record Characters) n address 0

@@ -2,10 +2,9 @@
 -- document 01 condenses and adds to them." By characters; no tick, phase or run. It works on its device's own group; the others are as
 -- they were.
 -- Assumes nothing.
-use Rattle.std.specs.Prelude.{List, [], ℕ, length}
+use Rattle.std.specs.Prelude.{List, [], ℕ, length, Option}
 use Rattle.std.proofs.lemmas.List.Edits.{sets}
 use Rattle.base.specs.Choice.{choose}
-use Rattle.names.specs.declared.Name.{Name}
 use Rattle.handler.specs.declared.Asked.{Asked}
 use Rattle.handler.specs.Answer.{done_status}
 use Rattle.handler.specs.Acts.{Acts, asks_open, asks_on}
@@ -109,7 +108,7 @@ module _ {D : Type 0} where
 module _ {D : Type 0} (H : Asked → Acts D) (left : D → ℕ) where
   -- OPEN, and GET STATUS and SPECIAL on a closed block: "AUX1, mode, handler"; "$84 .. AUX1 not offered"; "A failed open leaves the
   -- block closed"
-  unfoldable pub alone_opening : After → (number : ℕ) → Name → Device → Call → Local → D → AloneOn D
+  unfoldable pub alone_opening : After → (number : ℕ) → Option (List ℕ) → Device → Call → Local → D → AloneOn D
   alone_opening then number name device c l x =
       choose (offers_of device c.aux1)
       (λ u.

@@ -6,63 +6,21 @@ use mathlib.Core.List.{List, [], ◌∷◌}
 use Prim.Native.Nat.{ℕ, zero, suc, ◌+◌, ◌-◌, ◌<◌, ◌≤◌}
 use native.Mathlib.Omega.{arith}
 use native.Mathlib.Numerals.{add-one}
-use borrow.Author.Tests.{le-leb, lt-leb, eq-eqb, ne_eqb}
-use lib.Dec.{eqb, leb}
-use lib.ListN.{length, get_or, set, length-set}
+use borrow.Author.Tests.{eq-eqb, ne_eqb}
+use lib.Dec.{eqb}
+use lib.ListN.{length, set, length-set}
 use lib.Seq.{get_or-set_same, get_or-set_other}
 use Rattle.base.specs.Choice.{pick, choose, or}
 use Rattle.base.proofs.Choices.{by_test, by_eq}
-use Rattle.image.specs.declared.Sector.{Sector}
-use Rattle.image.specs.declared.Sector.TheVariants.{Wrong, Holds}
-use Rattle.image.specs.Image.{next_of, data_count, bad_sector, sector_of}
-use Rattle.image.proofs.Laws.{wrong_bad, holds_good, holds_next}
+use Rattle.std.specs.Prelude.{Option, Some, None}
+use Rattle.image.specs.declared.Holding.{Holding}
+use Rattle.image.specs.Image.{next_of, data_count, holding, bad_sector}
+use Rattle.image.proofs.Laws.{wrong_bad, holds_good, holds_this}
 use Rattle.image.proofs.Standing.{good_there}
 use Rattle.chains.specs.Chains.{is_reserved, among, claims, stops_at, kept_in, is_free, free_in, last_or}
-use Rattle.chains.specs.Marks.{marked, mark_all, step_of, walked_over, walk_of}
+use Rattle.chains.specs.Marks.{marked, mark_all, step_of, Walked, walked_over, walk_of}
 use Rattle.chains.proofs.Truths.{or_right_false, at_most_one}
 use Rattle.chains.proofs.Claims.{claims_none, claims_both}
-
--- "1 to 3, 360 to 368", by the tests of the code
-module _ (sector : ℕ) where
-  pub below_one : sector < 1 → false ≡ is_reserved sector
-  below_one h = let a : sector < 360 = omega arith in rw (lt-leb 1 sector h, lt-leb 360 sector a)
-
-  module _ (l : 1 ≤ sector) where
-    pub to_three : sector ≤ 3 → true ≡ is_reserved sector
-    to_three h = rw (le-leb 1 sector l, le-leb sector 3 h)
-
-    module _ (m : 3 < sector) where
-      pub below_map : sector < 360 → false ≡ is_reserved sector
-      below_map h = rw (le-leb 1 sector l, lt-leb sector 3 m, lt-leb 360 sector h)
-
-      pub from_map : (t : Bool) → 360 ≤ sector → t ≡ leb sector 368 → t ≡ is_reserved sector
-      from_map t h e = rw (le-leb 1 sector l, lt-leb sector 3 m, le-leb 360 sector h) e
-
--- a sector by its mark
-module _ (image marks : List ℕ) (file sector : ℕ) (t : Bool) (r : t ≡ is_reserved sector) where
-  pub step_reserved : t ≡ true → Wrong ≡ step_of image marks file sector
-  unfolding step_of
-  step_reserved e = rw (sym r ∙ e)
-
-  module _ (e : t ≡ false) (mark : ℕ) (m : mark ≡ get_or marks sector 0) where
-    pub step_claimed : mark ≡ 1 → Wrong ≡ step_of image marks file sector
-    unfolding step_of
-    step_claimed c = rw (sym r ∙ e, eq-eqb (get_or marks sector 0) 1 (sym m ∙ c))
-
-    pub step_open : (found : Sector) → (mark ≡ 1 → ⊥) → found ≡ sector_of image 0 file sector → found ≡ step_of image marks file sector
-    unfolding step_of sector_of
-    step_open found n f = rw (sym r ∙ e, ne_eqb (get_or marks sector 0) 1 (λ q. n (m ∙ q))) f
-
-module _ (marks : List ℕ) (sector : ℕ) (t : Bool) (r : t ≡ is_reserved sector) where
-  pub free_reserved : t ≡ true → ◌≡◌ {A = ℕ} 0 (pick (is_free (marked marks) sector) 1 0)
-  free_reserved e = rw (sym r ∙ e)
-
-  module _ (e : t ≡ false) (mark : ℕ) (m : mark ≡ get_or marks sector 0) where
-    pub free_claimed : mark ≡ 1 → ◌≡◌ {A = ℕ} 0 (pick (is_free (marked marks) sector) 1 0)
-    free_claimed c = rw (sym r ∙ e, eq-eqb (get_or marks sector 0) 1 (sym m ∙ c))
-
-    pub free_open : (mark ≡ 1 → ⊥) → ◌≡◌ {A = ℕ} 1 (pick (is_free (marked marks) sector) 1 0)
-    free_open n = rw (sym r ∙ e, ne_eqb (get_or marks sector 0) 1 (λ q. n (m ∙ q)))
 
 -- the free sectors, one by one
 free_length : (t : Bool) (sector : ℕ) (rest : List ℕ) → length (choose t (λ u. sector ∷ rest) (λ u. rest)) ≡ pick t 1 0 + length rest
@@ -133,27 +91,31 @@ module _ (image marks₀ : List ℕ) (file first : ℕ) (marks : List ℕ) (at l
   pub walk_ended : at ≡ 0 → record { last = last; count = count; marks = marks } ≡ walk_of image marks₀ file first
   walk_ended z = sym walked_none ∙ stands (kept_none image file (marked marks) (719 - count) at z)
 
-  pub walk_spent : 719 ≤ count → record { last = last; count = count; marks = marks } ≡ walk_of image marks₀ file first
-  unfolding kept_in
-  walk_spent h = sym walked_none ∙ stands (let z : 719 - count ≡ 0 = omega arith in rw z)
+  abbrev counted : ℕ → Walked
+  counted n = record { last = last; count = n; marks = marks }
 
-  module _ (found : Sector) (f : found ≡ step_of image marks file at) where
-    pub walk_stopped : found ≡ Wrong → record { last = last; count = count; marks = marks } ≡ walk_of image marks₀ file first
+  pub walk_spent : count ≡ 719 → counted 719 ≡ walk_of image marks₀ file first
+  unfolding kept_in
+  walk_spent h = let z : 719 - count ≡ 0 = omega arith in sym (ap counted h) ∙ sym walked_none ∙ stands (rw z)
+
+  module _ (found : Option Holding) (f : found ≡ step_of image marks file at) where
+    abbrev holds : Holding
+    holds = holding (data_count image 0 at) (next_of image 0 at)
+
+    pub walk_stopped : found ≡ None → record { last = last; count = count; marks = marks } ≡ walk_of image marks₀ file first
     unfolding step_of
     walk_stopped w =
         sym walked_none
-        ∙ stands
-        (kept_stop image file (marked marks) (719 - count) at
-        (wrong_bad (stops_at image (marked marks) file at) (data_count image 0 at) (next_of image 0 at) (sym w ∙ f)))
+        ∙ stands (kept_stop image file (marked marks) (719 - count) at (wrong_bad (stops_at image (marked marks) file at) holds (sym w ∙ f)))
 
-    module _ (characters next : ℕ) (w : found ≡ Holds characters next) (l : length marks ≡ 720) (n : at ≡ 0 → ⊥) (h : count < 719) where
+    module _ (held : Holding) (w : found ≡ Some held) (l : length marks ≡ 720) (n : at ≡ 0 → ⊥) (h : count < 719) where
       passes : stops_at image (marked marks) file at ≡ false
       unfolding step_of
-      passes = holds_good (stops_at image (marked marks) file at) (data_count image 0 at) (next_of image 0 at) characters next (sym w ∙ f)
+      passes = holds_good (stops_at image (marked marks) file at) holds held (sym w ∙ f)
 
-      links : next ≡ next_of image 0 at
+      links : held.next ≡ next_of image 0 at
       unfolding step_of
-      links = holds_next (stops_at image (marked marks) file at) (data_count image 0 at) (next_of image 0 at) characters next (sym w ∙ f)
+      links = ap (λ (x : Holding). x.next) (holds_this (stops_at image (marked marks) file at) holds held (sym w ∙ f))
 
       inside : at < length marks
       inside = let p = passed_there image (marked marks) file at passes in omega arith
@@ -162,7 +124,7 @@ module _ (image marks₀ : List ℕ) (file first : ℕ) (marks : List ℕ) (at l
       unfolding last_or mark_all
       onward rest = let z : count + suc (length rest) ≡ count + 1 + length rest = omega (arith, add-one (length rest)) in rw z
 
-      turned : walked_over at (count + 1) (set marks at 1) (kept_in image file (marked (set marks at 1)) (719 - (count + 1)) next) ≡ walk_of image marks₀ file first
+      turned : walked_over at (count + 1) (set marks at 1) (kept_in image file (marked (set marks at 1)) (719 - (count + 1)) held.next) ≡ walk_of image marks₀ file first
       turned =
           let z : 719 - count ≡ suc (719 - (count + 1)) = omega (arith, add-one (719 - (count + 1))) in
           let k = kept_on image file (marked marks) (719 - (count + 1)) at n passes in
@@ -170,7 +132,7 @@ module _ (image marks₀ : List ℕ) (file first : ℕ) (marks : List ℕ) (at l
           (sym (onward (kept_in image file (claims (at ∷ []) (marked marks)) (719 - (count + 1)) (next_of image 0 at))) ∙ (rw (z, k) at e))
 
       pub walk_turn : (after : List ℕ) → after ≡ set marks at 1
-          → walked_over at (count + 1) after (kept_in image file (marked after) (719 - (count + 1)) next) ≡ walk_of image marks₀ file first
+          → walked_over at (count + 1) after (kept_in image file (marked after) (719 - (count + 1)) held.next) ≡ walk_of image marks₀ file first
       walk_turn after m = rw m turned
 
 pub marks_length : (marks after : List ℕ) (at : ℕ) → after ≡ set marks at 1 → length marks ≡ 720 → length after ≡ 720

@@ -1,10 +1,9 @@
 -- How a walk remembers what is claimed: a byte for each of the sectors 0 to 719, 1 where it is claimed; and what it leaves.
 -- Assumes nothing.
-use Rattle.std.specs.Prelude.{Bool, List, [], ◌∷◌, ℕ, ◌+◌, eqb, length, get_or, set}
+use Rattle.std.specs.Prelude.{Bool, List, [], ◌∷◌, ℕ, ◌+◌, eqb, length, get_or, set, Option, Some, None}
 use Rattle.base.specs.Choice.{pick}
-use Rattle.image.specs.declared.Sector.{Sector}
-use Rattle.image.specs.declared.Sector.TheVariants.{Wrong, Holds}
-use Rattle.image.specs.Image.{next_of, data_count}
+use Rattle.image.specs.declared.Holding.{Holding}
+use Rattle.image.specs.Image.{next_of, data_count, holding}
 use Rattle.chains.specs.declared.Walk.{Walk}
 use Rattle.chains.specs.Chains.{stops_at, kept_in, last_or}
 
@@ -16,8 +15,8 @@ mark_all [] marks = marks
 mark_all (sector ∷ sectors) marks = mark_all sectors (set marks sector 1)
 
 -- what a sector holds for a file that may keep it
-unfoldable pub step_of : (image : List ℕ) → (marks : List ℕ) → (file sector : ℕ) → Sector
-step_of image marks file sector = pick (stops_at image (marked marks) file sector) Wrong (Holds (data_count image 0 sector) (next_of image 0 sector))
+unfoldable pub step_of : (image : List ℕ) → (marks : List ℕ) → (file sector : ℕ) → Option Holding
+step_of image marks file sector = pick (stops_at image (marked marks) file sector) None (Some (holding (data_count image 0 sector) (next_of image 0 sector)))
 
 -- a walk: the last sector that is kept, 0 where none is, how many are, and the marks then
 pub record Walked : Type 0 where

@@ -7,7 +7,7 @@ ghost use Rattle.base.specs.Choice.{pick};
 ghost use Rattle.chains.specs.Chains.{is_reserved, all_free, is_free};
 ghost use Rattle.chains.specs.Marks.{marked, step_of, as_walked, walk_of};
 
-use image::Sector;
+use image::Holding;
 
 // The marks of an image.
 pub const MARKS: usize = 720;
@@ -23,27 +23,16 @@ pub struct Walk {
 fn reserved(sector: u16) -> bool
     ensures { result ≡ is_reserved sector }
 {
-    if sector < 1 {
-        return false;
-    }
-    if sector <= 3 {
-        return true;
-    }
-    if sector < 360 {
-        return false;
-    }
-    sector <= 368
+    matches!(sector, 1..=3 | 360..=368)
 }
 
 // What a sector holds for a file that may keep it: nothing where the walk stops.
-fn step(image: &[u8], marks: &[u8], file: u8, sector: u16) -> Sector
+#[tactic(auto, unfolding(crate::specs::Marks::step_of, image::specs::Image::sector_of))]
+fn step(image: &[u8], marks: &[u8], file: u8, sector: u16) -> Option<Holding>
     ensures { result ≡ step_of image.now marks.now file sector }
 {
-    if reserved(sector) {
-        return Sector::Wrong;
-    }
-    if base::byte_at(marks, sector as usize) == 1 {
-        return Sector::Wrong;
+    if reserved(sector) || base::byte_at(marks, sector as usize) == 1 {
+        return None;
     }
     image::sector_of(image, 0, file, sector)
 }
@@ -55,41 +44,32 @@ fn mark(marks: &mut [u8], sector: u16)
 }
 
 // The sectors that a file keeps from its first on are marked.
-pub fn keep(image: &[u8], marks: &mut [u8], file: u8, first: u16) -> Walk
-    requires { length marks.old ≡ 720 }
+pub fn keep(image: &[u8], marks: &mut [u8; MARKS], file: u8, first: u16) -> Walk
     ensures { as_walked result marks.new ≡ walk_of image.now marks.old file first }
 {
     let mut at = first;
     let mut last: u16 = 0;
-    let mut count: u16 = 0;
-    while count < 719 {
+    for count in 0..719 {
         if at == 0 {
             return Walk { last, count };
         }
-        let found = step(image, marks, file, at);
-        match found {
-            Sector::Wrong => {
-                return Walk { last, count };
-            }
-            Sector::Holds(characters, next) => {
+        match step(image, marks, file, at) {
+            None => return Walk { last, count },
+            Some(held) => {
                 mark(marks, at);
                 last = at;
-                at = next;
-                count += 1;
+                at = held.next;
             }
         }
     }
-    Walk { last, count }
+    Walk { last, count: 719 }
 }
 
 // 1 for a sector that is neither reserved nor claimed.
 pub fn free(marks: &[u8], sector: u16) -> u8
     ensures { result ≡ pick (is_free (marked marks.now) sector) 1 0 }
 {
-    if reserved(sector) {
-        return 0;
-    }
-    if base::byte_at(marks, sector as usize) == 1 {
+    if reserved(sector) || base::byte_at(marks, sector as usize) == 1 {
         return 0;
     }
     1
@@ -100,11 +80,8 @@ pub fn count_free(marks: &[u8]) -> u16
     ensures { result ≡ length (all_free (marked marks.now)) }
 {
     let mut count: u16 = 0;
-    let mut sector: u16 = 1;
-    while sector < 720 {
-        let one = free(marks, sector);
-        count += one as u16;
-        sector += 1;
+    for sector in 1..720 {
+        count += free(marks, sector) as u16;
     }
     count
 }

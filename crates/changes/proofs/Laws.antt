@@ -1,51 +1,16 @@
 -- What the functions over a list of changes leave, from what they test and what their callees ensure.
 -- Assumes nothing.
-use mathlib.Core.Path.{◌≡◌, ◌∙◌, refl, sym, ap}
+use mathlib.Core.Path.{◌≡◌, ◌∙◌, refl, ap}
 use mathlib.Core.List.{List, [], ◌∷◌, ◌++◌}
-use Prim.Native.Nat.{ℕ, suc, ◌+◌, ◌-◌, ◌*◌, ◌/◌, ◌%◌, ◌<◌, ◌≤◌}
+use Prim.Native.Nat.{ℕ, suc, ◌+◌, ◌-◌, ◌*◌, ◌<◌, ◌≤◌}
 use native.Mathlib.Omega.{arith}
 use native.Mathlib.Numerals.{add-one}
-use borrow.Author.Tests.{eq-eqb, ne_eqb}
 use lib.Dec.{eqb}
-use lib.ListN.{length, get_or, set, take, length-append}
-use lib.Seq.{sets, length-take-le, take-suc, take_all}
+use lib.ListN.{length, length-append}
+use lib.Seq.{sets}
 use Rattle.base.proofs.Choices.{by_test}
 use Rattle.base.proofs.Parts.{sets_more}
-use Rattle.image.specs.Image.{sector_place, sector_byte}
-use Rattle.changes.specs.Changes.{Change, change_to, differing, change_bytes, list_bytes, Listed, as_listed, listed_on, replayed, replay_in, replay_list}
-
--- the loop that lays bytes
-module _ (list₀ bytes : List ℕ) (at : ℕ) (l : length bytes ≡ 5) where
-  pub lay_turn : (list out : List ℕ) (i : ℕ) → i < 5 → list ≡ sets list₀ at (take i bytes) → out ≡ set list (at + i) (get_or bytes i 0)
-      → out ≡ sets list₀ at (take (i + 1) bytes)
-  lay_turn list out i h e o =
-      let b : List ℕ = get_or bytes i 0 ∷ [] in
-      let n : i < length bytes = omega arith in
-      let m : at + length (take i bytes) ≡ at + i = ap (λ (k : ℕ). at + k) (length-take-le i bytes (omega arith)) in
-      o ∙ ap (λ (p : List ℕ). set p (at + i) (get_or bytes i 0)) e
-      ∙ ap (λ (k : ℕ). sets (sets list₀ at (take i bytes)) k b) (sym m)
-      ∙ sets_more list₀ (take i bytes) b at
-      ∙ ap (sets list₀ at) (sym (take-suc bytes i 0 n) ∙ ap (λ (k : ℕ). take k bytes) (sym (add-one i)))
-
-  pub laid : (list : List ℕ) (i : ℕ) → 5 ≤ i → list ≡ sets list₀ at (take i bytes) → list ≡ sets list₀ at bytes
-  laid list i h e = e ∙ ap (sets list₀ at) (take_all i bytes (omega arith))
-
--- a byte that is right, and one that is not
-module _ (image list : List ℕ) (number sector place new old : ℕ) (o : old ≡ sector_byte image 0 sector place) where
-  pub note_same : old ≡ new → as_listed number list ≡ listed_on number list (differing (change_to image sector place new ∷ []))
-  unfolding differing list_bytes
-  note_same e = let z : number + 0 ≡ number = omega arith in rw (eq-eqb (sector_byte image 0 sector place) new (sym o ∙ e), z)
-
-  pub note_other : (out : List ℕ) → (old ≡ new → ⊥) → out ≡ sets list (5 * number) (sector % 256 ∷ sector / 256 ∷ place ∷ old ∷ new ∷ [])
-      → as_listed (number + 1) out ≡ listed_on number list (differing (change_to image sector place new ∷ []))
-  unfolding differing list_bytes
-  note_other out n e = rw (ne_eqb (sector_byte image 0 sector place) new (λ q. n (o ∙ q)), e, o)
-
--- one change from the list's bytes
-pub made : (image out list : List ℕ) (from low high place new sector : ℕ) → low ≡ get_or list (5 * from) 0 → high ≡ get_or list (5 * from + 1) 0
-    → place ≡ get_or list (5 * from + 2) 0 → new ≡ get_or list (5 * from + 4) 0 → sector ≡ low + 256 * high
-    → out ≡ set image (sector_place 0 sector + place) new → out ≡ replayed list from image
-made image out list from low high place new sector a b p n s e = rw (s, a, b, p, n) at e
+use Rattle.changes.specs.Changes.{Change, differing, change_bytes, list_bytes, Listed, as_listed, listed_on, replayed, replay_in, replay_list}
 
 -- the loop over them
 pub replay_none : (image list : List ℕ) (number : ℕ) → replay_in list (number - 0) 0 image ≡ replay_list list number image

@@ -10,19 +10,9 @@ ghost use Rattle.changes.specs.Changes.{change_to, differing, as_listed, listed_
 // The bytes of a list: room for 512 changes.
 pub const LIST: usize = 2560;
 
-// The five bytes of a change behind so many others.
-fn lay(list: &mut [u8], number: u16, bytes: [u8; 5])
-    ensures { list.new ≡ sets list.old (5 * number) bytes }
-{
-    let at = 5 * number as usize;
-    let mut i: usize = 0;
-    while i < 5 {
-        base::set_byte(list, at + i, bytes[i]);
-        i += 1;
-    }
-}
-
-// A byte of the image that shall be this one is listed, behind so many others, if it is not; how many there are then.
+// A byte of the image that shall be this one is listed, behind so many others, if it is not; how many there are then. A struct that held
+// the list and its number would ask of each function that notes one clause more, that it holds the same reference.
+#[tactic(auto, unfolding(crate::specs::Changes::differing, crate::specs::Changes::list_bytes))]
 pub fn note(image: &[u8], list: &mut [u8], number: u16, sector: u16, place: u8, new: u8) -> u16
     requires { number < 512 }
     ensures { as_listed result list.new ≡ listed_on number list.old (differing (change_to image.now sector place new ∷ [])) }
@@ -31,9 +21,8 @@ pub fn note(image: &[u8], list: &mut [u8], number: u16, sector: u16, place: u8, 
     if old == new {
         return number;
     }
-    let low = (sector % 256) as u8;
-    let high = (sector / 256) as u8;
-    lay(list, number, [low, high, place, old, new]);
+    let [low, high] = sector.to_le_bytes();
+    base::lay(list, 5 * number as u32, &[low, high, place, old, new]);
     number + 1
 }
 
@@ -42,11 +31,9 @@ fn make(image: &mut [u8], list: &[u8], from: u16)
     ensures { image.new ≡ replayed list.now from image.old }
 {
     let at = 5 * from as usize;
-    let low = base::byte_at(list, at);
-    let high = base::byte_at(list, at + 1);
+    let sector = base::word_at(list, at as u32);
     let place = base::byte_at(list, at + 2);
     let new = base::byte_at(list, at + 4);
-    let sector = low as u16 + 256 * high as u16;
     image::set_sector_byte(image, 0, sector, place, new);
 }
 
@@ -54,9 +41,7 @@ fn make(image: &mut [u8], list: &[u8], from: u16)
 pub fn replay(image: &mut [u8], list: &[u8], number: u16)
     ensures { image.new ≡ replay_list list.now number image.old }
 {
-    let mut from: u16 = 0;
-    while from < number {
+    for from in 0..number {
         make(image, list, from);
-        from += 1;
     }
 }

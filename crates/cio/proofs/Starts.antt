@@ -1,13 +1,14 @@
 -- What each function of a start returns and leaves is what its definition says, whatever the device.
 -- Assumes nothing.
+use mathlib.Core.List.{List}
 use mathlib.Core.Path.{◌≡◌, ◌∙◌, ap}
 use mathlib.Core.Bool.{Bool, true, false}
 use Prim.Native.Nat.{ℕ}
+use Rattle.std.specs.Prelude.{Option}
 use Rattle.handler.specs.declared.Asked.{Asked}
 use Rattle.handler.specs.declared.Done.{Done}
 use Rattle.handler.specs.declared.Done.TheVariants as done
 use Rattle.handler.specs.Answer.{answer, done_status}
-use Rattle.names.specs.declared.Name.{Name}
 use Rattle.handler.specs.Acts.{Acts, asks_open, asks_on}
 use Rattle.blocks.specs.declared.Device.{Device}
 use Rattle.blocks.specs.declared.ControlBlock.{ControlBlock}
@@ -73,7 +74,7 @@ module _ {D : Type 0} (A : Acts D) (then : After) (x : D) where
   opened_refused o z status p e = rw (← p, e)
 
 module _ {D : Type 0} (H : Asked → Acts D) (port : ℕ) (device : Device) (call : Call) (b : ControlBlock) (x : D) where
-  module _ (then : After) (number : ℕ) (name : Name) (o : Bool) (p : o ≡ offers_of device call.aux1) where
+  module _ (then : After) (number : ℕ) (name : Option (List ℕ)) (o : Bool) (p : o ≡ offers_of device call.aux1) where
     pub open_offered : (d : Done) (y : D) (settled : ControlBlock) (status : ℕ) → o ≡ true
         → answer d y ≡ opened_of (H (asks_open port call.iocb number call.aux1 call.aux2 name)) then x
         → settled ≡ block_after d then (open_block device number call.aux1) b → status ≡ done_status d
@@ -105,7 +106,7 @@ module _ {D : Type 0} (H : Asked → Acts D) (port : ℕ) (job : Job) (b : Contr
     start_special d y status e q s = rw (e, s, ← a, ← q)
 
   module _ (c : ControlBlock) (y : D) (next : Next) where
-    pub start_open : (then : After) (number : ℕ) (name : Name) → job.work ≡ work.Open then number name → begun c y (out_of next) ≡ opening_of H port then number name job.device job.call b x → begun c y (out_of next) ≡ job_begun H port job b x
+    pub start_open : (then : After) (number : ℕ) (name : Option (List ℕ)) → job.work ≡ work.Open then number name → begun c y (out_of next) ≡ opening_of H port then number name job.device job.call b x → begun c y (out_of next) ≡ job_begun H port job b x
     unfolding work_of
     start_open then number name e q = q ∙ rw e
 

@@ -1,13 +1,14 @@
 -- A start over a whole, by a handler that takes its part out and puts it back, is the start of the part, put back.
 -- Assumes nothing.
+use mathlib.Core.List.{List}
 use mathlib.Core.Path.{◌≡◌, ◌∙◌, refl, sym, ap}
 use mathlib.Core.Bool.{Bool, true, false}
 use Prim.Native.Nat.{ℕ}
+use Rattle.std.specs.Prelude.{Option}
 use Rattle.handler.specs.declared.Asked.{Asked}
 use Rattle.handler.specs.declared.Done.{Done}
 use Rattle.handler.specs.declared.Done.TheVariants as done
 use Rattle.handler.specs.Answer.{Answer, answer, seen, done_status}
-use Rattle.names.specs.declared.Name.{Name}
 use Rattle.handler.specs.Acts.{Acts, asks_open, asks_on, through}
 use Rattle.blocks.specs.declared.Device.{Device}
 use Rattle.blocks.specs.declared.ControlBlock.{ControlBlock}
@@ -56,13 +57,13 @@ module _ {D E : Type 0} (get : E → D) (put : E → D → E) where
       whole asked = through get put (H asked)
 
       -- an opening's own, and what SPECIAL makes of it, are got back
-      abbrev pub Opens : ℕ → Name → Type 0
+      abbrev pub Opens : ℕ → Option (List ℕ) → Type 0
       Opens number name =
           let A = H (asks_open port call.iocb number call.aux1 call.aux2 name) in
           let y = (A.opens (get s)).leaves in
           Got-back y × Got-back (A.specials y).leaves
 
-      open_through : (then : After) (number : ℕ) (name : Name) (o : Bool) → o ≡ offers_of device call.aux1 → Opens number name
+      open_through : (then : After) (number : ℕ) (name : Option (List ℕ)) (o : Bool) → o ≡ offers_of device call.aux1 → Opens number name
           → opening_of whole port then number name device call b s ≡ seen_begun (put s) (opening_of H port then number name device call b (get s))
       unfolding opening_of
       open_through then number name true e k =

@@ -1,13 +1,12 @@
 -- Document 01: "A ready port's first tick with the group free starts the request and does all but transfers."
 -- Assumes nothing.
-use Rattle.std.specs.Prelude.{Bool, List, ℕ, ◌+◌, leb}
+use Rattle.std.specs.Prelude.{Bool, List, ℕ, ◌+◌, leb, Option}
 use Rattle.std.proofs.lemmas.List.Edits.{sets}
 use Rattle.base.specs.Choice.{pick, choose}
 use Rattle.handler.specs.declared.Done.{Done}
 use Rattle.handler.specs.declared.Done.TheVariants as done
 use Rattle.handler.specs.declared.Asked.{Asked}
 use Rattle.handler.specs.Answer.{done_status, Answer, answer}
-use Rattle.names.specs.declared.Name.{Name}
 use Rattle.handler.specs.Acts.{Acts, asks_open, asks_on}
 use Rattle.blocks.specs.declared.Device.{Device}
 use Rattle.blocks.specs.declared.Kind.{Kind}
@@ -109,7 +108,7 @@ prepared_out (done.Refused status) kind device call = over_out (done_status (don
 -- H a device's handler, port the number of the port that asks
 module _ {D : Type 0} (H : Asked → Acts D) (port : ℕ) where
   -- "then with the group held AUX1, mode, handler": "$84 .. AUX1 not offered"
-  unfoldable pub opening_of : After → (number : ℕ) → (name : Name) → Device → Call → ControlBlock → D → Begun D
+  unfoldable pub opening_of : After → (number : ℕ) → (name : Option (List ℕ)) → Device → Call → ControlBlock → D → Begun D
   opening_of then number name device call block x =
       choose (offers_of device call.aux1)
       (λ u.

@@ -10,7 +10,7 @@ ghost use Rattle.cio.specs.Start.{then_of, opened_of, block_after, prepared_out,
 
 use blocks::{BlockState, ControlBlock, Device, Kind, Run};
 use handler::{Asked, Done};
-use names::Name;
+use names::Pattern;
 use plan::{After, Job, Work};
 use transfer::Next;
 use wire::Call;
@@ -114,7 +114,7 @@ fn opening(
     port: u8,
     after: After,
     number: u8,
-    name: Name,
+    name: Option<Pattern>,
     job: Job,
     block: ControlBlock,
     numbers: &mut [u8],

@@ -5,7 +5,7 @@
 -- `firmware/proofs/Decided.antt`.
 -- Assumes nothing.
 use Rattle.std.specs.Prelude.{◌≡◌, Bool, true, List, ◌++◌, ℕ, ◌*◌, ◌<◌, length, take, replicate}
-use Rattle.names.specs.declared.Name.{Name}
+use Rattle.names.specs.Names.{Eleven}
 use Rattle.handler.specs.declared.Asked.{Asked}
 use Rattle.image.specs.Image.{images_length}
 use Rattle.image.specs.Chain.{ChainRule, FileBytes}
@@ -121,7 +121,7 @@ pub record Demands : Type 0 where
   -- Document 02, Ask 12: "$03 and $88 come as from tape.", of each read of D that gives a character
   pub disk_warns : (place images : List ℕ) → length place ≡ place_length → ReadWarns place images
   -- "The first match opens, none is $AA": what an opening answers and leaves at its block's place
-  pub opens : (asked : Asked) (place images : List ℕ) → length place ≡ place_length → OpenRule asked place images
+  pub opens : (asked : Asked) (place images : List ℕ) → Eleven asked.name → length place ≡ place_length → OpenRule asked place images
   -- each chain has its bytes, and a file's reads give them in order: "next or first 0 ends the file"; "A link above 719, a wrong file
   -- number, a data count above 125 or a 720th sector in one chain gives $A4 to the read that meets it."
   pub chains : (images : List ℕ) (unit file first : ℕ) → ChainRule images unit file 719 first
@@ -130,7 +130,7 @@ pub record Demands : Type 0 where
   pub file_gets : (c : Call) (l : Local) (s : Groups) (unit file first : ℕ) (bytes : List ℕ) → FitGroups s → unit < 4 → GetsFile c l s unit file first
       → FileBytes s.disk.images unit file first bytes → FileGets c l s bytes
   -- "the directory lists every match once in directory order", and then the free-sector record
-  pub directories : (images : List ℕ) (unit : ℕ) (name : Name) → name.good ≡ true → DirectoryGives images unit name
+  pub directories : (images : List ℕ) (unit : ℕ) (pattern : List ℕ) → length pattern ≡ 11 → DirectoryGives images unit pattern
   -- diskettes are read: no call changes an image
   pub images_kept : {b : Buffers} {r : Returned} → AnyCall b r → r.buffers.images ≡ b.images
   -- Document 02, Ask 13: the diskette doctor, of every image and list that it is lent: what it answers, lists and leaves; and the sectors

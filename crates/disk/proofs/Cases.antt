@@ -3,13 +3,15 @@
 use mathlib.Core.Path.{◌≡◌, ◌∙◌, refl, sym, subst}
 use mathlib.Core.Bool.{true, false}
 use mathlib.Core.List.{List, [], ◌∷◌}
-use Prim.Native.Nat.{ℕ, ◌+◌, ◌-◌, ◌<◌, ◌≤◌}
+use Prim.Native.Nat.{ℕ, suc, ◌+◌, ◌-◌, ◌<◌, ◌≤◌}
+use native.Mathlib.Numerals.{add-one}
 use native.Mathlib.Omega.{arith}
-use lib.ListN.{length, get_or}
-use lib.Seq.{sets, take_all, length-sets}
+use lib.ListN.{length, get_or, set}
+use lib.Seq.{sets, take_all, length-sets, get_or-set_other}
 use Rattle.base.proofs.Choices.{pick_lt, choose_go, choose_eq, choose_lt}
 use Rattle.base.proofs.Parts.{part_same}
 use Rattle.base.proofs.Readers.{all_firsts}
+use Rattle.std.specs.Prelude.{Option, Some, None}
 use Rattle.handler.specs.Answer.{Answer, answer}
 use Rattle.handler.specs.declared.Asked.{Asked}
 use Rattle.handler.specs.declared.Got.{Got}
@@ -23,7 +25,7 @@ use Rattle.image.proofs.Standing.{match_low, match_onward}
 use Rattle.image.specs.Place.{unit_of, is_directory, entry_of, place_of, sector_in, passed_in, pattern_in}
 use Rattle.listing.specs.Listing.{listed_entry, listed_from, directory_read}
 use Rattle.files.specs.Files.{moved_to, given_at, file_read}
-use Rattle.disk.specs.Disk.{file_place, directory_place, file_opened, place_opened, place_read}
+use Rattle.disk.specs.Disk.{file_place, directory_place, file_opened, opened_with, place_opened, place_read}
 
 -- where a file's place stands
 abbrev pub stand_at : (p images : List ℕ) → Stand
@@ -55,16 +57,20 @@ module _ (P : Answer Got (List ℕ) → Type 0) (p images : List ℕ) where
 
 -- an opening
 module _ (P : Answer Done (List ℕ) → Type 0) (asked : Asked) (p images : List ℕ) where
-  pub by_open : (asked.aux1 ≡ 6 → P (answer Success (sets p 0 (directory_place (asked.number - 1) asked.name))))
-      → ((m : ℕ) → (asked.aux1 ≡ 6 → ⊥) → m < 64 → m ≡ match_from images (asked.number - 1) asked.name 0
+  module _ (f : (pattern : List ℕ) → asked.name ≡ Some pattern → asked.aux1 ≡ 6 → P (answer Success (sets p 0 (directory_place (asked.number - 1) pattern))))
+      (g : (pattern : List ℕ) → asked.name ≡ Some pattern → (m : ℕ) → (asked.aux1 ≡ 6 → ⊥) → m < 64 → m ≡ match_from images (asked.number - 1) pattern 0
       → P (answer Success (sets p 0 (file_place (asked.number - 1) m (first_of images (asked.number - 1) m)))))
-      → P (answer (Refused 0xAA) p) → P (answer (Refused 0xA5) p) → P (place_opened asked p images)
-  unfolding place_opened file_opened
-  by_open f g h k =
-      choose_go P asked.name.good _ _
-      (λ t. choose_eq P asked.aux1 6 _ _ f
-      (λ n. pick_lt P (match_from images (asked.number - 1) asked.name 0) 64 _ _ (λ l. g (match_from images (asked.number - 1) asked.name 0) n l refl) (λ l. h)))
-      (λ t. k)
+      (h : P (answer (Refused 0xAA) p)) (k : P (answer (Refused 0xA5) p)) where
+    by_name : (name : Option (List ℕ)) → asked.name ≡ name → P (opened_with asked name p images)
+    unfolding file_opened
+    by_name None e = k
+    by_name (Some pattern) e =
+        choose_eq P asked.aux1 6 _ _ (f pattern e)
+        (λ n. let m = match_from images (asked.number - 1) pattern 0 in pick_lt P m 64 _ _ (λ l. g pattern e m n l refl) (λ l. h))
+
+    pub by_open : P (place_opened asked p images)
+    unfolding place_opened
+    by_open = by_name asked.name refl
 
 -- the entry whose record is read
 module _ (p images : List ℕ) (h : entry_of p < 65) where
@@ -118,6 +124,41 @@ module _ (sector place passed : ℕ) where
 
     pub moved_passed : passed_in (moved_to p sector place passed) ≡ passed
     moved_passed = (moved_all p e).1.1.1.1.1
+
+-- a directory's place as its opening leaves it
+sets_behind : (bytes p : List ℕ) (at k : ℕ) → k < at → get_or (sets p at bytes) k 0 ≡ get_or p k 0
+sets_behind [] p at k h = refl
+sets_behind (byte ∷ bytes) p at k h = sets_behind bytes (set p at byte) (suc at) k (omega (arith, add-one at)) ∙ get_or-set_other p at k byte 0 (λ e. omega arith)
+
+module _ (unit : ℕ) (pattern : List ℕ) where
+  abbrev pub listing_at : List ℕ → List ℕ
+  listing_at p = sets p 0 (directory_place unit pattern)
+
+  abbrev Begun : List ℕ → Type 0
+  Begun p = (get_or (listing_at p) 0 0 ≡ unit) × ((get_or (listing_at p) 1 0 ≡ 1) × ((get_or (listing_at p) 2 0 ≡ 0) × (get_or (listing_at p) 3 0 ≡ 0)))
+
+  begun_all : (p : List ℕ) → length p ≡ 15 → Begun p
+  begun_all p e =
+      fifteen Begun
+      (λ a b c d e f g h i j k l m n o. let q = unit ∷ 1 ∷ 0 ∷ 0 ∷ e ∷ f ∷ g ∷ h ∷ i ∷ j ∷ k ∷ l ∷ m ∷ n ∷ o ∷ [] in
+      (sets_behind pattern q 4 0 (omega arith), (sets_behind pattern q 4 1 (omega arith), (sets_behind pattern q 4 2 (omega arith), sets_behind pattern q 4 3 (omega arith)))))
+      p e
+
+  module _ (p : List ℕ) (e : length p ≡ 15) where
+    pub listing_long : length (listing_at p) ≡ 15
+    listing_long = length-sets p 0 (directory_place unit pattern) ∙ e
+
+    pub listing_unit : unit_of (listing_at p) ≡ unit
+    listing_unit = (begun_all p e).0
+
+    pub listing_kind : get_or (listing_at p) 1 0 ≡ 1
+    listing_kind = (begun_all p e).1.0
+
+    pub listing_entry : entry_of (listing_at p) ≡ 0
+    listing_entry = (begun_all p e).1.1.0
+
+    pub listing_place : place_of (listing_at p) ≡ 0
+    listing_place = (begun_all p e).1.1.1
 
 -- turned to another character of a directory
 module _ (entry place : ℕ) where

@@ -34,7 +34,7 @@ use Rattle.files.specs.Files.{moved_to, before_stand, given_at}
 use Rattle.disk.specs.Disk.{places_length, file_place, directory_place, place_opened, place_read, DiskGroup, place_number, place_at, disk_acts}
 use Rattle.disk.specs.Fit.{file_fits, directory_fits, place_fits}
 use Rattle.disk.specs.Left.{at_most, left_at}
-use Rattle.disk.proofs.Cases.{stand_at, by_file, by_listed, by_directory, by_read, by_open, listed_from_lem, listed_most, all_stored, moved_unit, moved_kind, moved_entry, moved_place, moved_passed, turned_to, turned_unit, turned_kind, turned_entry, turned_place}
+use Rattle.disk.proofs.Cases.{stand_at, by_file, by_listed, by_directory, by_read, by_open, listed_from_lem, listed_most, all_stored, listing_at, listing_unit, listing_kind, listing_entry, listing_place, moved_unit, moved_kind, moved_entry, moved_place, moved_passed, turned_to, turned_unit, turned_kind, turned_entry, turned_place}
 
 -- numbers
 high_of : (s : ℕ) → (s ≡ 0xA5) ⊎ (s ≡ 0xAA) → 0x80 ≤ s
@@ -85,8 +85,8 @@ module _ (p images : List ℕ) where
 
   pub open_length : (asked : Asked) → length (place_opened asked p images).leaves ≡ length p
   open_length asked =
-      by_open AsLong asked p images (λ a. length-sets p 0 (directory_place (asked.number - 1) asked.name))
-      (λ m a l e. length-sets p 0 (file_place (asked.number - 1) m (first_of images (asked.number - 1) m))) refl refl
+      by_open AsLong asked p images (λ pattern g a. length-sets p 0 (directory_place (asked.number - 1) pattern))
+      (λ pattern g m a l e. length-sets p 0 (file_place (asked.number - 1) m (first_of images (asked.number - 1) m))) refl refl
 
 -- of all places and the images
 module _ (asked : Asked) (g : DiskGroup) where
@@ -160,7 +160,7 @@ module _ (p images : List ℕ) where
 
   opened_as : (asked : Asked) (s : ℕ) → OpenedAs s (place_opened asked p images)
   opened_as asked s =
-      by_open (OpenedAs s) asked p images (λ a e. let z : ◌≡◌ {A = ℕ} 0 1 = cc in absurd (omega arith)) (λ m a l q e. let z : ◌≡◌ {A = ℕ} 0 1 = cc in absurd (omega arith))
+      by_open (OpenedAs s) asked p images (λ pattern g a e. let z : ◌≡◌ {A = ℕ} 0 1 = cc in absurd (omega arith)) (λ pattern g m a l q e. let z : ◌≡◌ {A = ℕ} 0 1 = cc in absurd (omega arith))
       (λ e. (refl, inr (cc))) (λ e. (refl, inl (cc)))
 
   pub open_refused : (asked : Asked) (s : ℕ) → (place_opened asked p images).says ≡ Refused s → (place_opened asked p images).leaves ≡ p
@@ -238,9 +238,10 @@ module _ (asked : Asked) (p images : List ℕ) (l : length p ≡ 15) where
   pub open_fits : (place_opened asked p images).says ≡ Success → place_fits asked.number asked.aux1 (place_opened asked p images).leaves ≡ true
   open_fits =
       by_open OpensFit asked p images
-      (λ a e. let d = directory_place (asked.number - 1) asked.name in
-      rw (all_stored p d l refl) (fits_as_directory asked.number asked.aux1 d refl a refl refl))
-      (λ m a k q e. let d = file_place (asked.number - 1) m (first_of images (asked.number - 1) m) in
+      (λ pattern g a e. let unit = asked.number - 1 in
+      fits_as_directory asked.number asked.aux1 (listing_at unit pattern p) (listing_unit unit pattern p l) a (listing_kind unit pattern p l)
+      (rw (listing_entry unit pattern p l, listing_place unit pattern p l)))
+      (λ pattern g m a k q e. let d = file_place (asked.number - 1) m (first_of images (asked.number - 1) m) in
       rw (all_stored p d l refl) (fits_as_file asked.number asked.aux1 d refl a refl (numbers_file d (omega arith) (omega arith) (omega arith))))
       (λ e. let z : ◌≡◌ {A = ℕ} 0 1 = cc in absurd (omega arith)) (λ e. let z : ◌≡◌ {A = ℕ} 0 1 = cc in absurd (omega arith))
 

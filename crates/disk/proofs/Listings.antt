@@ -1,7 +1,6 @@
 -- A directory that is read from its OPEN gives the record of every match, in order, the free record, and then $88.
 -- Assumes nothing.
 use mathlib.Core.Path.{◌≡◌, ◌∙◌, refl, sym, ap, subst}
-use mathlib.Core.Bool.{Bool, true}
 use mathlib.Core.List.{List, [], ◌∷◌, ◌++◌, append-nil}
 use Prim.Native.Nat.{ℕ, zero, suc, ◌+◌, ◌<◌, ◌≤◌}
 use native.Mathlib.Nat.{add-suc}
@@ -13,7 +12,7 @@ use lib.ListN.{length, get_or, drop, drop_of_length-le}
 use lib.Seq.{length-sets, drop-cons}
 use Rattle.base.specs.Choice.{pick, choose}
 use Rattle.base.proofs.Choices.{by_lt, by_test, by_eq}
-use Rattle.names.specs.declared.Name.{Name}
+use Rattle.base.proofs.Readers.{all_firsts}
 use Rattle.handler.specs.Answer.{Answer, answer}
 use Rattle.handler.proofs.InOrder.{gets_none, gets_one}
 use Rattle.handler.specs.declared.Got.{Got}
@@ -30,18 +29,18 @@ use Rattle.disk.proofs.Reading.{reads_directory}
 use Rattle.disk.proofs.Chains.{again}
 
 -- the place of a directory's block
-record DirectoryAt (unit : ℕ) (name : Name) (entry place : ℕ) (p : List ℕ) : Type 0 where
+record DirectoryAt (unit : ℕ) (pattern : List ℕ) (entry place : ℕ) (p : List ℕ) : Type 0 where
   long : length p ≡ 15
   kind : get_or p 1 0 ≡ 1
   unit_is : unit_of p ≡ unit
   entry_is : entry_of p ≡ entry
   place_is : place_of p ≡ place
-  pattern_is : pattern_in p ≡ name
+  pattern_is : pattern_in p ≡ pattern
 
-module _ (images : List ℕ) (unit : ℕ) (name : Name) where
+module _ (images : List ℕ) (unit : ℕ) (pattern : List ℕ) where
   -- the entry whose record is read: "the read of a record's first character looks for the match"
   abbrev listed_of : (entry place : ℕ) → ℕ
-  listed_of entry place = choose (eqb place 0) (λ u. match_from images unit name entry) (λ u. entry)
+  listed_of entry place = choose (eqb place 0) (λ u. match_from images unit pattern entry) (λ u. entry)
 
   -- the characters of a directory from a place of it on
   data Lists : (entry place : ℕ) → List ℕ → Type 0 where
@@ -52,8 +51,8 @@ module _ (images : List ℕ) (unit : ℕ) (name : Name) where
         → Lists entry place (record_byte images unit e place ∷ rest)
 
   -- one character
-  module _ (entry place : ℕ) (p : List ℕ) (f : DirectoryAt unit name entry place p) where
-    turned_at : (e q : ℕ) → DirectoryAt unit name e q (turned_to e q p)
+  module _ (entry place : ℕ) (p : List ℕ) (f : DirectoryAt unit pattern entry place p) where
+    turned_at : (e q : ℕ) → DirectoryAt unit pattern e q (turned_to e q p)
     turned_at e q = record {
       long = length-sets p 2 (e ∷ q ∷ []) ∙ f.long;
       kind = turned_kind e q p f.long ∙ f.kind;
@@ -106,22 +105,22 @@ module _ (images : List ℕ) (unit : ℕ) (name : Name) where
   -- all of them
   record Read-all (p bytes : List ℕ) : Type 0 where
     says_all : (reads images (length bytes) p).says ≡ last_warned bytes
-    at : DirectoryAt unit name 65 0 (reads images (length bytes) p).leaves
+    at : DirectoryAt unit pattern 65 0 (reads images (length bytes) p).leaves
 
   step_all : (p it : List ℕ) (rest : List ℕ) (byte : ℕ) (says : Got) → place_read p images ≡ answer says it → says ∷ last_warned rest ≡ last_warned (byte ∷ rest) → Read-all it rest → Read-all p (byte ∷ rest)
   step_all p it rest byte says e h w =
       let z = gets_one (λ (d : List ℕ). place_read d images) (length rest) p it says e in
       record {
         says_all = ap (λ (x : Answer (List Got) (List ℕ)). x.says) z ∙ ap (λ (l : List Got). says ∷ l) w.says_all ∙ h;
-        at = subst (DirectoryAt unit name 65 0) (sym (ap (λ (x : Answer (List Got) (List ℕ)). x.leaves) z)) w.at;
+        at = subst (DirectoryAt unit pattern 65 0) (sym (ap (λ (x : Answer (List Got) (List ℕ)). x.leaves) z)) w.at;
       }
 
-  read_all : {entry place : ℕ} {bytes : List ℕ} → Lists entry place bytes → (p : List ℕ) → DirectoryAt unit name entry place p → Read-all p bytes
+  read_all : {entry place : ℕ} {bytes : List ℕ} → Lists entry place bytes → (p : List ℕ) → DirectoryAt unit pattern entry place p → Read-all p bytes
   read_all {entry} {place} (none e) p f =
       let z = gets_none (λ (d : List ℕ). place_read d images) p in
       record {
         says_all = ap (λ (x : Answer (List Got) (List ℕ)). x.says) z;
-        at = subst (DirectoryAt unit name 65 0) (sym (ap (λ (x : Answer (List Got) (List ℕ)). x.leaves) z)) (subst (λ (n : ℕ). DirectoryAt unit name n 0 p) e f);
+        at = subst (DirectoryAt unit pattern 65 0) (sym (ap (λ (x : Answer (List Got) (List ℕ)). x.leaves) z)) (subst (λ (n : ℕ). DirectoryAt unit pattern n 0 p) e f);
       }
   read_all {entry} {place} (amid {rest = rest} e a b q l r) p f =
       step_all p (turned_to e (place + 1) p) rest (record_byte images unit e place) (got.Character (record_byte images unit e place)) (read_amid entry place p f e a q l)
@@ -153,52 +152,52 @@ module _ (images : List ℕ) (unit : ℕ) (name : Name) where
         subst (λ (t : List ℕ). Lists entry j (t ++ rest)) (sym (here j l))
         (amid e h few q (omega (arith, add-suc j (suc k), add-suc j k)) (walk k e (j + 1) few (rw (ne_eqb (j + 1) 0 n)) (omega (arith, add-suc j (suc k), add-suc (j + 1) k))))
 
-    from_first : (entry : ℕ) → entry ≤ 64 → match_from images unit name entry ≡ e → Lists entry 0 (record_of images unit e ++ rest)
+    from_first : (entry : ℕ) → entry ≤ 64 → match_from images unit pattern entry ≡ e → Lists entry 0 (record_of images unit e ++ rest)
     from_first entry h q =
         by_lt e 64
         (λ l. walk 17 entry 0 h q (rw (lt-ltb e 64 l)))
         (λ l. walk 16 entry 0 h q (rw (le-ltb e 64 l)))
 
   -- the free record
-  free_lists : (entry : ℕ) → entry ≤ 64 → 64 ≡ match_from images unit name entry → Lists entry 0 (free_record images unit)
+  free_lists : (entry : ℕ) → entry ≤ 64 → 64 ≡ match_from images unit pattern entry → Lists entry 0 (free_record images unit)
   free_lists entry h q = subst (Lists entry 0) (append-nil (free_record images unit)) (from_first 64 (omega arith) [] (none refl) entry h (sym q))
 
   -- an entry that is passed over
-  lists_on : {bytes : List ℕ} (entry : ℕ) → entry + 1 ≤ 64 → match_from images unit name (entry + 1) ≡ match_from images unit name entry → Lists (entry + 1) 0 bytes → Lists entry 0 bytes
+  lists_on : {bytes : List ℕ} (entry : ℕ) → entry + 1 ≤ 64 → match_from images unit pattern (entry + 1) ≡ match_from images unit pattern entry → Lists (entry + 1) 0 bytes → Lists entry 0 bytes
   lists_on entry h m (none e) = absurd (omega arith)
   lists_on entry h m (amid e a b q l r) = let k : entry ≤ 64 = omega arith in amid e k b (sym m ∙ q) l r
   lists_on entry h m (last e a b q l r) = let k : entry ≤ 64 = omega arith in last e k b (sym m ∙ q) l r
 
   -- every match
-  matches_list : (left entry : ℕ) → entry + left ≡ 64 → Lists entry 0 (records_of images unit (matches_of images unit name left entry))
+  matches_list : (left entry : ℕ) → entry + left ≡ 64 → Lists entry 0 (records_of images unit (matches_of images unit pattern left entry))
   unfolding matches_of
-  matches_list zero entry h = free_lists entry (omega arith) (found_none images unit name entry entry refl (omega arith))
+  matches_list zero entry h = free_lists entry (omega arith) (found_none images unit pattern entry entry refl (omega arith))
   matches_list (suc left) entry h =
       let l : entry < 64 = omega (arith, add-suc entry left) in
       let flag = flag_of images unit entry in
       let rest = matches_list left (entry + 1) (omega (arith, add-suc entry left)) in
       by_eq flag 0
-      (λ z. rw (eq-eqb flag 0 z) (free_lists entry (omega arith) (found_end images unit name entry entry refl l flag refl z)))
-      (λ n. by_test (matches_entry images unit name entry)
-      (λ t. let w = from_first entry (omega arith) (records_of images unit (matches_of images unit name left (entry + 1))) rest entry (omega arith)
-      (sym (found_here images unit name entry entry refl l flag refl n (matches_entry images unit name entry) refl t)) in
+      (λ z. rw (eq-eqb flag 0 z) (free_lists entry (omega arith) (found_end images unit pattern entry entry refl l flag refl z)))
+      (λ n. by_test (matches_entry images unit pattern entry)
+      (λ t. let w = from_first entry (omega arith) (records_of images unit (matches_of images unit pattern left (entry + 1))) rest entry (omega arith)
+      (sym (found_here images unit pattern entry entry refl l flag refl n (matches_entry images unit pattern entry) refl t)) in
       rw (ne_eqb flag 0 n, t) (rw (lt-ltb entry 64 l) at w))
       (λ t. rw (ne_eqb flag 0 n, t)
-      (lists_on entry (omega arith) (found_turn images unit name entry entry refl l flag refl n (matches_entry images unit name entry) refl t) rest)))
+      (lists_on entry (omega arith) (found_turn images unit pattern entry entry refl l flag refl n (matches_entry images unit pattern entry) refl t) rest)))
 
-  module _ (good : name.good ≡ true) where
-    opened_at : DirectoryAt unit name 0 0 (directory_place unit name)
+  module _ (eleven : length pattern ≡ 11) where
+    opened_at : DirectoryAt unit pattern 0 0 (directory_place unit pattern)
     opened_at = record {
-      long = refl;
+      long = omega arith;
       kind = refl;
       unit_is = refl;
       entry_is = refl;
       place_is = refl;
-      pattern_is = ap (λ (b : Bool). record { good = b; n0 = name.n0; n1 = name.n1; n2 = name.n2; n3 = name.n3; n4 = name.n4; n5 = name.n5; n6 = name.n6; n7 = name.n7; e0 = name.e0; e1 = name.e1; e2 = name.e2 }) (sym good);
+      pattern_is = all_firsts 0 11 pattern eleven;
     }
 
-    pub directory_gives : DirectoryGives images unit name
+    pub directory_gives : DirectoryGives images unit pattern
     unfolding directory_bytes
     directory_gives =
-        let w = read_all (matches_list 64 0 (omega arith)) (directory_place unit name) opened_at in
+        let w = read_all (matches_list 64 0 (omega arith)) (directory_place unit pattern) opened_at in
         record { gives = record { gives = w.says_all; then = λ m. again images _ 0x88 m (reads_past 65 0 _ w.at (omega arith)) } }

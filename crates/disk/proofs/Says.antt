@@ -5,12 +5,12 @@ use mathlib.Core.Bool.{Bool, true, false}
 use mathlib.Core.List.{List}
 use Prim.Native.Nat.{ℕ, ◌+◌, ◌-◌, ◌*◌, ◌<◌, ◌≤◌}
 use native.Mathlib.Omega.{arith}
-use borrow.Author.Tests.{lt-ltb, le-ltb, eqb-true, eqb-false}
+use borrow.Author.Tests.{eq-eqb, lt-ltb, le-ltb, eqb-true, eqb-false}
 use lib.Dec.{T}
 use lib.ListN.{length, get_or, get_or-eq_default}
 use lib.Seq.{sets}
 use Rattle.base.proofs.Choices.{by_test, by_lt, by_eq}
-use Rattle.names.specs.declared.Name.{Name}
+use Rattle.std.specs.Prelude.{Option, Some, None}
 use Rattle.handler.specs.Answer.{Answer, answer}
 use Rattle.handler.specs.declared.Asked.{Asked}
 use Rattle.handler.specs.declared.Got.{Got}
@@ -30,8 +30,8 @@ use Rattle.disk.specs.Fit.{FitDisk}
 use Rattle.disk.specs.Reads.{FileReads, given}
 use Rattle.disk.specs.Reads as reads
 use Rattle.disk.specs.Says.{MatchLocked, DiskOpens, bad_name_case, no_match, opened, StatusAfter, match_locked, match_free, EntryUnused, EntryLocked, DiskStatus, entry_unused, entry_locked, entry_free, DiskEnds, file_ends, directory_ends, DiskBad, chain_bad, DiskBefore, file_before, directory_before, DiskReadRule}
-use Rattle.disk.proofs.Laws.{open_directory_is, open_file_is}
-use Rattle.disk.proofs.Cases.{by_listed, by_directory, by_open, listed_amid, all_stored}
+use Rattle.disk.proofs.Laws.{open_directory_is, open_file_is, open_bad}
+use Rattle.disk.proofs.Cases.{by_listed, by_directory, by_open, listed_amid, all_stored, listing_at, listing_kind, listing_long}
 use Rattle.disk.proofs.Keeps.{place_length_lem, place_own}
 use Rattle.disk.proofs.Reading.{reads_file, reads_directory, read_always, read_only}
 
@@ -46,61 +46,70 @@ both : {P : Type 0} {t : Bool} → t ≡ true → t ≡ false → P
 both e f = absurd (subst T (sym e ∙ f) tt)
 
 -- a first match is in use
-first_used : (images : List ℕ) (unit : ℕ) (name : Name) {entry found : ℕ} → FirstMatch images unit name entry found → found < 64 → in_use (flag_of images unit found) ≡ true
-first_used images unit name (no_more h) l = absurd (omega arith)
-first_used images unit name (ended h z) l = absurd (omega arith)
-first_used images unit name (this h n u f) l = u
-first_used images unit name (later h n f r) l = first_used images unit name r l
+first_used : (images : List ℕ) (unit : ℕ) (pattern : List ℕ) {entry found : ℕ} → FirstMatch images unit pattern entry found → found < 64 → in_use (flag_of images unit found) ≡ true
+first_used images unit pattern (no_more h) l = absurd (omega arith)
+first_used images unit pattern (ended h z) l = absurd (omega arith)
+first_used images unit pattern (this h n u f) l = u
+first_used images unit pattern (later h n f r) l = first_used images unit pattern r l
 
 -- an opening
 module _ (asked : Asked) (p images : List ℕ) where
   abbrev unit : ℕ
   unit = asked.number - 1
 
-  abbrev found : ℕ
-  found = match_from images unit asked.name 0
+  refuses_name : asked.name ≡ None → (place_opened asked p images).says ≡ Refused 0xA5
+  refuses_name g = sym (ap said (open_bad p images asked g))
 
-  finds : FirstMatch images unit asked.name 0 found
-  finds = (first_rule images unit asked.name 0).always
+  -- with a good name
+  module _ (pattern : List ℕ) (g : asked.name ≡ Some pattern) where
+    abbrev found : ℕ
+    found = match_from images unit pattern 0
 
-  refuses_name : asked.name.good ≡ false → (place_opened asked p images).says ≡ Refused 0xA5
-  unfolding place_opened
-  refuses_name g = rw g
+    finds : FirstMatch images unit pattern 0 found
+    finds = (first_rule images unit pattern 0).always
 
-  opens_directory : asked.name.good ≡ true → asked.aux1 ≡ 6 → (place_opened asked p images).says ≡ Success
-  opens_directory g a = sym (ap said (open_directory_is p images asked unit refl (sets p 0 (directory_place unit asked.name)) g a refl))
+    opens_directory : asked.aux1 ≡ 6 → (place_opened asked p images).says ≡ Success
+    opens_directory a = sym (ap said (open_directory_is p images asked unit refl pattern g (sets p 0 (directory_place unit pattern)) a refl))
 
-  file_found : found < 64 → (file_opened unit asked.name p images).says ≡ Success
-  unfolding file_opened
-  file_found h = rw (lt-ltb found 64 h)
+    file_found : found < 64 → (file_opened unit pattern p images).says ≡ Success
+    unfolding file_opened
+    file_found h = rw (lt-ltb found 64 h)
 
-  none_found : 64 ≤ found → (file_opened unit asked.name p images).says ≡ Refused 0xAA
-  unfolding file_opened
-  none_found h = rw (le-ltb found 64 h)
+    none_found : 64 ≤ found → (file_opened unit pattern p images).says ≡ Refused 0xAA
+    unfolding file_opened
+    none_found h = rw (le-ltb found 64 h)
 
-  as_file : asked.name.good ≡ true → (asked.aux1 ≡ 6 → ⊥) → (place_opened asked p images).says ≡ (file_opened unit asked.name p images).says
-  as_file g a = sym (ap said (open_file_is p images asked unit refl (file_opened unit asked.name p images) g a refl))
+    as_file : (asked.aux1 ≡ 6 → ⊥) → (place_opened asked p images).says ≡ (file_opened unit pattern p images).says
+    as_file a = sym (ap said (open_file_is p images asked unit refl pattern g (file_opened unit pattern p images) a refl))
 
-  opens_file : asked.name.good ≡ true → (asked.aux1 ≡ 6 → ⊥) → found < 64 → (place_opened asked p images).says ≡ Success
-  opens_file g a h = as_file g a ∙ file_found h
+    opens_file : (asked.aux1 ≡ 6 → ⊥) → found < 64 → (place_opened asked p images).says ≡ Success
+    opens_file a h = as_file a ∙ file_found h
 
-  opens_none : asked.name.good ≡ true → (asked.aux1 ≡ 6 → ⊥) → 64 ≤ found → (place_opened asked p images).says ≡ Refused 0xAA
-  opens_none g a h = as_file g a ∙ none_found h
+    opens_none : (asked.aux1 ≡ 6 → ⊥) → 64 ≤ found → (place_opened asked p images).says ≡ Refused 0xAA
+    opens_none a h = as_file a ∙ none_found h
+
+  -- the pattern of a name is one
+  same_pattern : (one other : List ℕ) → asked.name ≡ Some one → asked.name ≡ Some other → one ≡ other
+  same_pattern one other g h = cc
+
+  by_name : (name : Option (List ℕ)) → asked.name ≡ name → DiskOpens asked images (place_opened asked p images).says
+  by_name None g = bad_name_case g (refuses_name g)
+  by_name (Some pattern) g =
+      by_eq asked.aux1 6
+      (λ a. opened pattern g (λ m. m.opens.file a) (opens_directory pattern g a))
+      (λ a. by_lt (found pattern g) 64
+      (λ h. opened pattern g
+      (λ m. let f : FirstMatch images unit pattern 0 64 = subst (λ (l : List ℕ). FirstMatch images unit l 0 64) (same_pattern m.opens.pattern pattern m.opens.good g) m.none in
+      omega (arith, h, first_is images unit pattern f)) (opens_file pattern g a h))
+      (λ h. let e : found pattern g ≡ 64 = omega (arith, h, match_low images unit pattern 0) in
+      no_match (record { opens = record { pattern = pattern; good = g; file = a }; none = subst (FirstMatch images unit pattern 0) e (finds pattern g) }) (opens_none pattern g a h)))
 
   pub disk_opens : DiskOpens asked images (place_opened asked p images).says
-  disk_opens =
-      by_test asked.name.good
-      (λ g. by_eq asked.aux1 6
-      (λ a. opened g (λ m. m.opens.file a) (opens_directory g a))
-      (λ a. by_lt found 64
-      (λ h. opened g (λ m. omega (arith, h, first_is images unit asked.name m.none)) (opens_file g a h))
-      (λ h. let e : found ≡ 64 = omega (arith, h, match_low images unit asked.name 0) in
-      no_match (record { opens = record { good = g; file = a }; none = subst (FirstMatch images unit asked.name 0) e finds }) (opens_none g a h))))
-      (λ g. bad_name_case g (refuses_name g))
+  disk_opens = by_name asked.name refl
 
   -- a locked file opens
   pub locked_opens : MatchLocked images asked.number asked.aux1 asked.name → (place_opened asked p images).says ≡ Success
-  locked_opens r = opens_file r.opens.good r.opens.file (omega (arith, r.low, first_is images unit asked.name r.first))
+  locked_opens r = let o = r.opens in opens_file o.pattern o.good o.file (omega (arith, r.low, first_is images unit o.pattern r.first))
 
 -- GET STATUS
 module _ (p images : List ℕ) where
@@ -155,32 +164,32 @@ module _ (asked : Asked) (g : DiskGroup) (f : FitDisk g) where
   abbrev After : Answer Done (List ℕ) → Type 0
   After a = a.says ≡ Success → StatusAfter asked g.images (place_status (back a.leaves) g.images)
 
-  by_flag : asked.name.good ≡ true → (m : ℕ) → (asked.aux1 ≡ 6 → ⊥) → m < 64 → m ≡ match_from g.images (asked.number - 1) asked.name 0
+  by_flag : (pattern : List ℕ) → asked.name ≡ Some pattern → (m : ℕ) → (asked.aux1 ≡ 6 → ⊥) → m < 64 → m ≡ match_from g.images (asked.number - 1) pattern 0
       → StatusAfter asked g.images (place_status (file_place (asked.number - 1) m (first_of g.images (asked.number - 1) m)) g.images)
-  by_flag o m a h e =
+  by_flag pattern o m a h e =
       let unit = asked.number - 1 in
-      let name = asked.name in
       let images = g.images in
       let p = file_place unit m (first_of images unit m) in
-      let found : FirstMatch images unit name 0 m = subst (FirstMatch images unit name 0) (sym e) (first_rule images unit name 0).always in
-      let u : in_use (flag_of images unit m) ≡ true = first_used images unit name found h in
+      let found : FirstMatch images unit pattern 0 m = subst (FirstMatch images unit pattern 0) (sym e) (first_rule images unit pattern 0).always in
+      let u : in_use (flag_of images unit m) ≡ true = first_used images unit pattern found h in
       by_test (locked (flag_of images unit m))
-      (λ k. match_locked (record { opens = record { good = o; file = a }; entry = m; low = h; first = found; is_locked = k })
+      (λ k. match_locked (record { opens = record { pattern = pattern; good = o; file = a }; entry = m; low = h; first = found; is_locked = k })
       (locked_says p images (record { file = refl; used = u; is_locked = k })))
       (λ k. match_free
-      (λ r. both r.is_locked (ap (λ (n : ℕ). locked (flag_of images unit n)) (first_is images unit name r.first ∙ sym e) ∙ k))
+      (λ r. let f : FirstMatch images unit pattern 0 r.entry =
+      subst (λ (l : List ℕ). FirstMatch images unit l 0 r.entry) (same_pattern asked own images r.opens.pattern pattern r.opens.good o) r.first in
+      both r.is_locked (ap (λ (n : ℕ). locked (flag_of images unit n)) (first_is images unit pattern f ∙ sym e) ∙ k))
       (free_says p images refl u k))
-
-  good_opened : (place_opened asked own g.images).says ≡ Success → asked.name.good ≡ true
-  good_opened s = by_test asked.name.good (λ t. t) (λ t. no_refusal 0xA5 (sym (refuses_name asked own g.images t) ∙ s))
 
   pub status_after : (place_opened asked own g.images).says ≡ Success → StatusAfter asked g.images ((disk_acts asked).statuses ((disk_acts asked).opens g).leaves)
   status_after s =
       by_open After asked own g.images
-      (λ a e. let q = directory_place (asked.number - 1) asked.name in
-      match_free (λ r. r.opens.file a) (ap (λ (x : List ℕ). place_status x g.images) (stored q refl) ∙ status_kind q g.images refl))
-      (λ m a h e z. let q = file_place (asked.number - 1) m (first_of g.images (asked.number - 1) m) in
-      subst (λ (x : List ℕ). StatusAfter asked g.images (place_status x g.images)) (sym (stored q refl)) (by_flag (good_opened s) m a h e))
+      (λ pattern o a e. let unit = asked.number - 1 in
+      let q = listing_at unit pattern own in
+      let d : is_directory q ≡ true = eq-eqb (get_or q 1 0) 1 (listing_kind unit pattern own own_length) in
+      match_free (λ r. r.opens.file a) (ap (λ (x : List ℕ). place_status x g.images) (place_own asked.port asked.iocb g.places q f.places (listing_long unit pattern own own_length)) ∙ status_kind q g.images d))
+      (λ pattern o m a h e z. let q = file_place (asked.number - 1) m (first_of g.images (asked.number - 1) m) in
+      subst (λ (x : List ℕ). StatusAfter asked g.images (place_status x g.images)) (sym (stored q refl)) (by_flag pattern o m a h e))
       (no_refusal 0xAA) (no_refusal 0xA5) s
 
 -- a read

@@ -1,11 +1,9 @@
 -- Document 02, Ask 12: D1 to D4 as one group over the lent images: the places of all open blocks, and what D's acts answer and leave.
 -- Assumes nothing.
-use Rattle.std.specs.Prelude.{ℕ, ◌+◌, ◌*◌, ◌-◌, ◌/◌, ◌%◌, List, [], ◌∷◌, eqb, ltb, replicate}
+use Rattle.std.specs.Prelude.{ℕ, ◌+◌, ◌*◌, ◌-◌, ◌/◌, ◌%◌, List, [], ◌∷◌, eqb, ltb, replicate, Option, Some, None}
 use Rattle.std.proofs.lemmas.List.Edits.{sets}
 use Rattle.base.specs.Choice.{pick, choose}
 use Rattle.base.specs.Parts.{part}
-use Rattle.names.specs.declared.Name.{Name}
-use Rattle.names.specs.Names.{pattern_of}
 use Rattle.handler.specs.Answer.{Answer, answer, seen}
 use Rattle.handler.specs.Acts.{Acts, through}
 use Rattle.handler.specs.declared.Asked.{Asked}
@@ -30,8 +28,8 @@ abbrev pub file_place : (unit entry sector : ℕ) → List ℕ
 file_place unit entry sector =
     unit ∷ 0 ∷ entry ∷ 0 ∷ (sector % 256) ∷ (sector / 256) ∷ 0 ∷ 0 ∷ 0 ∷ 0 ∷ 0 ∷ 0 ∷ 0 ∷ 0 ∷ 0 ∷ []
 
-abbrev pub directory_place : (unit : ℕ) → Name → List ℕ
-directory_place unit name = unit ∷ 1 ∷ 0 ∷ 0 ∷ pattern_of name
+abbrev pub directory_place : (unit : ℕ) → (pattern : List ℕ) → List ℕ
+directory_place unit pattern = unit ∷ 1 ∷ 0 ∷ 0 ∷ pattern
 
 -- a block's place with the images
 pub record Placed : Type 0 where
@@ -42,20 +40,22 @@ abbrev pub placed : (place images : List ℕ) → Placed
 placed place images = record { place = place; images = images }
 
 -- "The first match opens, none is $AA"
-unfoldable pub file_opened : (unit : ℕ) → Name → (place images : List ℕ) → Answer Done (List ℕ)
-file_opened unit name place images =
-    let m = match_from images unit name 0 in
+unfoldable pub file_opened : (unit : ℕ) → (pattern : List ℕ) → (place images : List ℕ) → Answer Done (List ℕ)
+file_opened unit pattern place images =
+    let m = match_from images unit pattern 0 in
     pick (ltb m 64) (answer Success (sets place 0 (file_place unit m (first_of images unit m)))) (answer (Refused 0xAA) place)
 
 -- "(a byte outside ..: $A5, with the group held ..)"; "Offer OPEN for reading, OPEN DIRECTORY (AUX1 = $06)"; a unit is a drive's number
 -- less 1
+abbrev pub opened_with : Asked → (name : Option (List ℕ)) → (place images : List ℕ) → Answer Done (List ℕ)
+opened_with asked None place images = answer (Refused 0xA5) place
+opened_with asked (Some pattern) place images =
+    choose (eqb asked.aux1 6)
+    (λ v. answer Success (sets place 0 (directory_place (asked.number - 1) pattern)))
+    (λ v. file_opened (asked.number - 1) pattern place images)
+
 unfoldable pub place_opened : Asked → (place images : List ℕ) → Answer Done (List ℕ)
-place_opened asked place images =
-    choose asked.name.good
-    (λ u. choose (eqb asked.aux1 6)
-    (λ v. answer Success (sets place 0 (directory_place (asked.number - 1) asked.name)))
-    (λ v. file_opened (asked.number - 1) asked.name place images))
-    (λ u. answer (Refused 0xA5) place)
+place_opened asked place images = opened_with asked asked.name place images
 
 unfoldable pub place_read : (p images : List ℕ) → Answer Got (List ℕ)
 place_read p images = choose (is_directory p) (λ u. directory_read p images) (λ u. file_read p images)

@@ -2,7 +2,6 @@
 -- Assumes nothing.
 use Rattle.std.specs.Prelude.{◌≡◌, List, [], ◌∷◌, ◌++◌, ℕ, zero, suc, ◌+◌, eqb, length, replicate}
 use Rattle.base.specs.Choice.{choose}
-use Rattle.names.specs.declared.Name.{Name}
 use Rattle.handler.specs.Answer.{Answer, answer, Gives}
 use Rattle.handler.specs.InOrder.{gets_of}
 use Rattle.handler.specs.declared.Got.{Got}
@@ -86,11 +85,11 @@ pub record RingGives (images : List ℕ) (unit file sector : ℕ) : Type 0 where
 
 -- of the next `left` entries from this one on those that are in use and match, before the directory's end: "the directory lists every
 -- match once in directory order"
-unfoldable pub matches_of : List ℕ → (unit : ℕ) → Name → (left entry : ℕ) → List ℕ
-matches_of images unit name zero entry = []
-matches_of images unit name (suc left) entry =
+unfoldable pub matches_of : List ℕ → (unit : ℕ) → (pattern : List ℕ) → (left entry : ℕ) → List ℕ
+matches_of images unit pattern zero entry = []
+matches_of images unit pattern (suc left) entry =
     choose (eqb (flag_of images unit entry) 0) (λ u. [])
-    (λ u. choose (matches_entry images unit name entry) (λ v. entry ∷ matches_of images unit name left (entry + 1)) (λ v. matches_of images unit name left (entry + 1)))
+    (λ u. choose (matches_entry images unit pattern entry) (λ v. entry ∷ matches_of images unit pattern left (entry + 1)) (λ v. matches_of images unit pattern left (entry + 1)))
 
 -- their records, "and then the free-sector record"
 abbrev pub records_of : List ℕ → (unit : ℕ) → (entries : List ℕ) → List ℕ
@@ -98,9 +97,9 @@ records_of images unit [] = free_record images unit
 records_of images unit (entry ∷ entries) = entry_record images unit entry ++ records_of images unit entries
 
 -- all 64
-unfoldable pub directory_bytes : List ℕ → (unit : ℕ) → Name → List ℕ
-directory_bytes images unit name = records_of images unit (matches_of images unit name 64 0)
+unfoldable pub directory_bytes : List ℕ → (unit : ℕ) → (pattern : List ℕ) → List ℕ
+directory_bytes images unit pattern = records_of images unit (matches_of images unit pattern 64 0)
 
 -- read from its OPEN, a directory gives exactly these, the very last with $03, and then $88
-pub record DirectoryGives (images : List ℕ) (unit : ℕ) (name : Name) : Type 0 where
-  pub gives : ReadsThen images (directory_place unit name) (length (directory_bytes images unit name)) (last_warned (directory_bytes images unit name)) 0x88
+pub record DirectoryGives (images : List ℕ) (unit : ℕ) (pattern : List ℕ) : Type 0 where
+  pub gives : ReadsThen images (directory_place unit pattern) (length (directory_bytes images unit pattern)) (last_warned (directory_bytes images unit pattern)) 0x88

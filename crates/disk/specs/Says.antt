@@ -1,7 +1,6 @@
 -- Document 02, Ask 12: with which status D answers an opening, a read and GET STATUS: by the images' bytes and the place of the block.
 -- Assumes nothing.
-use Rattle.std.specs.Prelude.{◌≡◌, ◌↔◌, true, false, List, ℕ, ◌-◌, ◌<◌, ◌≤◌}
-use Rattle.names.specs.declared.Name.{Name}
+use Rattle.std.specs.Prelude.{◌≡◌, ◌↔◌, true, false, List, ℕ, ◌-◌, ◌<◌, ◌≤◌, Option, Some, None}
 use Rattle.handler.specs.declared.Asked.{Asked}
 use Rattle.handler.specs.declared.Got.TheVariants as got
 use Rattle.handler.specs.declared.Done.{Done}
@@ -14,30 +13,31 @@ use Rattle.disk.specs.Disk.{place_read}
 use Rattle.disk.specs.Reads.{Comes, EndsBehind}
 
 -- an opening of the drive of this number
-module _ (images : List ℕ) (number aux1 : ℕ) (name : Name) where
+module _ (images : List ℕ) (number aux1 : ℕ) (name : Option (List ℕ)) where
   -- no "$A5"; "Exactly $06 opens the directory. Any other opens the first match"
   pub record OpensFile : Type 0 where
-    pub good : name.good ≡ true
+    pub pattern : List ℕ
+    pub good : name ≡ Some pattern
     pub file : aux1 ≡ 6 → ⊥
 
   -- "The first match opens, none is $AA"
   pub record NoMatch : Type 0 where
     pub opens : OpensFile
-    pub none : FirstMatch images (number - 1) name 0 64
+    pub none : FirstMatch images (number - 1) opens.pattern 0 64
 
   -- "then $A7 if the file is locked"
   pub record MatchLocked : Type 0 where
     pub opens : OpensFile
     pub entry : ℕ
     pub low : entry < 64
-    pub first : FirstMatch images (number - 1) name 0 entry
+    pub first : FirstMatch images (number - 1) opens.pattern 0 entry
     pub is_locked : locked (flag_of images (number - 1) entry) ≡ true
 
 -- "with the group held $84, $A5, $AA": the handler's are the last two
 pub data DiskOpens (asked : Asked) (images : List ℕ) (says : Done) : Type 0 where
-  bad_name_case : asked.name.good ≡ false → says ≡ Refused 0xA5 → DiskOpens asked images says
+  bad_name_case : asked.name ≡ None → says ≡ Refused 0xA5 → DiskOpens asked images says
   no_match : NoMatch images asked.number asked.aux1 asked.name → says ≡ Refused 0xAA → DiskOpens asked images says
-  opened : asked.name.good ≡ true → (NoMatch images asked.number asked.aux1 asked.name → ⊥) → says ≡ Success → DiskOpens asked images says
+  opened : (pattern : List ℕ) → asked.name ≡ Some pattern → (NoMatch images asked.number asked.aux1 asked.name → ⊥) → says ≡ Success → DiskOpens asked images says
 
 -- "GET STATUS on a closed block: OPEN's refusals stand; then $A7 if the file is locked, else $01."
 pub data StatusAfter (asked : Asked) (images : List ℕ) (says : Done) : Type 0 where

@@ -8,82 +8,56 @@ ghost use Rattle.disk.specs.Disk.{directory_place, file_opened, place_opened, pl
 ghost use Rattle.disk.specs.Fit.{file_fits, directory_fits, place_fits};
 
 use handler::{Asked, Done, Got};
-use names::Name;
+use names::Pattern;
 
 // The bytes of a block's place, and the places of all blocks of both ports.
 pub const PLACE: usize = 15;
 
 pub const PLACES: usize = 16 * PLACE;
 
-// All bytes of a place.
-fn lay(place: &mut [u8], bytes: [u8; 15])
-    ensures { place.new ≡ sets place.old 0 bytes }
-{
-    let mut i: usize = 0;
-    while i < 15 {
-        base::set_byte(place, i, bytes[i]);
-        i += 1;
-    }
-}
-
 // The first match opens.
-fn open_file(place: &mut [u8], images: &[u8], unit: u8, name: Name) -> Done
-    ensures { answer result place.new ≡ file_opened unit name place.old images.now }
+#[tactic(auto, unfolding(crate::specs::Disk::file_opened))]
+fn open_file(place: &mut [u8], images: &[u8], unit: u8, pattern: &Pattern) -> Done
+    ensures { answer result place.new ≡ file_opened unit pattern.now place.old images.now }
 {
-    let entry = image::find(images, unit, name, 0);
-    if entry < 64 {
-        let sector = image::first(images, unit, entry);
-        let low = (sector % 256) as u8;
-        let high = (sector / 256) as u8;
-        lay(
-            place,
-            [unit, 0, entry, 0, low, high, 0, 0, 0, 0, 0, 0, 0, 0, 0],
-        );
-        return Done::Success;
-    }
-    Done::Refused(0xAA)
-}
-
-// The directory, with the name as its pattern.
-fn open_directory(place: &mut [u8], unit: u8, name: Name)
-    ensures { place.new ≡ sets place.old 0 (directory_place unit name) }
-{
-    lay(
+    let Some(entry) = image::find(images, unit, pattern, 0) else {
+        return Done::Refused(0xAA);
+    };
+    let [low, high] = image::first(images, unit, entry).to_le_bytes();
+    base::lay(
         place,
-        [
-            unit, 1, 0, 0, name.n0, name.n1, name.n2, name.n3, name.n4, name.n5, name.n6, name.n7,
-            name.e0, name.e1, name.e2,
-        ],
+        0,
+        &[unit, 0, entry, 0, low, high, 0, 0, 0, 0, 0, 0, 0, 0, 0],
     );
+    Done::Success
 }
 
-// A drive's number less 1.
-fn unit_of(number: u8) -> u8
-    ensures { result ≡ number - 1 }
+// The directory, with the name's pattern.
+fn open_directory(place: &mut [u8], unit: u8, pattern: &Pattern)
+    ensures { place.new ≡ sets place.old 0 (directory_place unit pattern.now) }
 {
-    if number == 0 {
-        return 0;
-    }
-    number - 1
+    base::lay(place, 0, &[unit, 1, 0, 0]);
+    base::lay(place, 4, pattern);
 }
 
 // OPEN, with an AUX1 that D offers: a file, or the directory where it is exactly $06.
+#[tactic(auto, unfolding(crate::specs::Disk::place_opened))]
 pub fn open(place: &mut [u8], images: &[u8], asked: Asked) -> Done
     ensures { answer result place.new ≡ place_opened asked place.old images.now }
 {
-    let name = asked.name;
-    let unit = unit_of(asked.number);
-    if name.good {
-        if asked.aux1 == 6 {
-            open_directory(place, unit, name);
-            return Done::Success;
-        }
-        return open_file(place, images, unit, name);
+    let Some(pattern) = asked.name else {
+        return Done::Refused(0xA5);
+    };
+    let unit = asked.number.saturating_sub(1);
+    if asked.aux1 == 6 {
+        open_directory(place, unit, &pattern);
+        return Done::Success;
     }
-    Done::Refused(0xA5)
+    open_file(place, images, unit, &pattern)
 }
 
 // A character is read.
+#[tactic(auto, unfolding(crate::specs::Disk::place_read))]
 pub fn read(p: &mut [u8], images: &[u8]) -> Got
     ensures { answer result p.new ≡ place_read p.old images.now }
 {
@@ -107,6 +81,7 @@ fn flag_status(flag: u8) -> Done
 }
 
 // GET STATUS.
+#[tactic(auto, unfolding(crate::specs::Disk::place_status))]
 pub fn status(p: &[u8], images: &[u8]) -> Done
     ensures { result ≡ place_status p.now images.now }
 {
@@ -121,13 +96,7 @@ pub fn status(p: &[u8], images: &[u8]) -> Done
 fn file_fits(p: &[u8]) -> bool
     ensures { result ≡ file_fits p.now }
 {
-    if base::byte_at(p, 2) <= 63 {
-        if base::byte_at(p, 3) <= 125 {
-            return files::word(p, 6, 7) <= 718;
-        }
-        return false;
-    }
-    false
+    base::byte_at(p, 2) <= 63 && base::byte_at(p, 3) <= 125 && base::word_at(p, 6) <= 718
 }
 
 // A directory's are.
@@ -142,28 +111,20 @@ fn directory_fits(p: &[u8]) -> bool
     if entry == 64 {
         return place <= 16;
     }
-    if entry == 65 {
-        return place == 0;
-    }
-    false
+    entry == 65 && place == 0
 }
 
 // The place fits a block that has D open with this number and this AUX1.
+#[tactic(auto, unfolding(crate::specs::Fit::place_fits))]
 pub fn fits(p: &[u8], number: u8, aux1: u8) -> bool
     ensures { result ≡ place_fits number aux1 p.now }
 {
-    if base::byte_at(p, 0) == unit_of(number) {
-        let kind = base::byte_at(p, 1);
-        if aux1 == 6 {
-            if kind == 1 {
-                return directory_fits(p);
-            }
-            return false;
-        }
-        if kind == 0 {
-            return file_fits(p);
-        }
+    if base::byte_at(p, 0) != number.saturating_sub(1) {
         return false;
     }
-    false
+    let kind = base::byte_at(p, 1);
+    if aux1 == 6 {
+        return kind == 1 && directory_fits(p);
+    }
+    kind == 0 && file_fits(p)
 }

@@ -251,11 +251,3 @@ module _ (image list : List ℕ) where
       r ∙ (rw (n, o) (replay_list_lem list image (changes_of image) (omega (arith, few image)))) in
       let z : 0 + 256 * length (changes_of image) ≡ 256 * length (changes_of image) = omega arith in
       rw (eq-eqb (length image) 92160 l, eq-eqb (length list) 2560 m, n, o, s, z)
-
-  pub list_refused : length image ≡ 92160 → (length list ≡ 2560 → ⊥) → leaving 1 image list ≡ doctor_of image list
-  unfolding doctor_of
-  list_refused l m = rw (eq-eqb (length image) 92160 l, ne_eqb (length list) 2560 m)
-
-  pub image_refused : (length image ≡ 92160 → ⊥) → leaving 1 image list ≡ doctor_of image list
-  unfolding doctor_of
-  image_refused l = rw (ne_eqb (length image) 92160 l)

@@ -18,8 +18,8 @@ pub const IMAGE: usize = image::IMAGE;
 pub const LIST: usize = changes::LIST;
 
 // A file's chain is walked, and what is not right of it noted.
-fn treat(image: &[u8], marks: &mut [u8], list: &mut [u8], number: u16, entry: u8) -> u16
-    requires { (length marks.old ≡ 720) × (number < 509) }
+fn treat(image: &[u8], marks: &mut [u8; MARKS], list: &mut [u8], number: u16, entry: u8) -> u16
+    requires { number < 509 }
     ensures { as_visited result list.new marks.new ≡ visited_on image.now number list.old marks.old (file_at image.now (marked marks.old) entry ∷ []) }
 {
     let first = image::first(image, 0, entry);
@@ -28,8 +28,15 @@ fn treat(image: &[u8], marks: &mut [u8], list: &mut [u8], number: u16, entry: u8
 }
 
 // An entry with this flag: a file, if it is in use.
-fn visit(image: &[u8], marks: &mut [u8], list: &mut [u8], number: u16, entry: u8, flag: u8) -> u16
-    requires { (length marks.old ≡ 720) × ((number < 509) × (flag ≡ flag_of image.now 0 entry)) }
+fn visit(
+    image: &[u8],
+    marks: &mut [u8; MARKS],
+    list: &mut [u8],
+    number: u16,
+    entry: u8,
+    flag: u8,
+) -> u16
+    requires { (number < 509) × (flag ≡ flag_of image.now 0 entry) }
     ensures { as_visited result list.new marks.new ≡ visited_on image.now number list.old marks.old (files_at image.now (marked marks.old) entry) }
 {
     if image::in_use(flag) {
@@ -39,19 +46,16 @@ fn visit(image: &[u8], marks: &mut [u8], list: &mut [u8], number: u16, entry: u8
 }
 
 // Every file, in directory order.
-fn note_files(image: &[u8], marks: &mut [u8], list: &mut [u8]) -> u16
-    requires { length marks.old ≡ 720 }
+fn note_files(image: &[u8], marks: &mut [u8; MARKS], list: &mut [u8]) -> u16
     ensures { as_visited result list.new marks.new ≡ visited_on image.now 0 list.old marks.old (files_in image.now 64 0 (marked marks.old)) }
 {
     let mut number: u16 = 0;
-    let mut entry: u8 = 0;
-    while entry < 64 {
+    for entry in 0..64 {
         let flag = image::flag(image, 0, entry);
         if flag == 0 {
             return number;
         }
         number = visit(image, marks, list, number, entry, flag);
-        entry += 1;
     }
     number
 }
@@ -66,16 +70,14 @@ fn examine(image: &[u8], list: &mut [u8]) -> u16
 }
 
 // The answer in the low byte, the number of changes above it. An image or a list of another length is left alone.
+#[tactic(auto, unfolding(crate::specs::Doctor::doctor_of))]
 pub fn repair(image: &mut [u8], list: &mut [u8]) -> u32
     ensures { leaving result image.new list.new ≡ doctor_of image.old list.old }
 {
-    if image.len() == IMAGE {
-        if list.len() == LIST {
-            let number = examine(image, list);
-            changes::replay(image, list, number);
-            return 256 * number as u32;
-        }
+    if image.len() != IMAGE || list.len() != LIST {
         return 1;
     }
-    1
+    let number = examine(image, list);
+    changes::replay(image, list, number);
+    256 * number as u32
 }

@@ -7,16 +7,8 @@ use Rattle.base.specs.Decides.{Decides, Allows}
 use Rattle.handler.specs.Answer.{Answer}
 use Rattle.handler.specs.declared.Got.{Got}
 use Rattle.files.specs.Files.{file_read}
-use Rattle.files.proofs.word.Kinds as word_kinds
-use Rattle.files.proofs.word.Reads as word_reads
 use Rattle.files.proofs.read.Kinds as read_kinds
 use Rattle.files.proofs.read.Reads as read_reads
-
-pub word_decides : Decides word_kinds.ps word_kinds.r word_reads.Pre word_reads.Learnt
-word_decides κs a z z' ws ws' p e e' = (e ∙ sym e', refl)
-
-pub word_allows : Allows word_kinds.ps word_kinds.r word_reads.Pre word_reads.Learnt
-word_allows κs a p = (_, (_, refl))
 
 pub read_decides : Decides read_kinds.ps read_kinds.r read_reads.Pre read_reads.Learnt
 read_decides κs a z z' ws ws' p e e' =

@@ -10,28 +10,13 @@ ghost use Rattle.files.specs.Files.{moved_to, before_stand, file_read};
 use handler::Got;
 use image::Stand;
 
-// Two bytes of a place, low byte first.
-pub fn word(place: &[u8], low: usize, high: usize) -> u16
-    ensures { result ≡ get_or place.now low 0 + 256 * get_or place.now high 0 }
-{
-    base::byte_at(place, low) as u16 + 256 * base::byte_at(place, high) as u16
-}
-
-// Two bytes of a place become this number, low byte first.
-fn set_word(p: &mut [u8], low: usize, high: usize, number: u16)
-    ensures { p.new ≡ set (set p.old low (number % 256)) high (number / 256) }
-{
-    base::set_byte(p, low, (number % 256) as u8);
-    base::set_byte(p, high, (number / 256) as u8);
-}
-
 // A file's place, moved on.
 fn move_to(p: &mut [u8], sector: u16, place: u8, passed: u16)
     ensures { p.new ≡ moved_to p.old sector place passed }
 {
     base::set_byte(p, 3, place);
-    set_word(p, 4, 5, sector);
-    set_word(p, 6, 7, passed);
+    base::set_word(p, 4, sector);
+    base::set_word(p, 6, passed);
 }
 
 // A character, by where the next one stands: the last one before the file's end.
@@ -40,8 +25,7 @@ fn before(byte: u8, next: Stand) -> Got
 {
     match next {
         Stand::End => Got::Last(byte),
-        Stand::Bad => Got::Character(byte),
-        Stand::At(sector, place, passed) => Got::Character(byte),
+        Stand::Bad | Stand::At(_, _, _) => Got::Character(byte),
     }
 }
 
@@ -52,7 +36,14 @@ fn stand(p: &[u8], images: &[u8]) -> Stand
     let unit = base::byte_at(p, 0);
     let file = base::byte_at(p, 2);
     let place = base::byte_at(p, 3);
-    image::stand_of(images, unit, file, word(p, 4, 5), place, word(p, 6, 7))
+    image::stand_of(
+        images,
+        unit,
+        file,
+        base::word_at(p, 4),
+        place,
+        base::word_at(p, 6),
+    )
 }
 
 // The character at a stand.
@@ -70,6 +61,7 @@ fn character(p: &[u8], images: &[u8], sector: u16, place: u8, passed: u16) -> Go
 }
 
 // The next character of a file.
+#[tactic(auto, unfolding(crate::specs::Files::file_read))]
 pub fn read(p: &mut [u8], images: &[u8]) -> Got
     ensures { answer result p.new ≡ file_read p.old images.now }
 {

@@ -1,7 +1,6 @@
 -- A device handler as CIO calls it: its acts on its device, each by what it may know.
 -- Assumes nothing.
-use Rattle.std.specs.Prelude.{ℕ}
-use Rattle.names.specs.declared.Name.{Name}
+use Rattle.std.specs.Prelude.{List, ℕ, Option, Some}
 use Rattle.names.specs.Names.{no_name}
 use Rattle.handler.specs.declared.Asked.{Asked}
 use Rattle.handler.specs.declared.Got.{Got}
@@ -9,12 +8,12 @@ use Rattle.handler.specs.declared.Done.{Done}
 use Rattle.handler.specs.Answer.{Answer, seen}
 
 -- for the opening of a block
-abbrev pub asks_open : (port iocb number aux1 aux2 : ℕ) → Name → Asked
+abbrev pub asks_open : (port iocb number aux1 aux2 : ℕ) → (name : Option (List ℕ)) → Asked
 asks_open port iocb number aux1 aux2 name = record { port = port; iocb = iocb; number = number; aux1 = aux1; aux2 = aux2; name = name }
 
 -- for an open block
 abbrev pub asks_on : (port iocb : ℕ) → Asked
-asks_on port iocb = asks_open port iocb 0 0 0 no_name
+asks_on port iocb = asks_open port iocb 0 0 0 (Some no_name)
 
 -- a handler's acts, told what they may know
 pub record Acts (D : Type 0) : Type 0 where

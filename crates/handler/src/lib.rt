@@ -5,10 +5,11 @@
 ghost use Rattle.std.specs.Prelude.{◌≡◌};
 ghost use Rattle.handler.specs.Acts.{asks_on};
 
-use names::Name;
+use names::Pattern;
 
 // What an act of a handler may know: the port and the IOCB that it is for; of an opening also the device's number, AUX1, AUX2 and the
-// name behind the specification, which a device without names does not have. Of an act on an open block there is none of these four.
+// pattern of the name behind the specification, none where a byte of the name is bad. A device without names has names::none(), and of an
+// act on an open block there is none of these four.
 #[derive(Clone, Copy)]
 pub struct Asked {
     pub port: u8,
@@ -16,7 +17,7 @@ pub struct Asked {
     pub number: u8,
     pub aux1: u8,
     pub aux2: u8,
-    pub name: Name,
+    pub name: Option<Pattern>,
 }
 
 // What an act on an open block may know.
@@ -29,7 +30,7 @@ pub fn on_block(port: u8, iocb: u8) -> Asked
         number: 0,
         aux1: 0,
         aux2: 0,
-        name: names::none(),
+        name: Some(names::none()),
     }
 }
 

@@ -10,8 +10,7 @@ use borrow.Author.Tests.{lt-ltb, le-ltb, eq-eqb, ne_eqb, eqb-false, ltb-true}
 use lib.Dec.{eqb, ltb}
 use Rattle.base.specs.Choice.{or}
 use Rattle.base.proofs.Choices.{by_lt, by_eq, by_test, and_left, and_right}
-use Rattle.names.specs.declared.Name.{Name}
-use Rattle.names.specs.Names.{pattern_of, places_match}
+use Rattle.names.specs.Names.{places_match}
 use Rattle.names.specs.Matching.{AllFit}
 use Rattle.names.proofs.Matching.{match_rule}
 use Rattle.image.specs.declared.Stand.{Stand}
@@ -119,44 +118,44 @@ module _ (images : List ℕ) (unit file : ℕ) where
       record { last = w.last; bytes = w.bytes; walks = w.walks; only = λ x xs c. chain_one c w.walks }
 
 -- the first match
-module _ (images : List ℕ) (unit : ℕ) (name : Name) where
+module _ (images : List ℕ) (unit : ℕ) (pattern : List ℕ) where
   abbrev fits : (entry : ℕ) → Bool
-  fits entry = places_match (pattern_of name) images (entry_place unit entry + 5)
+  fits entry = places_match pattern images (entry_place unit entry + 5)
 
-  matches_is : (entry : ℕ) → in_use (flag_of images unit entry) ≡ true → AllFit (pattern_of name) images (entry_place unit entry + 5) → matches_entry images unit name entry ≡ true
+  matches_is : (entry : ℕ) → in_use (flag_of images unit entry) ≡ true → AllFit pattern images (entry_place unit entry + 5) → matches_entry images unit pattern entry ≡ true
   unfolding matches_entry
-  matches_is entry u f = rw u ((match_rule (pattern_of name) images (entry_place unit entry + 5)).matches f)
+  matches_is entry u f = rw u ((match_rule pattern images (entry_place unit entry + 5)).matches f)
 
-  used_is : (entry : ℕ) → matches_entry images unit name entry ≡ true → in_use (flag_of images unit entry) ≡ true
+  used_is : (entry : ℕ) → matches_entry images unit pattern entry ≡ true → in_use (flag_of images unit entry) ≡ true
   unfolding matches_entry
   used_is entry m = and_left (in_use (flag_of images unit entry)) (fits entry) m
 
-  fits_is : (entry : ℕ) → matches_entry images unit name entry ≡ true → AllFit (pattern_of name) images (entry_place unit entry + 5)
+  fits_is : (entry : ℕ) → matches_entry images unit pattern entry ≡ true → AllFit pattern images (entry_place unit entry + 5)
   unfolding matches_entry
-  fits_is entry m = (match_rule (pattern_of name) images (entry_place unit entry + 5)).fits (and_right (in_use (flag_of images unit entry)) (fits entry) m)
+  fits_is entry m = (match_rule pattern images (entry_place unit entry + 5)).fits (and_right (in_use (flag_of images unit entry)) (fits entry) m)
 
-  pub first_is : {entry found : ℕ} → FirstMatch images unit name entry found → found ≡ match_from images unit name entry
-  first_is {entry} (no_more h) = found_none images unit name entry entry refl h
-  first_is {entry} (ended l z) = found_end images unit name entry entry refl l (flag_of images unit entry) refl z
-  first_is {entry} (this l n u f) = found_here images unit name entry entry refl l (flag_of images unit entry) refl n true (sym (matches_is entry u f)) refl
+  pub first_is : {entry found : ℕ} → FirstMatch images unit pattern entry found → found ≡ match_from images unit pattern entry
+  first_is {entry} (no_more h) = found_none images unit pattern entry entry refl h
+  first_is {entry} (ended l z) = found_end images unit pattern entry entry refl l (flag_of images unit entry) refl z
+  first_is {entry} (this l n u f) = found_here images unit pattern entry entry refl l (flag_of images unit entry) refl n true (sym (matches_is entry u f)) refl
   first_is {entry} (later l n f r) =
       first_is r
-      ∙ by_test (matches_entry images unit name entry) (λ t. absurd (f (used_is entry t) (fits_is entry t)))
-      (λ t. found_turn images unit name entry entry refl l (flag_of images unit entry) refl n (matches_entry images unit name entry) refl t)
+      ∙ by_test (matches_entry images unit pattern entry) (λ t. absurd (f (used_is entry t) (fits_is entry t)))
+      (λ t. found_turn images unit pattern entry entry refl l (flag_of images unit entry) refl n (matches_entry images unit pattern entry) refl t)
 
-  first_from : (left entry : ℕ) → 64 ≤ entry + left → FirstMatch images unit name entry (match_from images unit name entry)
+  first_from : (left entry : ℕ) → 64 ≤ entry + left → FirstMatch images unit pattern entry (match_from images unit pattern entry)
   first_from zero entry e =
       let h : 64 ≤ entry = omega arith in
-      subst (FirstMatch images unit name entry) (found_none images unit name entry entry refl h) (no_more h)
+      subst (FirstMatch images unit pattern entry) (found_none images unit pattern entry entry refl h) (no_more h)
   first_from (suc left) entry e =
       by_lt entry 64
       (λ l. by_eq (flag_of images unit entry) 0
-      (λ z. subst (FirstMatch images unit name entry) (found_end images unit name entry entry refl l (flag_of images unit entry) refl z) (ended l z))
-      (λ n. by_test (matches_entry images unit name entry)
-      (λ t. subst (FirstMatch images unit name entry) (found_here images unit name entry entry refl l (flag_of images unit entry) refl n (matches_entry images unit name entry) refl t) (this l n (used_is entry t) (fits_is entry t)))
-      (λ t. subst (FirstMatch images unit name entry) (found_turn images unit name entry entry refl l (flag_of images unit entry) refl n (matches_entry images unit name entry) refl t)
+      (λ z. subst (FirstMatch images unit pattern entry) (found_end images unit pattern entry entry refl l (flag_of images unit entry) refl z) (ended l z))
+      (λ n. by_test (matches_entry images unit pattern entry)
+      (λ t. subst (FirstMatch images unit pattern entry) (found_here images unit pattern entry entry refl l (flag_of images unit entry) refl n (matches_entry images unit pattern entry) refl t) (this l n (used_is entry t) (fits_is entry t)))
+      (λ t. subst (FirstMatch images unit pattern entry) (found_turn images unit pattern entry entry refl l (flag_of images unit entry) refl n (matches_entry images unit pattern entry) refl t)
       (later l n (λ u f. let z = sym t ∙ matches_is entry u f in let y : ◌≡◌ {A = ℕ} 0 1 = cc in omega arith) (first_from left (entry + 1) (omega (arith, add-suc entry left)))))))
-      (λ h. subst (FirstMatch images unit name entry) (found_none images unit name entry entry refl h) (no_more h))
+      (λ h. subst (FirstMatch images unit pattern entry) (found_none images unit pattern entry entry refl h) (no_more h))
 
-  pub first_rule : (entry : ℕ) → FirstRule images unit name entry
+  pub first_rule : (entry : ℕ) → FirstRule images unit pattern entry
   first_rule entry = record { always = first_from 64 entry (omega arith); only = λ found r. first_is r }

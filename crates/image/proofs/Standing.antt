@@ -10,40 +10,39 @@ use borrow.Author.Tests.{eqb-true, ltb-false}
 use lib.Dec.{eqb, ltb}
 use Rattle.base.specs.Choice.{or}
 use Rattle.base.proofs.Choices.{by_lt, pick_go, choose_go, choose_eq, choose_lt}
-use Rattle.names.specs.declared.Name.{Name}
 use Rattle.image.specs.declared.Stand.{Stand}
 use Rattle.image.specs.declared.Stand.TheVariants.{End, Bad, At}
 use Rattle.image.specs.Image.{flag_of, matches_entry, match_in, match_from, file_of, next_of, data_count, bad_sector, stand_in, stand_of}
 use Rattle.image.proofs.Laws.{stand_at_lem}
 
 -- an entry that is found is one of those looked at, or 64
-module _ (images : List ℕ) (unit : ℕ) (name : Name) where
-  match_in_lem : (left entry : ℕ) → entry + left ≤ 64 → match_in images unit name left entry ≤ 64
+module _ (images : List ℕ) (unit : ℕ) (pattern : List ℕ) where
+  match_in_lem : (left entry : ℕ) → entry + left ≤ 64 → match_in images unit pattern left entry ≤ 64
   unfolding match_in
   match_in_lem zero entry h = omega arith
   match_in_lem (suc left) entry h =
       choose_go (λ (m : ℕ). m ≤ 64) (eqb (flag_of images unit entry) 0) _ _ (λ t. omega arith)
-      (λ t. choose_go (λ (m : ℕ). m ≤ 64) (matches_entry images unit name entry) _ _ (λ u. omega (arith, add-suc entry left))
+      (λ t. choose_go (λ (m : ℕ). m ≤ 64) (matches_entry images unit pattern entry) _ _ (λ u. omega (arith, add-suc entry left))
       (λ u. match_in_lem left (entry + 1) (omega (arith, add-suc entry left))))
 
-  match_past : (left entry : ℕ) → left ≡ 0 → match_in images unit name left entry ≡ 64
+  match_past : (left entry : ℕ) → left ≡ 0 → match_in images unit pattern left entry ≡ 64
   unfolding match_in
   match_past left entry e = rw e
 
-  pub match_low : (entry : ℕ) → match_from images unit name entry ≤ 64
+  pub match_low : (entry : ℕ) → match_from images unit pattern entry ≤ 64
   match_low entry =
       by_lt entry 65 (λ h. match_in_lem (64 - entry) entry (omega arith))
       (λ h. omega (arith, match_past (64 - entry) entry (omega arith)))
 
-  match_after : (left entry : ℕ) → entry + left ≡ 64 → entry ≤ match_in images unit name left entry
+  match_after : (left entry : ℕ) → entry + left ≡ 64 → entry ≤ match_in images unit pattern left entry
   unfolding match_in
   match_after zero entry h = omega arith
   match_after (suc left) entry h =
       choose_go (λ (m : ℕ). entry ≤ m) (eqb (flag_of images unit entry) 0) _ _ (λ t. omega (arith, add-suc entry left))
-      (λ t. choose_go (λ (m : ℕ). entry ≤ m) (matches_entry images unit name entry) _ _ (λ u. omega arith)
+      (λ t. choose_go (λ (m : ℕ). entry ≤ m) (matches_entry images unit pattern entry) _ _ (λ u. omega arith)
       (λ u. omega (arith, match_after left (entry + 1) (omega (arith, add-suc entry left)))))
 
-  pub match_onward : (entry : ℕ) → entry ≤ 64 → entry ≤ match_from images unit name entry
+  pub match_onward : (entry : ℕ) → entry ≤ 64 → entry ≤ match_from images unit pattern entry
   match_onward entry h = match_after (64 - entry) entry (omega arith)
 
 -- a good sector's own file number and data count

@@ -3,8 +3,6 @@
 -- Assumes nothing.
 use Rattle.std.specs.Prelude.{◌≡◌, true, List, [], ◌++◌, ℕ, zero, suc, ◌+◌, ◌*◌, ◌/◌, ◌%◌, ◌<◌, ◌≤◌}
 use Rattle.base.specs.Parts.{part}
-use Rattle.names.specs.declared.Name.{Name}
-use Rattle.names.specs.Names.{pattern_of}
 use Rattle.names.specs.Matching.{AllFit}
 use Rattle.image.specs.declared.Stand.{Stand}
 use Rattle.image.specs.declared.Stand.TheVariants.{End, Bad, At}
@@ -65,16 +63,16 @@ FileBytes images unit file first bytes = ChainBytes images unit file 719 first E
 
 -- "0 ends the directory"; "In use: $40 set, $80 clear, whatever else. Flag 0 ends the directory; all others are passed over.": of the
 -- entries from this one on the first that is in use and matches, or 64
-pub data FirstMatch (images : List ℕ) (unit : ℕ) (name : Name) : (entry found : ℕ) → Type 0 where
-  no_more : {entry : ℕ} → 64 ≤ entry → FirstMatch images unit name entry 64
-  ended : {entry : ℕ} → entry < 64 → flag_of images unit entry ≡ 0 → FirstMatch images unit name entry 64
+pub data FirstMatch (images : List ℕ) (unit : ℕ) (pattern : List ℕ) : (entry found : ℕ) → Type 0 where
+  no_more : {entry : ℕ} → 64 ≤ entry → FirstMatch images unit pattern entry 64
+  ended : {entry : ℕ} → entry < 64 → flag_of images unit entry ≡ 0 → FirstMatch images unit pattern entry 64
   this : {entry : ℕ} → entry < 64 → (flag_of images unit entry ≡ 0 → ⊥) → in_use (flag_of images unit entry) ≡ true
-      → AllFit (pattern_of name) images (entry_place unit entry + 5) → FirstMatch images unit name entry entry
+      → AllFit pattern images (entry_place unit entry + 5) → FirstMatch images unit pattern entry entry
   later : {entry found : ℕ} → entry < 64 → (flag_of images unit entry ≡ 0 → ⊥)
-      → (in_use (flag_of images unit entry) ≡ true → AllFit (pattern_of name) images (entry_place unit entry + 5) → ⊥)
-      → FirstMatch images unit name (entry + 1) found → FirstMatch images unit name entry found
+      → (in_use (flag_of images unit entry) ≡ true → AllFit pattern images (entry_place unit entry + 5) → ⊥)
+      → FirstMatch images unit pattern (entry + 1) found → FirstMatch images unit pattern entry found
 
 -- that one is found, and no other
-pub record FirstRule (images : List ℕ) (unit : ℕ) (name : Name) (entry : ℕ) : Type 0 where
-  pub always : FirstMatch images unit name entry (match_from images unit name entry)
-  pub only : (found : ℕ) → FirstMatch images unit name entry found → found ≡ match_from images unit name entry
+pub record FirstRule (images : List ℕ) (unit : ℕ) (pattern : List ℕ) (entry : ℕ) : Type 0 where
+  pub always : FirstMatch images unit pattern entry (match_from images unit pattern entry)
+  pub only : (found : ℕ) → FirstMatch images unit pattern entry found → found ≡ match_from images unit pattern entry

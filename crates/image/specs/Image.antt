@@ -1,12 +1,10 @@
 -- Document 02, Ask 12: "lent images of 720 sectors of 128 bytes, as DOS 2.0S writes them": where a sector and an entry lie, what they
 -- hold, and where a file's next character stands. A unit is a drive counted from 0: D1 is 0.
 -- Assumes nothing.
-use Rattle.std.specs.Prelude.{Bool, not, List, ℕ, zero, suc, ◌+◌, ◌*◌, ◌-◌, ◌/◌, ◌%◌, eqb, ltb, get_or}
+use Rattle.std.specs.Prelude.{Bool, not, List, ℕ, zero, suc, ◌+◌, ◌*◌, ◌-◌, ◌/◌, ◌%◌, eqb, ltb, get_or, Option, Some, None}
 use Rattle.base.specs.Choice.{pick, choose, and, or, bit}
-use Rattle.names.specs.declared.Name.{Name}
-use Rattle.names.specs.Names.{pattern_of, places_match}
-use Rattle.image.specs.declared.Sector.{Sector}
-use Rattle.image.specs.declared.Sector.TheVariants.{Wrong, Holds}
+use Rattle.names.specs.Names.{places_match}
+use Rattle.image.specs.declared.Holding.{Holding}
 use Rattle.image.specs.declared.Stand.{Stand}
 use Rattle.image.specs.declared.Stand.TheVariants.{End, Bad, At}
 
@@ -48,20 +46,24 @@ abbrev pub first_of : List ℕ → (unit entry : ℕ) → ℕ
 first_of images unit entry = entry_byte images unit entry 3 + 256 * entry_byte images unit entry 4
 
 -- an entry in use whose name matches
-unfoldable pub matches_entry : List ℕ → (unit : ℕ) → Name → (entry : ℕ) → Bool
-matches_entry images unit name entry =
-    and (in_use (flag_of images unit entry)) (places_match (pattern_of name) images (entry_place unit entry + 5))
+unfoldable pub matches_entry : List ℕ → (unit : ℕ) → (pattern : List ℕ) → (entry : ℕ) → Bool
+matches_entry images unit pattern entry =
+    and (in_use (flag_of images unit entry)) (places_match pattern images (entry_place unit entry + 5))
 
 -- of the next `left` entries from this one on the first match; 64 where there is none: "0 ends the directory", "all others are passed over"
-unfoldable pub match_in : List ℕ → (unit : ℕ) → Name → (left entry : ℕ) → ℕ
-match_in images unit name zero entry = 64
-match_in images unit name (suc left) entry =
+unfoldable pub match_in : List ℕ → (unit : ℕ) → (pattern : List ℕ) → (left entry : ℕ) → ℕ
+match_in images unit pattern zero entry = 64
+match_in images unit pattern (suc left) entry =
     choose (eqb (flag_of images unit entry) 0) (λ u. 64)
-    (λ u. choose (matches_entry images unit name entry) (λ v. entry) (λ v. match_in images unit name left (entry + 1)))
+    (λ u. choose (matches_entry images unit pattern entry) (λ v. entry) (λ v. match_in images unit pattern left (entry + 1)))
 
 -- "64 entries"
-abbrev pub match_from : List ℕ → (unit : ℕ) → Name → (entry : ℕ) → ℕ
-match_from images unit name entry = match_in images unit name (64 - entry) entry
+abbrev pub match_from : List ℕ → (unit : ℕ) → (pattern : List ℕ) → (entry : ℕ) → ℕ
+match_from images unit pattern entry = match_in images unit pattern (64 - entry) entry
+
+-- an entry by its number, where there is one
+abbrev pub found_entry : (entry : ℕ) → Option ℕ
+found_entry entry = pick (ltb entry 64) (Some entry) None
 
 -- "A file sector has data in bytes 0 to 124; byte 125 is the file number times four plus the next sector's two high bits, 126 its low
 -- eight, 127 the data count"
@@ -80,8 +82,11 @@ bad_sector images unit file sector =
     or (ltb 719 sector) (or (not (eqb (file_of images unit sector) file)) (ltb 125 (data_count images unit sector)))
 
 -- what a sector holds for a file of this number: its data count and its link
-unfoldable pub sector_of : List ℕ → (unit file sector : ℕ) → Sector
-sector_of images unit file sector = pick (bad_sector images unit file sector) Wrong (Holds (data_count images unit sector) (next_of images unit sector))
+abbrev pub holding : (count next : ℕ) → Holding
+holding count next = record { count = count; next = next }
+
+unfoldable pub sector_of : List ℕ → (unit file sector : ℕ) → Option Holding
+sector_of images unit file sector = pick (bad_sector images unit file sector) None (Some (holding (data_count images unit sector) (next_of images unit sector)))
 
 -- where the next character of a file stands, with so many sectors that its chain may still begin: "next or first 0 ends the file"; "the
 -- byte at the place, if the place is below the count; if not, the link is followed in the same tick, over empty sectors too"; "a 720th

@@ -1,8 +1,7 @@
 -- Document 02, Ask 12: a block's place on a diskette, as its bytes say it: unit; 0 a file, 1 the directory; entry; place in the sector or in
 -- the record; then of a file its sector (2), how many sectors it has passed (2) and zeros, of a directory "its eleven pattern bytes".
 -- Assumes nothing.
-use Rattle.std.specs.Prelude.{ℕ, ◌+◌, ◌*◌, Bool, true, List, eqb, get_or}
-use Rattle.names.specs.declared.Name.{Name}
+use Rattle.std.specs.Prelude.{ℕ, ◌+◌, ◌*◌, Bool, List, [], ◌∷◌, eqb, get_or}
 
 module _ (p : List ℕ) where
   abbrev pub unit_of : ℕ
@@ -27,18 +26,7 @@ module _ (p : List ℕ) where
   passed_in = get_or p 6 0 + 256 * get_or p 7 0
 
   -- "A directory block keeps its eleven pattern bytes, entry and place in the record"
-  abbrev pub pattern_in : Name
-  pattern_in = record {
-    good = true;
-    n0 = get_or p 4 0;
-    n1 = get_or p 5 0;
-    n2 = get_or p 6 0;
-    n3 = get_or p 7 0;
-    n4 = get_or p 8 0;
-    n5 = get_or p 9 0;
-    n6 = get_or p 10 0;
-    n7 = get_or p 11 0;
-    e0 = get_or p 12 0;
-    e1 = get_or p 13 0;
-    e2 = get_or p 14 0;
-  }
+  abbrev pub pattern_in : List ℕ
+  pattern_in =
+      get_or p 4 0 ∷ get_or p 5 0 ∷ get_or p 6 0 ∷ get_or p 7 0 ∷ get_or p 8 0 ∷ get_or p 9 0 ∷ get_or p 10 0 ∷ get_or p 11 0
+      ∷ get_or p 12 0 ∷ get_or p 13 0 ∷ get_or p 14 0 ∷ []

@@ -3,9 +3,9 @@
 #![tactic(auto)]
 
 ghost use Rattle.std.specs.Prelude.{◌≡◌, ◌*◌, ◌+◌, ◌-◌, set};
-ghost use Rattle.image.specs.Image.{sector_place, sector_byte, entry_byte, flag_of, in_use, locked, count_of, first_of, matches_entry, match_from, sector_of, stand_of};
+ghost use Rattle.image.specs.Image.{sector_place, sector_byte, entry_byte, flag_of, in_use, locked, count_of, first_of, matches_entry, match_from, found_entry, sector_of, stand_of};
 
-use names::Name;
+use names::Pattern;
 
 // The bytes of an image, and of the four.
 pub const IMAGE: usize = 92160;
@@ -23,28 +23,18 @@ pub enum Stand {
     At(u16, u8, u16),
 }
 
-// A sector of a file: bad, or with so many characters and its link.
+// What a good sector of a file holds: so many characters, and its link.
 #[derive(Clone, Copy)]
-pub enum Sector {
-    Wrong,
-    Holds(u8, u16),
-}
-
-// The sectors before this one.
-fn before(sector: u16) -> u16
-    ensures { result ≡ sector - 1 }
-{
-    if sector == 0 {
-        return 0;
-    }
-    sector - 1
+pub struct Holding {
+    pub count: u8,
+    pub next: u16,
 }
 
 // A byte of a sector.
 pub fn sector_byte(images: &[u8], unit: u8, sector: u16, place: u8) -> u8
     ensures { result ≡ sector_byte images.now unit sector place }
 {
-    let before = before(sector);
+    let before = sector.saturating_sub(1);
     base::byte_at(
         images,
         IMAGE * unit as usize + 128 * before as usize + place as usize,
@@ -55,7 +45,7 @@ pub fn sector_byte(images: &[u8], unit: u8, sector: u16, place: u8) -> u8
 pub fn set_sector_byte(images: &mut [u8], unit: u8, sector: u16, place: u8, byte: u8)
     ensures { images.new ≡ set images.old (sector_place unit sector + place) byte }
 {
-    let before = before(sector);
+    let before = sector.saturating_sub(1);
     base::set_byte(
         images,
         IMAGE * unit as usize + 128 * before as usize + place as usize,
@@ -83,10 +73,7 @@ pub fn flag(images: &[u8], unit: u8, entry: u8) -> u8
 pub fn in_use(flag: u8) -> bool
     ensures { result ≡ in_use flag }
 {
-    if flag / 64 % 2 == 1 {
-        return flag / 128 % 2 != 1;
-    }
-    false
+    flag / 64 % 2 == 1 && flag / 128 % 2 != 1
 }
 
 pub fn is_locked(flag: u8) -> bool
@@ -95,18 +82,11 @@ pub fn is_locked(flag: u8) -> bool
     flag / 32 % 2 == 1
 }
 
-// Two bytes, low byte first.
-fn word(low: u8, high: u8) -> u16
-    ensures { result ≡ low + 256 * high }
-{
-    low as u16 + 256 * high as u16
-}
-
 // An entry's first sector.
 pub fn first(images: &[u8], unit: u8, entry: u8) -> u16
     ensures { result ≡ first_of images.now unit entry }
 {
-    word(
+    base::word(
         entry_byte(images, unit, entry, 3),
         entry_byte(images, unit, entry, 4),
     )
@@ -116,59 +96,56 @@ pub fn first(images: &[u8], unit: u8, entry: u8) -> u16
 pub fn count(images: &[u8], unit: u8, entry: u8) -> u16
     ensures { result ≡ count_of images.now unit entry }
 {
-    word(
+    base::word(
         entry_byte(images, unit, entry, 1),
         entry_byte(images, unit, entry, 2),
     )
 }
 
 // An entry in use whose name matches.
-fn matches_entry(images: &[u8], unit: u8, name: Name, entry: u8, flag: u8) -> bool
+#[tactic(auto, unfolding(crate::specs::Image::matches_entry))]
+fn matches_entry(images: &[u8], unit: u8, pattern: &Pattern, entry: u8, flag: u8) -> bool
     requires { flag ≡ flag_of images.now unit entry }
-    ensures { result ≡ matches_entry images.now unit name entry }
+    ensures { result ≡ matches_entry images.now unit pattern.now entry }
 {
-    if in_use(flag) {
-        let place = 92160 * unit as u32 + 46080 + 16 * entry as u32 + 5;
-        return names::matches(name, images, place);
-    }
-    false
+    let place = 92160 * unit as u32 + 46080 + 16 * entry as u32 + 5;
+    in_use(flag) && names::matches(pattern, images, place)
 }
 
-// The first match from an entry on, before the directory's end; 64 where there is none.
-pub fn find(images: &[u8], unit: u8, name: Name, from: u8) -> u8
-    ensures { result ≡ match_from images.now unit name from }
+// The first match from an entry on, before the directory's end.
+pub fn find(images: &[u8], unit: u8, pattern: &Pattern, from: u8) -> Option<u8>
+    ensures { result ≡ found_entry (match_from images.now unit pattern.now from) }
 {
-    let mut entry = from;
-    while entry < 64 {
+    for entry in from..64 {
         let flag = flag(images, unit, entry);
         if flag == 0 {
-            return 64;
+            return None;
         }
-        if matches_entry(images, unit, name, entry, flag) {
-            return entry;
+        if matches_entry(images, unit, pattern, entry, flag) {
+            return Some(entry);
         }
-        entry += 1;
     }
-    64
+    None
 }
 
-// What a sector holds for a file of this number.
-pub fn sector_of(images: &[u8], unit: u8, file: u8, sector: u16) -> Sector
+// What a sector holds for a file of this number, if it is a good one.
+#[tactic(auto, unfolding(crate::specs::Image::sector_of))]
+pub fn sector_of(images: &[u8], unit: u8, file: u8, sector: u16) -> Option<Holding>
     ensures { result ≡ sector_of images.now unit file sector }
 {
     if 719 < sector {
-        return Sector::Wrong;
+        return None;
     }
     let link = sector_byte(images, unit, sector, 125);
-    if link / 4 == file {
-        let count = sector_byte(images, unit, sector, 127);
-        if 125 < count {
-            return Sector::Wrong;
-        }
-        let low = sector_byte(images, unit, sector, 126);
-        return Sector::Holds(count, word(low, link % 4));
+    let count = sector_byte(images, unit, sector, 127);
+    if link / 4 != file || 125 < count {
+        return None;
     }
-    Sector::Wrong
+    let low = sector_byte(images, unit, sector, 126);
+    Some(Holding {
+        count: count,
+        next: base::word(low, link % 4),
+    })
 }
 
 // Where the next character of a file stands: links are followed over empty sectors too, and a chain has at most 719.
@@ -177,25 +154,18 @@ pub fn stand_of(images: &[u8], unit: u8, file: u8, sector: u16, place: u8, passe
 {
     let mut at = sector;
     let mut character = place;
-    let mut behind = passed;
-    while behind < 719 {
+    for behind in passed..719 {
         if at == 0 {
             return Stand::End;
         }
-        let found = sector_of(images, unit, file, at);
-        match found {
-            Sector::Wrong => {
-                return Stand::Bad;
-            }
-            Sector::Holds(count, next) => {
-                if character < count {
-                    return Stand::At(at, character, behind);
-                }
-                at = next;
-                character = 0;
-                behind += 1;
-            }
+        let Some(held) = sector_of(images, unit, file, at) else {
+            return Stand::Bad;
+        };
+        if character < held.count {
+            return Stand::At(at, character, behind);
         }
+        at = held.next;
+        character = 0;
     }
     if at == 0 {
         return Stand::End;

@@ -9,17 +9,20 @@ ghost use Rattle.listing.specs.Directory.{free_of, digit_at, entry_byte_at, free
 ghost use Rattle.listing.specs.Listing.{listed_entry, listed_from, directory_read};
 
 use handler::Got;
-use names::Name;
+use names::Pattern;
 
 // Sector 360's free count.
 fn free(images: &[u8], unit: u8) -> u16
     ensures { result ≡ free_of images.now unit }
 {
-    image::sector_byte(images, unit, 360, 3) as u16
-        + 256 * image::sector_byte(images, unit, 360, 4) as u16
+    base::word(
+        image::sector_byte(images, unit, 360, 3),
+        image::sector_byte(images, unit, 360, 4),
+    )
 }
 
 // A digit of a count: its hundreds, tens or ones, by their place.
+#[tactic(auto, unfolding(crate::specs::Directory::digit_at))]
 fn digit(number: u16, place: u8) -> u8
     ensures { result ≡ digit_at number place }
 {
@@ -33,6 +36,7 @@ fn digit(number: u16, place: u8) -> u8
 }
 
 // A character of an entry's record.
+#[tactic(auto, unfolding(crate::specs::Directory::entry_byte_at))]
 fn entry_character(images: &[u8], unit: u8, entry: u8, place: u8) -> u8
     ensures { result ≡ entry_byte_at images.now unit entry place }
 {
@@ -60,6 +64,7 @@ fn entry_character(images: &[u8], unit: u8, entry: u8, place: u8) -> u8
 const FREE_SECTORS: [u8; 13] = *b" FREE SECTORS";
 
 // A character of the free record.
+#[tactic(auto, unfolding(crate::specs::Directory::free_byte_at))]
 fn free_character(images: &[u8], unit: u8, place: u8) -> u8
     ensures { result ≡ free_byte_at images.now unit place }
 {
@@ -74,7 +79,7 @@ fn free_character(images: &[u8], unit: u8, place: u8) -> u8
     0x9B
 }
 
-// A character of an entry's record; 64 is the free record.
+// A character of an entry's record; 64 is the free record, a number as the entry that a block's place has.
 pub fn record_character(images: &[u8], unit: u8, entry: u8, place: u8) -> u8
     ensures { result ≡ record_byte images.now unit entry place }
 {
@@ -95,23 +100,14 @@ pub fn record_length(entry: u8) -> u8
 }
 
 // A directory's pattern.
-fn pattern(p: &[u8]) -> Name
+fn pattern(p: &[u8]) -> Pattern
     ensures { result ≡ pattern_in p.now }
 {
-    Name {
-        good: true,
-        n0: base::byte_at(p, 4),
-        n1: base::byte_at(p, 5),
-        n2: base::byte_at(p, 6),
-        n3: base::byte_at(p, 7),
-        n4: base::byte_at(p, 8),
-        n5: base::byte_at(p, 9),
-        n6: base::byte_at(p, 10),
-        n7: base::byte_at(p, 11),
-        e0: base::byte_at(p, 12),
-        e1: base::byte_at(p, 13),
-        e2: base::byte_at(p, 14),
+    let mut pattern = [0; 11];
+    for place in 0..11 {
+        pattern[place] = base::byte_at(p, 4 + place);
     }
+    pattern
 }
 
 // The entry whose record is read: before its first character the next match is looked for.
@@ -120,20 +116,13 @@ fn listed(p: &[u8], images: &[u8]) -> u8
 {
     let entry = base::byte_at(p, 2);
     if base::byte_at(p, 3) == 0 {
-        return image::find(images, base::byte_at(p, 0), pattern(p), entry);
+        return image::find(images, base::byte_at(p, 0), &pattern(p), entry).unwrap_or(64);
     }
     entry
 }
 
-// A directory's entry and place.
-fn turn_to(p: &mut [u8], entry: u8, place: u8)
-    ensures { p.new ≡ sets p.old 2 (entry ∷ place ∷ []) }
-{
-    base::set_byte(p, 2, entry);
-    base::set_byte(p, 3, place);
-}
-
 // A character of an entry's record.
+#[tactic(auto, unfolding(crate::specs::Listing::listed_from))]
 fn list(p: &mut [u8], images: &[u8], entry: u8) -> Got
     requires { entry < 255 }
     ensures { answer result p.new ≡ listed_from p.old images.now entry }
@@ -141,10 +130,10 @@ fn list(p: &mut [u8], images: &[u8], entry: u8) -> Got
     let place = base::byte_at(p, 3);
     let byte = record_character(images, base::byte_at(p, 0), entry, place);
     if (place as u16) + 1 < record_length(entry) as u16 {
-        turn_to(p, entry, place + 1);
+        base::lay(p, 2, &[entry, place + 1]);
         return Got::Character(byte);
     }
-    turn_to(p, entry + 1, 0);
+    base::lay(p, 2, &[entry + 1, 0]);
     if entry < 64 {
         return Got::Character(byte);
     }
@@ -152,6 +141,7 @@ fn list(p: &mut [u8], images: &[u8], entry: u8) -> Got
 }
 
 // The next character of a directory.
+#[tactic(auto, unfolding(crate::specs::Listing::directory_read))]
 pub fn read(p: &mut [u8], images: &[u8]) -> Got
     ensures { answer result p.new ≡ directory_read p.old images.now }
 {

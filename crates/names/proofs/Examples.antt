@@ -4,14 +4,15 @@ use mathlib.Core.Path.{◌≡◌, refl}
 use mathlib.Core.Bool.{true, false}
 use mathlib.Core.List.{List, [], ◌∷◌}
 use Prim.Native.Nat.{ℕ}
-use Rattle.names.specs.declared.Named.{Named}
-use Rattle.names.specs.declared.Named.TheVariants.{Past, Found}
-use Rattle.names.specs.Names.{cut_of, named_in, bad_name, places_match}
+use Rattle.std.specs.Prelude.{Result, Ok, Err}
+use Rattle.names.specs.declared.NameError.{NameError}
+use Rattle.names.specs.declared.NameError.TheVariants.{Past, Bad}
+use Rattle.names.specs.Names.{cut_of, named_in, places_match}
 
 -- a good name by its eleven bytes
-abbrev good : (n0 n1 n2 n3 n4 n5 n6 n7 e0 e1 e2 : ℕ) → Named
+abbrev good : (n0 n1 n2 n3 n4 n5 n6 n7 e0 e1 e2 : ℕ) → Result (List ℕ) NameError
 good n0 n1 n2 n3 n4 n5 n6 n7 e0 e1 e2 =
-    Found (record { good = true; n0 = n0; n1 = n1; n2 = n2; n3 = n3; n4 = n4; n5 = n5; n6 = n6; n7 = n7; e0 = e0; e1 = e1; e2 = e2 })
+    Ok (n0 ∷ n1 ∷ n2 ∷ n3 ∷ n4 ∷ n5 ∷ n6 ∷ n7 ∷ e0 ∷ e1 ∷ e2 ∷ [])
 
 -- "OPEN with AUX1 4 on that diskette: `D:H*.T?T` $01": H???????T?T, whatever follows the EOL
 pub h_star : (rest : List ℕ) → named_in (0x48 ∷ 0x2A ∷ 0x2E ∷ 0x54 ∷ 0x3F ∷ 0x54 ∷ 0x9B ∷ rest) ≡ good 0x48 0x3F 0x3F 0x3F 0x3F 0x3F 0x3F 0x3F 0x54 0x3F 0x54
@@ -41,26 +42,26 @@ unfolding named_in cut_of
 ten_letters rest = refl
 
 -- "`D:HELLO.TXT.` $A5"
-pub two_dots : (rest : List ℕ) → named_in (0x48 ∷ 0x45 ∷ 0x4C ∷ 0x4C ∷ 0x4F ∷ 0x2E ∷ 0x54 ∷ 0x58 ∷ 0x54 ∷ 0x2E ∷ rest) ≡ Found bad_name
+pub two_dots : (rest : List ℕ) → named_in (0x48 ∷ 0x45 ∷ 0x4C ∷ 0x4C ∷ 0x4F ∷ 0x2E ∷ 0x54 ∷ 0x58 ∷ 0x54 ∷ 0x2E ∷ rest) ≡ Err Bad
 unfolding named_in cut_of
 two_dots rest = refl
 
 -- "`D:hello.txt` $A5"
-pub lower_case : (rest : List ℕ) → named_in (0x68 ∷ 0x65 ∷ 0x6C ∷ 0x6C ∷ 0x6F ∷ 0x2E ∷ 0x74 ∷ 0x78 ∷ 0x74 ∷ rest) ≡ Found bad_name
+pub lower_case : (rest : List ℕ) → named_in (0x68 ∷ 0x65 ∷ 0x6C ∷ 0x6C ∷ 0x6F ∷ 0x2E ∷ 0x74 ∷ 0x78 ∷ 0x74 ∷ rest) ≡ Err Bad
 unfolding named_in cut_of
 lower_case rest = refl
 
 -- "`D:ABCDEFGHIJ-` $A5": also behind the eighth place
-pub bad_behind : (rest : List ℕ) → named_in (0x41 ∷ 0x42 ∷ 0x43 ∷ 0x44 ∷ 0x45 ∷ 0x46 ∷ 0x47 ∷ 0x48 ∷ 0x49 ∷ 0x4A ∷ 0x2D ∷ rest) ≡ Found bad_name
+pub bad_behind : (rest : List ℕ) → named_in (0x41 ∷ 0x42 ∷ 0x43 ∷ 0x44 ∷ 0x45 ∷ 0x46 ∷ 0x47 ∷ 0x48 ∷ 0x49 ∷ 0x4A ∷ 0x2D ∷ rest) ≡ Err Bad
 unfolding named_in cut_of
 bad_behind rest = refl
 
 -- "As the area's last bytes: `D:A` $B0, .. `D:-` $A5."
-pub a_at_end : named_in (0x41 ∷ []) ≡ Past
+pub a_at_end : named_in (0x41 ∷ []) ≡ Err Past
 unfolding named_in cut_of
 a_at_end = refl
 
-pub bad_at_end : named_in (0x2D ∷ []) ≡ Found bad_name
+pub bad_at_end : named_in (0x2D ∷ []) ≡ Err Bad
 unfolding named_in cut_of
 bad_at_end = refl
 

@@ -11,7 +11,7 @@ use lib.ListN.{length, get_or, take, replicate}
 use Rattle.base.specs.Choice.{pick}
 use Rattle.names.specs.Names.{field_at, name_of}
 use Rattle.names.specs.Fields.{NoStar, FillRule, RestIgnored, StarRule}
-use Rattle.names.proofs.Laws.{star_fills, first_stands, next_place, filled}
+use Rattle.names.proofs.Laws.{star_fills, first_stands, next_place}
 
 itself : (bytes : List ℕ) → NoStar bytes → (k : ℕ) → k < length bytes → field_at bytes k ≡ get_or bytes k 0
 itself [] s k h = absurd (not-suc-le-zero h)
@@ -54,10 +54,19 @@ fill_rule bytes none =
 module _ (name name' extension extension' : List ℕ) (n : (k : ℕ) → k < 8 → field_at name k ≡ field_at name' k) (e : (k : ℕ) → k < 3 → field_at extension k ≡ field_at extension' k) where
   same_places : name_of name extension ≡ name_of name' extension'
   same_places =
-      filled name' extension' (field_at name 0) (field_at name 1) (field_at name 2) (field_at name 3) (field_at name 4) (field_at name 5) (field_at name 6) (field_at name 7)
-      (field_at extension 0) (field_at extension 1) (field_at extension 2)
-      (n 0 (omega arith)) (n 1 (omega arith)) (n 2 (omega arith)) (n 3 (omega arith)) (n 4 (omega arith)) (n 5 (omega arith)) (n 6 (omega arith)) (n 7 (omega arith))
-      (e 0 (omega arith)) (e 1 (omega arith)) (e 2 (omega arith))
+      rw (
+        n 0 (omega arith),
+        n 1 (omega arith),
+        n 2 (omega arith),
+        n 3 (omega arith),
+        n 4 (omega arith),
+        n 5 (omega arith),
+        n 6 (omega arith),
+        n 7 (omega arith),
+        e 0 (omega arith),
+        e 1 (omega arith),
+        e 2 (omega arith),
+      )
 
 pub star_rule : (bytes rest other : List ℕ) (none : NoStar bytes) → StarRule bytes rest other none
 star_rule bytes rest other none =

@@ -9,7 +9,8 @@ use borrow.Author.Tests.{eqb-true, leb-true, le-leb, lt-leb, ne_eqb}
 use lib.Dec.{T, eqb, leb}
 use Rattle.base.specs.Choice.{or, within}
 use Rattle.base.proofs.Choices.{and_left, and_right, by_test, by_eq}
-use Rattle.names.specs.declared.Named.{Named}
+use Rattle.std.specs.Prelude.{Result}
+use Rattle.names.specs.declared.NameError.{NameError}
 use Rattle.names.specs.Names.{Field, past, bad, dotted, ended, onto, cut_of, ends_name, may_stand, extended_by, named_by, named_in}
 use Rattle.names.specs.Read.{Stands, letter, digit, star, question, AllStand, Ends, eol, blank, Outside, NameReads, past_name, past_extension, bad_name_case, bad_extension, second_dot, alone, extended}
 use Rattle.names.proofs.Laws.{before, before_past, before_bad, before_ended, before_dotted, cut_ends, cut_dot, cut_more, cut_bad, cut_none}
@@ -87,7 +88,7 @@ module _ (field : List ℕ) (s : AllStand field) where
           standing field (byte ∷ rest) s ∙ ap (before field) (cut_bad byte rest e o.no_dot m) ∙ before_bad field
 
 -- it is what is read
-pub reads_named : (bytes : List ℕ) (r : Named) → NameReads bytes r → named_in bytes ≡ r
+pub reads_named : (bytes : List ℕ) (r : Result (List ℕ) NameError) → NameReads bytes r → named_in bytes ≡ r
 unfolding named_in
 reads_named bytes r (past_name s e) = rw (cut_all bytes s) (sym e)
 reads_named bytes r (past_extension name extension q s t e) = rw (q, cut_at_dot name s extension, cut_all extension t) (sym e)

@@ -1,14 +1,13 @@
 -- Document 02, Ask 12: "names with * and ? (a byte outside A-Z, 0-9, these, one dot and the end, EOL or blank: $A5, with the group held;
 -- past eight or three, ignored)": a name read from the bytes behind a colon, its pattern, and what matches it.
 -- Assumes nothing.
-use Rattle.std.specs.Prelude.{◌≡◌, Bool, true, false, List, [], ◌∷◌, ℕ, zero, suc, ◌+◌, ◌-◌, ◌<◌, eqb, length, get_or, drop}
+use Rattle.std.specs.Prelude.{◌≡◌, Bool, true, List, [], ◌∷◌, ℕ, zero, suc, ◌+◌, ◌-◌, ◌<◌, eqb, length, get_or, drop, Option, Some, None, Result, Ok, Err}
 use Rattle.base.specs.Choice.{pick, choose, and, or, within}
 use Rattle.base.specs.Parts.{part}
-use Rattle.names.specs.declared.Name.{Name}
 use Rattle.names.specs.declared.Cut.{Cut}
-use Rattle.names.specs.declared.Cut.TheVariants as cuts
-use Rattle.names.specs.declared.Named.{Named}
-use Rattle.names.specs.declared.Named.TheVariants.{Past, Found}
+use Rattle.names.specs.declared.Cut.TheVariants.{Dot, End}
+use Rattle.names.specs.declared.NameError.{NameError}
+use Rattle.names.specs.declared.NameError.TheVariants.{Past, Bad}
 
 -- "the end, EOL or blank"
 abbrev pub ends_name : ℕ → Bool
@@ -39,19 +38,19 @@ cut_of (byte ∷ bytes) =
     (λ v. choose (may_stand byte) (λ w. onto byte (cut_of bytes)) (λ w. bad)))
 
 -- the same by places of the area: where the field ends, inside the area
-abbrev pub field_by : List ℕ → (from : ℕ) → Cut → Field
-field_by half from cuts.Past = past
-field_by half from cuts.Bad = bad
-field_by half from (cuts.Dot at) = dotted (part from (at - from) half) (drop (at + 1) half)
-field_by half from (cuts.End at) = ended (part from (at - from) half)
+abbrev pub field_by : List ℕ → (from : ℕ) → Result Cut NameError → Field
+field_by half from (Err Past) = past
+field_by half from (Err Bad) = bad
+field_by half from (Ok (Dot at)) = dotted (part from (at - from) half) (drop (at + 1) half)
+field_by half from (Ok (End at)) = ended (part from (at - from) half)
 
-abbrev pub Inside : List ℕ → Cut → Type 0
-Inside half cuts.Past = Unit {0}
-Inside half cuts.Bad = Unit {0}
-Inside half (cuts.Dot at) = at < length half
-Inside half (cuts.End at) = at < length half
+abbrev pub Inside : List ℕ → Result Cut NameError → Type 0
+Inside half (Err Past) = Unit {0}
+Inside half (Err Bad) = Unit {0}
+Inside half (Ok (Dot at)) = at < length half
+Inside half (Ok (End at)) = at < length half
 
-pub record CutIn (half : List ℕ) (from : ℕ) (c : Cut) : Type 0 where
+pub record CutIn (half : List ℕ) (from : ℕ) (c : Result Cut NameError) : Type 0 where
   pub cut : field_by half from c ≡ cut_of (drop from half)
   pub inside : Inside half c
 
@@ -62,52 +61,40 @@ field_at (byte ∷ bytes) zero = pick (eqb byte 0x2A) 0x3F byte
 field_at (byte ∷ bytes) (suc place) = pick (eqb byte 0x2A) 0x3F (field_at bytes place)
 
 -- "name (8), extension (3)"; "past eight or three, ignored"
-abbrev pub name_of : (name extension : List ℕ) → Name
-name_of name extension = record {
-  good = true;
-  n0 = field_at name 0;
-  n1 = field_at name 1;
-  n2 = field_at name 2;
-  n3 = field_at name 3;
-  n4 = field_at name 4;
-  n5 = field_at name 5;
-  n6 = field_at name 6;
-  n7 = field_at name 7;
-  e0 = field_at extension 0;
-  e1 = field_at extension 1;
-  e2 = field_at extension 2;
-}
+abbrev pub name_of : (name extension : List ℕ) → List ℕ
+name_of name extension =
+    field_at name 0 ∷ field_at name 1 ∷ field_at name 2 ∷ field_at name 3 ∷ field_at name 4 ∷ field_at name 5 ∷ field_at name 6 ∷ field_at name 7
+    ∷ field_at extension 0 ∷ field_at extension 1 ∷ field_at extension 2 ∷ []
 
-abbrev pub blank_name : Bool → Name
-blank_name good = record { good = good; n0 = 0; n1 = 0; n2 = 0; n3 = 0; n4 = 0; n5 = 0; n6 = 0; n7 = 0; e0 = 0; e1 = 0; e2 = 0 }
+-- eight bytes and three, if it is good
+abbrev pub Eleven : Option (List ℕ) → Type 0
+Eleven None = Unit {0}
+Eleven (Some pattern) = length pattern ≡ 11
 
--- of a device that has no names; and of a name with a byte that none has
-abbrev pub no_name : Name
-no_name = blank_name true
+-- a name as it is read, by what is kept of it: none is kept of a name with a byte that no name has
+abbrev pub as_read : Option (List ℕ) → Result (List ℕ) NameError
+as_read None = Err Bad
+as_read (Some pattern) = Ok pattern
 
-abbrev pub bad_name : Name
-bad_name = blank_name false
-
--- its eleven bytes
-abbrev pub pattern_of : Name → List ℕ
-pattern_of n =
-    n.n0 ∷ n.n1 ∷ n.n2 ∷ n.n3 ∷ n.n4 ∷ n.n5 ∷ n.n6 ∷ n.n7 ∷ n.e0 ∷ n.e1 ∷ n.e2 ∷ []
+-- of a device that has no names
+abbrev pub no_name : List ℕ
+no_name = 0 ∷ 0 ∷ 0 ∷ 0 ∷ 0 ∷ 0 ∷ 0 ∷ 0 ∷ 0 ∷ 0 ∷ 0 ∷ []
 
 -- behind the dot: "one dot"
-abbrev pub extended_by : (name : List ℕ) → Field → Named
-extended_by name past = Past
-extended_by name bad = Found bad_name
-extended_by name (dotted extension rest) = Found bad_name
-extended_by name (ended extension) = Found (name_of name extension)
+abbrev pub extended_by : (name : List ℕ) → Field → Result (List ℕ) NameError
+extended_by name past = Err Past
+extended_by name bad = Err Bad
+extended_by name (dotted extension rest) = Err Bad
+extended_by name (ended extension) = Ok (name_of name extension)
 
 -- "The name is read from the colon to its end, EOL or blank, no further."; "Without a dot the extension is blank."
-abbrev pub named_by : Field → Named
-named_by past = Past
-named_by bad = Found bad_name
+abbrev pub named_by : Field → Result (List ℕ) NameError
+named_by past = Err Past
+named_by bad = Err Bad
 named_by (dotted name rest) = extended_by name (cut_of rest)
-named_by (ended name) = Found (name_of name [])
+named_by (ended name) = Ok (name_of name [])
 
-unfoldable pub named_in : List ℕ → Named
+unfoldable pub named_in : List ℕ → Result (List ℕ) NameError
 named_in bytes = named_by (cut_of bytes)
 
 -- "? matches any byte, the blank too; other bytes match themselves."

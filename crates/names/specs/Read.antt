@@ -1,9 +1,9 @@
 -- What is read of the bytes behind a colon, said of the bytes.
 -- Assumes nothing.
-use Rattle.std.specs.Prelude.{◌≡◌, List, [], ◌∷◌, ◌++◌, ℕ, ◌≤◌}
-use Rattle.names.specs.declared.Named.{Named}
-use Rattle.names.specs.declared.Named.TheVariants.{Past, Found}
-use Rattle.names.specs.Names.{bad_name, name_of}
+use Rattle.std.specs.Prelude.{◌≡◌, List, [], ◌∷◌, ◌++◌, ℕ, ◌≤◌, Result, Ok, Err}
+use Rattle.names.specs.declared.NameError.{NameError}
+use Rattle.names.specs.declared.NameError.TheVariants.{Past, Bad}
+use Rattle.names.specs.Names.{name_of}
 
 -- "A-Z, 0-9, these": * and ?
 pub data Stands (byte : ℕ) : Type 0 where
@@ -28,17 +28,17 @@ pub record Outside (byte : ℕ) : Type 0 where
   pub no_end : Ends byte → ⊥
 
 -- "The name is read from the colon to its end, EOL or blank, no further."
-pub data NameReads (bytes : List ℕ) (r : Named) : Type 0 where
+pub data NameReads (bytes : List ℕ) (r : Result (List ℕ) NameError) : Type 0 where
   -- "$B0 if the area ends before the name"
-  past_name : AllStand bytes → r ≡ Past → NameReads bytes r
-  past_extension : (name extension : List ℕ) → bytes ≡ name ++ (0x2E ∷ extension) → AllStand name → AllStand extension → r ≡ Past → NameReads bytes r
+  past_name : AllStand bytes → r ≡ Err Past → NameReads bytes r
+  past_extension : (name extension : List ℕ) → bytes ≡ name ++ (0x2E ∷ extension) → AllStand name → AllStand extension → r ≡ Err Past → NameReads bytes r
   -- "A bad byte ends the looking"
-  bad_name_case : (name rest : List ℕ) (byte : ℕ) → bytes ≡ name ++ (byte ∷ rest) → AllStand name → Outside byte → r ≡ Found bad_name → NameReads bytes r
+  bad_name_case : (name rest : List ℕ) (byte : ℕ) → bytes ≡ name ++ (byte ∷ rest) → AllStand name → Outside byte → r ≡ Err Bad → NameReads bytes r
   bad_extension : (name extension rest : List ℕ) (byte : ℕ) → bytes ≡ name ++ (0x2E ∷ (extension ++ (byte ∷ rest))) → AllStand name → AllStand extension → Outside byte
-      → r ≡ Found bad_name → NameReads bytes r
+      → r ≡ Err Bad → NameReads bytes r
   -- "a second dot too"
-  second_dot : (name extension rest : List ℕ) → bytes ≡ name ++ (0x2E ∷ (extension ++ (0x2E ∷ rest))) → AllStand name → AllStand extension → r ≡ Found bad_name → NameReads bytes r
+  second_dot : (name extension rest : List ℕ) → bytes ≡ name ++ (0x2E ∷ (extension ++ (0x2E ∷ rest))) → AllStand name → AllStand extension → r ≡ Err Bad → NameReads bytes r
   -- "Without a dot the extension is blank."
-  alone : (name rest : List ℕ) (end : ℕ) → bytes ≡ name ++ (end ∷ rest) → AllStand name → Ends end → r ≡ Found (name_of name []) → NameReads bytes r
+  alone : (name rest : List ℕ) (end : ℕ) → bytes ≡ name ++ (end ∷ rest) → AllStand name → Ends end → r ≡ Ok (name_of name []) → NameReads bytes r
   extended : (name extension rest : List ℕ) (end : ℕ) → bytes ≡ name ++ (0x2E ∷ (extension ++ (end ∷ rest))) → AllStand name → AllStand extension → Ends end
-      → r ≡ Found (name_of name extension) → NameReads bytes r
+      → r ≡ Ok (name_of name extension) → NameReads bytes r

@@ -1,10 +1,10 @@
 -- Document 01, Statuses and Commands: what a message comes to by the checks before the group, in their order: "CALL order: $86;
 -- bad command; $81 or $85; $83 or $87; $B0 and $82; then with the group held AUX1, mode, handler."
 -- Assumes nothing.
-use Rattle.std.specs.Prelude.{Bool, true, false, List, ℕ, ◌+◌, eqb, leb, ltb, get_or, drop}
+use Rattle.std.specs.Prelude.{Bool, true, false, List, ℕ, ◌+◌, eqb, leb, ltb, get_or, drop, Result, Ok, Err, Some, None}
 use Rattle.base.specs.Choice.{pick, or}
-use Rattle.names.specs.declared.Named.{Named}
-use Rattle.names.specs.declared.Named.TheVariants.{Past, Found}
+use Rattle.names.specs.declared.NameError.{NameError}
+use Rattle.names.specs.declared.NameError.TheVariants.{Past, Bad}
 use Rattle.names.specs.Names.{no_name, named_in}
 use Rattle.blocks.specs.declared.Device.{Device}
 use Rattle.blocks.specs.declared.Device.TheVariants.{E, S, K, P, C, D}
@@ -57,13 +57,14 @@ has_names P = false
 has_names C = false
 has_names D = true
 
-unfoldable pub named_for : Device → List ℕ → (address : ℕ) → Named
-named_for device half address = pick (has_names device) (named_in (drop (name_of half address) half)) (Found no_name)
+unfoldable pub named_for : Device → List ℕ → (address : ℕ) → Result (List ℕ) NameError
+named_for device half address = pick (has_names device) (named_in (drop (name_of half address) half)) (Ok no_name)
 
 -- "($B0 if the area ends before the name)"
-abbrev pub named_plan : After → Device → (number : ℕ) → Named → Call → Plan
-named_plan then device number Past call = at_once 0xB0 call
-named_plan then device number (Found name) call = planned_of device (work.Open then number name) call
+abbrev pub named_plan : After → Device → (number : ℕ) → Result (List ℕ) NameError → Call → Plan
+named_plan then device number (Err Past) call = at_once 0xB0 call
+named_plan then device number (Err Bad) call = planned_of device (work.Open then number None) call
+named_plan then device number (Ok pattern) call = planned_of device (work.Open then number (Some pattern)) call
 
 -- "$B0 and $82"
 abbrev pub open_plan : After → Specification → List ℕ → Call → Plan

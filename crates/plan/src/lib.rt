@@ -7,7 +7,7 @@ ghost use Rattle.plan.specs.Plan.{planned_of, name_of, has_names, named_for, nam
 
 use blocks::{Device, Kind, Specification};
 use devices::Group;
-use names::{Name, Named};
+use names::{NameError, Pattern};
 use wire::Call;
 
 // What follows an opening: the block stays open, or GET STATUS or SPECIAL answers and it is closed again.
@@ -18,13 +18,14 @@ pub enum After {
     Special,
 }
 
-// What is done with the group held; of an opening also the device's number, and the name behind the colon.
+// What is done with the group held; of an opening also the device's number, and the pattern of the name behind the colon, none where a
+// byte of it is bad.
 #[derive(Clone, Copy)]
 pub enum Work {
     Close,
     Status,
     Special,
-    Open(After, u8, Name),
+    Open(After, u8, Option<Pattern>),
     Transfer(Kind),
 }
 
@@ -64,6 +65,7 @@ pub fn planned(device: Device, work: Work, call: Call) -> Plan
 }
 
 // Where what follows a specification's colon begins.
+#[tactic(auto, unfolding(crate::specs::Plan::name_of))]
 fn name_at(half: &[u8], address: u16) -> u32
     ensures { result ≡ name_of half.now address }
 {
@@ -77,37 +79,35 @@ fn name_at(half: &[u8], address: u16) -> u32
 fn has_names(device: Device) -> bool
     ensures { result ≡ has_names device }
 {
-    match device {
-        Device::E => false,
-        Device::S => false,
-        Device::K => false,
-        Device::P => false,
-        Device::C => false,
-        Device::D => true,
-    }
+    matches!(device, Device::D)
 }
 
 // The name behind the colon, of a device that has names.
-fn named_for(device: Device, half: &[u8], address: u16) -> Named
+#[tactic(auto, unfolding(crate::specs::Plan::named_for))]
+fn named_for(device: Device, half: &[u8], address: u16) -> Result<Pattern, NameError>
     ensures { result ≡ named_for device half.now address }
 {
     if has_names(device) {
         let place = name_at(half, address);
         return names::name_at(half, place as usize);
     }
-    Named::Found(names::none())
+    Ok(names::none())
 }
 
 // An opening of a device, whose name ends in the area.
-fn named_plan(after: After, device: Device, number: u8, named: Named, call: Call) -> Plan
+fn named_plan(
+    after: After,
+    device: Device,
+    number: u8,
+    named: Result<Pattern, NameError>,
+    call: Call,
+) -> Plan
     ensures { result ≡ named_plan after device number named call }
 {
     match named {
-        Named::Past => Plan::Free(Errand::Status(0xB0, call.a)),
-        Named::Found(name) => {
-            let work = Work::Open(after, number, name);
-            planned(device, work, call)
-        }
+        Err(NameError::Past) => Plan::Free(Errand::Status(0xB0, call.a)),
+        Err(NameError::Bad) => planned(device, Work::Open(after, number, None), call),
+        Ok(pattern) => planned(device, Work::Open(after, number, Some(pattern)), call),
     }
 }
 
@@ -126,6 +126,7 @@ pub fn open_plan(after: After, half: &[u8], call: Call) -> Plan
 }
 
 // The buffer is in the area, or is not looked at.
+#[tactic(auto, unfolding(crate::specs::Plan::area_plan))]
 fn area_plan(reads: bool, records: bool, device: Device, call: Call) -> Plan
     ensures { result ≡ area_plan reads records device call }
 {
@@ -142,6 +143,7 @@ fn area_plan(reads: bool, records: bool, device: Device, call: Call) -> Plan
 }
 
 // The direction is one that the block was opened for.
+#[tactic(auto, unfolding(crate::specs::Plan::transfer_plan))]
 pub fn transfer_plan(reads: bool, records: bool, device: Device, aux1: u8, call: Call) -> Plan
     ensures { result ≡ transfer_plan reads records device aux1 call }
 {

@@ -3,13 +3,13 @@
 use mathlib.Core.Path.{◌≡◌, ◌∙◌, refl, sym}
 use mathlib.Core.Bool.{Bool}
 use mathlib.Core.List.{List, [], ◌∷◌}
-use Prim.Native.Nat.{ℕ, suc, ◌+◌, ◌-◌, ◌*◌, ◌/◌, ◌%◌, ◌<◌, ◌≤◌}
+use Prim.Native.Nat.{ℕ, zero, suc, ◌+◌, ◌-◌, ◌*◌, ◌/◌, ◌%◌, ◌<◌, ◌≤◌}
 use native.Mathlib.Omega.{arith}
 use native.Mathlib.Numerals.{add-one}
 use borrow.Author.Tests.{eq-eqb, ne_eqb}
 use lib.Dec.{eqb}
 use lib.ListN.{length}
-use Rattle.base.specs.Choice.{pick}
+use Rattle.base.specs.Choice.{pick, choose, bit}
 use Rattle.base.proofs.Choices.{pick_eq}
 use Rattle.image.specs.Image.{sector_byte, first_of}
 use Rattle.chains.specs.Chains.{is_free, all_free}
@@ -62,14 +62,11 @@ module _ (image : List ℕ) (number : ℕ) (list : List ℕ) (entry last count a
     unfolding file_changes
     file_some n f = rw (ne_eqb count 0 n) (noted_two number list (cut_changes image last) between middle e (count_changes image entry count) (as_listed after out) f)
 
--- a bit of the map, and four and eight of them
+-- a bit of the map
 pub bit_one : (x : ℕ) → x < 2 → pick (eqb x 1) 1 0 ≡ x
 bit_one x h = pick_eq (λ (n : ℕ). n ≡ x) x 1 1 0 (λ e. sym e) (λ n. omega arith)
 
 module _ (image marks : List ℕ) (sector : ℕ) where
-  abbrev bit_at : ℕ → ℕ
-  bit_at = map_bit image (marked marks)
-
   pub bit_first : (byte : ℕ) → sector ≡ 0 → byte ≡ sector_byte image 0 360 10 → byte / 128 % 2 ≡ map_bit image (marked marks) sector
   bit_first byte z e = rw (eq-eqb sector 0 z, ← e) (sym (bit_one (byte / 128 % 2) (omega arith)))
 
@@ -79,20 +76,55 @@ module _ (image marks : List ℕ) (sector : ℕ) where
   pub free_most : (free : ℕ) → free ≡ pick (is_free (marked marks) sector) 1 0 → free ≤ 1
   free_most free e = let l = at_most_one (is_free (marked marks) sector) in omega arith
 
-  pub bits_four : (one other : ℕ) → one ≡ 2 * bit_at sector + bit_at (sector + 1) → other ≡ 2 * bit_at (sector + 2) + bit_at (sector + 2 + 1)
-      → 4 * one + other ≡ 8 * bit_at sector + 4 * bit_at (sector + 1) + 2 * bit_at (sector + 2) + bit_at (sector + 3)
-  bits_four one other e f = let z : sector + 2 + 1 ≡ sector + 3 = omega arith in let g = rw z at f in omega arith
+-- a byte of the map, bit by bit
+module _ (image : List ℕ) (claimed : ℕ → Bool) (sector : ℕ) where
+  unfoldable pub bits : ℕ → ℕ
+  bits zero = 0
+  bits (suc n) = 2 * bits n + map_bit image claimed (sector + n)
 
-  pub bits_eight : (one other : ℕ) → one ≡ 8 * bit_at sector + 4 * bit_at (sector + 1) + 2 * bit_at (sector + 2) + bit_at (sector + 3)
-      → other ≡ 8 * bit_at (sector + 4) + 4 * bit_at (sector + 4 + 1) + 2 * bit_at (sector + 4 + 2) + bit_at (sector + 4 + 3)
-      → 16 * one + other ≡ map_byte image (marked marks) sector
-  unfolding map_byte
-  bits_eight one other e f =
-      let x : sector + 4 + 1 ≡ sector + 5 = omega arith in
-      let y : sector + 4 + 2 ≡ sector + 6 = omega arith in
-      let z : sector + 4 + 3 ≡ sector + 7 = omega arith in
-      let g = rw (x, y, z) at f in
-      omega arith
+  most : ℕ → ℕ
+  most zero = 0
+  most (suc n) = 2 * most n + 1
+
+  bit_most : (at : ℕ) → map_bit image claimed at ≤ 1
+  bit_most at = at_most_one (choose (eqb at 0) (λ u. bit 128 (sector_byte image 0 360 10)) (λ u. is_free claimed at))
+
+  bits_most : (n : ℕ) → bits n ≤ most n
+  unfolding bits most
+  bits_most zero = omega arith
+  bits_most (suc n) = omega (arith, bits_most n, bit_most (sector + n))
+
+  most_low : (n : ℕ) → n < 8 → most n < 128
+  unfolding most
+  most_low zero h = omega arith
+  most_low (suc zero) h = omega arith
+  most_low (suc (suc zero)) h = omega arith
+  most_low (suc (suc (suc zero))) h = omega arith
+  most_low (suc (suc (suc (suc zero)))) h = omega arith
+  most_low (suc (suc (suc (suc (suc zero))))) h = omega arith
+  most_low (suc (suc (suc (suc (suc (suc zero)))))) h = omega arith
+  most_low (suc (suc (suc (suc (suc (suc (suc zero))))))) h = omega arith
+  most_low (suc (suc (suc (suc (suc (suc (suc (suc n)))))))) h = absurd (omega arith)
+
+  -- the first n of its bits
+  pub record Bits (byte n : ℕ) : Type 0 where
+    pub are : byte ≡ bits n
+
+  pub bits_none : Bits 0 0
+  unfolding bits
+  bits_none = record { are = refl }
+
+  module _ (byte n : ℕ) (w : Bits byte n) where
+    pub bits_low : n < 8 → byte < 128
+    bits_low h = omega (arith, w.are, bits_most n, most_low n h)
+
+    pub bits_more : (one : ℕ) → one ≡ map_bit image claimed (sector + n) → Bits (2 * byte + one) (n + 1)
+    unfolding bits
+    bits_more one e = record { are = rw (add-one, w.are, e) }
+
+    pub bits_eight : n ≡ 8 → byte ≡ map_byte image claimed sector
+    unfolding bits map_byte
+    bits_eight e = let z : sector + 0 ≡ sector = omega arith in let q = rw (e, z) at w.are in omega arith
 
 -- the loop over the map
 module _ (image : List ℕ) (claimed : ℕ → Bool) (number : ℕ) (list₀ : List ℕ) (there : ℕ) (list : List ℕ) (byte : ℕ)

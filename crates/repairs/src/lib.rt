@@ -21,8 +21,7 @@ fn note_count(image: &[u8], list: &mut [u8], number: u16, entry: u8, count: u16)
     requires { number < 511 }
     ensures { as_listed result list.new ≡ listed_on number list.old (differing (count_changes image.now entry count)) }
 {
-    let low = (count % 256) as u8;
-    let high = (count / 256) as u8;
+    let [low, high] = count.to_le_bytes();
     let between = note_entry(image, list, number, entry, 1, low);
     note_entry(image, list, between, entry, 2, high)
 }
@@ -73,8 +72,7 @@ fn note_free(image: &[u8], list: &mut [u8], number: u16, free: u16) -> u16
     requires { number < 511 }
     ensures { as_listed result list.new ≡ listed_on number list.old (differing (free_changes image.now free)) }
 {
-    let low = (free % 256) as u8;
-    let high = (free / 256) as u8;
+    let [low, high] = free.to_le_bytes();
     let between = changes::note(image, list, number, 360, 3, low);
     changes::note(image, list, between, 360, 4, high)
 }
@@ -90,33 +88,16 @@ fn map_bit(image: &[u8], marks: &[u8], sector: u16) -> u8
     chains::free(marks, sector)
 }
 
-// The bits of two sectors, and of four.
-fn map_pair(image: &[u8], marks: &[u8], sector: u16) -> u8
-    requires { sector < 2048 }
-    ensures { (result ≡ 2 * map_bit image.now (marked marks.now) sector + map_bit image.now (marked marks.now) (sector + 1)) × (result ≤ 3) }
-{
-    let one = map_bit(image, marks, sector);
-    let other = map_bit(image, marks, sector + 1);
-    2 * one + other
-}
-
-fn map_four(image: &[u8], marks: &[u8], sector: u16) -> u8
-    requires { sector < 2046 }
-    ensures { (result ≡ 8 * map_bit image.now (marked marks.now) sector + 4 * map_bit image.now (marked marks.now) (sector + 1) + 2 * map_bit image.now (marked marks.now) (sector + 2) + map_bit image.now (marked marks.now) (sector + 3)) × (result ≤ 15) }
-{
-    let one = map_pair(image, marks, sector);
-    let other = map_pair(image, marks, sector + 2);
-    4 * one + other
-}
-
 // A byte of the map, by its first sector.
 fn map_byte(image: &[u8], marks: &[u8], sector: u16) -> u8
     requires { sector < 2040 }
     ensures { result ≡ map_byte image.now (marked marks.now) sector }
 {
-    let one = map_four(image, marks, sector);
-    let other = map_four(image, marks, sector + 4);
-    16 * one + other
+    let mut byte: u8 = 0;
+    for bit in 0..8 {
+        byte = 2 * byte + map_bit(image, marks, sector + bit);
+    }
+    byte
 }
 
 // The map's 90 bytes.
@@ -125,11 +106,9 @@ fn note_map(image: &[u8], marks: &[u8], list: &mut [u8], number: u16) -> u16
     ensures { as_listed result list.new ≡ listed_on number list.old (differing (map_in image.now (marked marks.now) 90 0)) }
 {
     let mut there = number;
-    let mut byte: u8 = 0;
-    while byte < 90 {
+    for byte in 0..90 {
         let new = map_byte(image, marks, 8 * byte as u16);
         there = changes::note(image, list, there, 360, 10 + byte, new);
-        byte += 1;
     }
     there
 }

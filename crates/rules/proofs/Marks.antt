@@ -11,13 +11,13 @@ use native.Mathlib.Omega.{arith}
 use borrow.Author.Tests.{le-leb, leb-true, eq-eqb, ne_eqb, eqb-true}
 use lib.Dec.{eqb, leb}
 use lib.ListN.{length, set, get_or}
+use Rattle.std.specs.Prelude.{Option}
 use Rattle.base.proofs.Choices.{pick_eq, pick_lt, choose_go, and_left, and_right, by_eq}
 use Rattle.handler.specs.declared.Asked.{Asked}
 use Rattle.handler.specs.declared.Done.{Done}
 use Rattle.handler.specs.declared.Done.TheVariants as done
 use Rattle.handler.specs.declared.Got.{Got}
 use Rattle.handler.specs.Answer.{Answer, answer}
-use Rattle.names.specs.declared.Name.{Name}
 use Rattle.handler.specs.Acts.{Acts, asks_open, asks_on}
 use Rattle.cassette.specs.declared.Cassette.{Cassette}
 use Rattle.cassette.specs.Cassette.{CassetteGroup, mark_of, cassette_at, with_cassette, tape_opened, close_of, behind, read_of, taken_of, write_of, cassette_acts}
@@ -165,7 +165,7 @@ module _ (port : ℕ) (call : Call) (table : Table) (m T M : ℕ) where
     closed_mark : (y : CassetteGroup) → (close_of y).cassette.mark ≡ 0
     closed_mark y = ap (λ (c : Cassette). c.mark) (close_closed y)
 
-    module _ (number : ℕ) (name : Name) (c : before.state ≡ block.Closed) (a : Among T M before.state x.cassette.mark) where
+    module _ (number : ℕ) (name : Option (List ℕ)) (c : before.state ≡ block.Closed) (a : Among T M before.state x.cassette.mark) where
       abbrev Opens : After → Type 0
       Opens then =
           let y = cio.opened_of (cassette_acts (asks_open port call.iocb number call.aux1 call.aux2 name)) then x in

@@ -8,13 +8,13 @@ use Prim.Native.Nat.{ℕ, zero, suc, ◌+◌, ◌*◌, ◌<◌}
 use native.Mathlib.Omega.{arith}
 use lib.ListN.{length, get_or}
 use lib.Seq.{sets, length-sets}
+use Rattle.std.specs.Prelude.{Option}
 use Rattle.base.specs.Choice.{and}
 use Rattle.base.proofs.Choices.{choose_go, and_left, and_right, by_eq}
 use Rattle.handler.specs.declared.Asked.{Asked}
 use Rattle.handler.specs.declared.Done.{Done}
 use Rattle.handler.specs.declared.Done.TheVariants as done
 use Rattle.handler.specs.Acts.{Acts, asks_open, asks_on}
-use Rattle.names.specs.declared.Name.{Name}
 use Rattle.disk.specs.Disk.{places_length, place_opened, place_read, DiskGroup, place_number, place_at, disk_acts}
 use Rattle.disk.proofs.Keeps.{open_length, read_length, open_places, open_fits, read_fits, place_length_lem, place_own, place_other}
 use Rattle.blocks.specs.declared.BlockState.{BlockState}
@@ -219,7 +219,7 @@ module _ (port : ℕ) (low : port < 2) (call : Call) (table : Table) (places : L
         → Written port iocb before.state settled x.places (sets x.places (15 * place_number port iocb) (place_at port iocb x.places))
     rewrote settled f = wrote port iocb low small x.places (place_at port iocb x.places) (place_long x long) before.state settled long f
 
-    module _ (number : ℕ) (name : Name) (c : before.state ≡ block.Closed) where
+    module _ (number : ℕ) (name : Option (List ℕ)) (c : before.state ≡ block.Closed) where
       abbrev asked : Asked
       asked = asks_open port iocb number call.aux1 call.aux2 name
 

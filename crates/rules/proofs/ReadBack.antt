@@ -12,11 +12,12 @@ use lib.Dec.{eqb, leb, ltb}
 use lib.ListN.{length, get_or, set, take, drop, replicate, length-append, take-append-drop}
 use lib.Seq.{sets, length-sets, take-add, length-take-le}
 use borrow.Author.Tests.{le-ltb, le-leb, lt-leb, eq-eqb, ne_eqb}
+use Rattle.std.specs.Prelude.{Result, Ok, Err, Some, None}
 use Rattle.base.specs.Choice.{or, bit}
 use Rattle.base.proofs.Choices.{pick_go, choose_go, by_eq}
 use Rattle.base.proofs.Parts.{cat, part_same}
-use Rattle.names.specs.declared.Named.{Named}
-use Rattle.names.specs.declared.Named.TheVariants.{Past, Found}
+use Rattle.names.specs.declared.NameError.{NameError}
+use Rattle.names.specs.declared.NameError.TheVariants.{Past, Bad}
 use Rattle.handler.specs.declared.Asked.{Asked}
 use Rattle.handler.specs.declared.Done.{Done}
 use Rattle.handler.specs.declared.Done.TheVariants as done
@@ -756,9 +757,10 @@ abbrev OfCall : Call → Plan → Type 0
 OfCall c (plan.Free e) = Unit {0}
 OfCall c (plan.On job) = job.call ≡ c
 
-named_call : (c : Call) (then : After) (device : Device) (number : ℕ) (n : Named) → OfCall c (named_plan then device number n c)
-named_call c then device number Past = tt
-named_call c then device number (Found name) = refl
+named_call : (c : Call) (then : After) (device : Device) (number : ℕ) (n : Result (List ℕ) NameError) → OfCall c (named_plan then device number n c)
+named_call c then device number (Err Past) = tt
+named_call c then device number (Err Bad) = refl
+named_call c then device number (Ok pattern) = refl
 
 open_call : (c : Call) (then : After) (d : Specification) (half : List ℕ) → OfCall c (open_plan then d half c)
 open_call c then (Refused status) half = tt

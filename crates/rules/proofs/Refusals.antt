@@ -11,10 +11,10 @@ use lib.Dec.{eqb, leb, ltb}
 use lib.ListN.{get_or, set, length}
 use lib.Seq.{sets}
 use borrow.Author.Tests.{eq-eqb, ne_eqb}
+use Rattle.std.specs.Prelude.{Option}
 use Rattle.base.specs.Choice.{pick, or, within, bit}
 use Rattle.base.specs.Parts.{part}
 use Rattle.base.proofs.Choices.{pick_go, pick_eq, pick_lt, choose_go, choose_eq, by_test, by_eq}
-use Rattle.names.specs.declared.Name.{Name}
 use Rattle.handler.specs.declared.Asked.{Asked}
 use Rattle.handler.specs.declared.Done.{Done}
 use Rattle.handler.specs.declared.Done.TheVariants as done
@@ -77,7 +77,7 @@ status_in (goes run) = 0
 status_in (ends reply) = get_or reply 3 0
 
 -- what a handler may know of an opening
-abbrev pub opening_on : (port : ℕ) → Call → (number : ℕ) → Name → Asked
+abbrev pub opening_on : (port : ℕ) → Call → (number : ℕ) → Option (List ℕ) → Asked
 opening_on port call number name = asks_open port call.iocb number call.aux1 call.aux2 name
 
 -- a part stored where it lies changes nothing
@@ -273,7 +273,7 @@ module _ {D : Type 0} (H : Asked → Acts D) (port : ℕ) (device : Device) (cal
   prepared_a (done.Refused status) kind = refl
 
   -- what holds of both sides of an opening, by AUX1, holds of it
-  opening_go : (Q : Begun D → Type 0) (then : After) (number : ℕ) (name : Name)
+  opening_go : (Q : Begun D → Type 0) (then : After) (number : ℕ) (name : Option (List ℕ))
       → (offers_of device call.aux1 ≡ true
       → let y = opened_of (H (opening_on port call number name)) then x in
       Q (over call (block_after y.says then (open_block device number call.aux1) b) y.leaves (done_status y.says)))
@@ -308,7 +308,7 @@ module _ {D : Type 0} (H : Asked → Acts D) (port : ℕ) (device : Device) (cal
   -- SPECIAL or GET STATUS on a closed block, whose open succeeded
   pub record OpenedFirst (w : Work) : Type 0 where
     pub number : ℕ
-    pub name : Name
+    pub name : Option (List ℕ)
     pub then : After
     pub opens : w ≡ work.Open then number name
     pub goes_on : (then ≡ after.Special) ⊎ (then ≡ after.Status)
@@ -316,7 +316,7 @@ module _ {D : Type 0} (H : Asked → Acts D) (port : ℕ) (device : Device) (cal
     pub opened : ((H (opening_on port call number name)).opens x).says ≡ done.Success
 
   module _ (still : Still H) where
-    opened_device : (then : After) (number : ℕ) (name : Name) → offers_of device call.aux1 ≡ true → let A = H (opening_on port call number name) in
+    opened_device : (then : After) (number : ℕ) (name : Option (List ℕ)) → offers_of device call.aux1 ≡ true → let A = H (opening_on port call number name) in
         (d : Done) → (A.opens x).says ≡ d → 0x80 ≤ done_status (opened_by A then d (A.opens x).leaves).says
         → ((opened_by A then d (A.opens x).leaves).leaves ≡ x) ⊎ OpenedFirst (work.Open then number name)
     unfolding then_of
@@ -367,7 +367,7 @@ module _ {D : Type 0} (H : Asked → Acts D) (port : ℕ) (device : Device) (cal
 
 -- "(a SPECIAL on a closed block keeps its open's effects)": the block is closed again, and the device is as the open left it, closed; of
 -- the console, the printer and the diskettes closing changes nothing
-pub special_keeps : (o : Owner) (port : ℕ) (device : Device) (call : Call) (b : ControlBlock) (x : Part (group_in o)) (number : ℕ) (name : Name) → offers_of device call.aux1 ≡ true
+pub special_keeps : (o : Owner) (port : ℕ) (device : Device) (call : Call) (b : ControlBlock) (x : Part (group_in o)) (number : ℕ) (name : Option (List ℕ)) → offers_of device call.aux1 ≡ true
     → ((own_acts o (opening_on port call number name)).opens x).says ≡ done.Success
     → work_of (own_acts o) port (work.Open after.Special number name) device call b x ≡ over call b (let A = own_acts o (opening_on port call number name) in A.closes (A.opens x).leaves) 0x84
 unfolding work_of opening_of opened_of then_of

@@ -10,15 +10,15 @@ use borrow.Author.Tests.{ltb-false}
 use lib.Dec.{eqb, leb, ltb}
 use lib.ListN.{length}
 use lib.Seq.{length-sets}
+use Rattle.std.specs.Prelude.{Option, Result, Ok, Err, Some, None}
 use Rattle.base.specs.Choice.{or, within}
 use Rattle.base.proofs.Choices.{pick_go, choose_go}
 use Rattle.handler.specs.declared.Asked.{Asked}
 use Rattle.handler.specs.declared.Done.{Done}
 use Rattle.handler.specs.declared.Done.TheVariants as done
 use Rattle.handler.specs.Answer.{done_status}
-use Rattle.names.specs.declared.Name.{Name}
-use Rattle.names.specs.declared.Named.{Named}
-use Rattle.names.specs.declared.Named.TheVariants.{Past, Found}
+use Rattle.names.specs.declared.NameError.{NameError}
+use Rattle.names.specs.declared.NameError.TheVariants.{Past, Bad}
 use Rattle.handler.specs.Acts.{Acts, asks_open, asks_on}
 use Rattle.blocks.specs.declared.BlockState.{BlockState}
 use Rattle.blocks.specs.declared.BlockState.TheVariants as block
@@ -112,9 +112,10 @@ module _ (call : Call) (table : Table) where
         by (Refused status) n = tt
         by (Names device number) n = named (named_for device half call.address)
           where
-            named : (r : Named) → FitPlan (named_plan then device number r call) table
-            named Past = tt
-            named (Found name) = record { iocb = i; has = e; numbered = n device number refl }
+            named : (r : Result (List ℕ) NameError) → FitPlan (named_plan then device number r call) table
+            named (Err Past) = tt
+            named (Err Bad) = record { iocb = i; has = e; numbered = n device number refl }
+            named (Ok pattern) = record { iocb = i; has = e; numbered = n device number refl }
 
     area_fit : (reads records : Bool) (device : Device) → ((way : Way) → OpenFor (kind_of reads way) device (block_at table call.iocb).state) → FitPlan (area_plan reads records device call) table
     unfolding area_plan
@@ -210,7 +211,7 @@ module _ (device : Device) (port : ℕ) (call : Call) (table : Table) (m : table
   ended : (settled : ControlBlock) → made_of settled ≡ true → (y : Part (group_of device)) → FitPart (group_of device) y → (status : ℕ) → FitBegun device call.iocb table (over call settled y status)
   ended settled k y g status = record { made = with_made table call.iocb settled m k; fits = g; out = call_reply_fits status 0 call.a }
 
-  opening_keeps : (then : After) (number : ℕ) (name : Name) → within 1 (highest_of device) number ≡ true → FitBegun device call.iocb table (opening_of H port then number name device call before x)
+  opening_keeps : (then : After) (number : ℕ) (name : Option (List ℕ)) → within 1 (highest_of device) number ≡ true → FitBegun device call.iocb table (opening_of H port then number name device call before x)
   unfolding opening_of
   opening_keeps then number name n =
       let opens = asks_open port call.iocb number call.aux1 call.aux2 name in

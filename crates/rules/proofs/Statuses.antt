@@ -9,11 +9,12 @@ use native.Mathlib.Omega.{arith}
 use lib.Dec.{T, eqb, leb}
 use lib.ListN.{length, get_or, drop}
 use borrow.Author.Tests.{lt-ltb, le-ltb, le-leb, lt-leb, eq-eqb, ne_eqb, not-true}
+use Rattle.std.specs.Prelude.{Option, Result, Ok, Err, Some, None}
 use Rattle.base.specs.Choice.{or, within, bit}
 use Rattle.base.proofs.Choices.{pick_go, pick_eq, pick_lt, pick_le, choose_go, choose_eq, choose_lt, choose_le, by_test, by_lt, by_eq, and_false}
-use Rattle.names.specs.declared.Name.{Name}
-use Rattle.names.specs.declared.Named.{Named}
-use Rattle.names.specs.declared.Named.TheVariants.{Past, Found}
+use Rattle.names.specs.Names.{as_read, no_name}
+use Rattle.names.specs.declared.NameError.{NameError}
+use Rattle.names.specs.declared.NameError.TheVariants.{Past, Bad}
 use Rattle.names.specs.Read.{NameReads}
 use Rattle.names.proofs.Reading.{reads_named, named_reads}
 use Rattle.handler.specs.declared.Asked.{Asked}
@@ -146,10 +147,13 @@ pub data OpenSays (device : Device) (asked : Asked) (s : Groups) (says : Done) :
   opens_it : (BadMode device asked.aux1 asked.aux2 → ⊥) → (OpenElsewhere device s → ⊥) → (BadName device asked.name → ⊥)
       → (NoneMatches device asked.number asked.aux1 asked.name s → ⊥) → says ≡ done.Success → OpenSays device asked s says
 
+never_named : {P : Type 0} (name : Option (List ℕ)) (pattern : List ℕ) → name ≡ None → name ≡ Some pattern → P
+never_named name pattern e f = let z : ◌≡◌ {A = ℕ} 0 1 = cc in absurd (omega arith)
+
 opens_disk : (asked : Asked) (s : Groups) (says : Done) → disk.DiskOpens asked s.disk.images says → OpenSays D asked s says
-opens_disk asked s says (disk.bad_name_case g e) = badly_named (λ b. b) (λ b. b) g (λ m. both m.opens.good g) e
-opens_disk asked s says (disk.no_match m e) = not_there (λ b. b) (λ b. b) (λ g. both m.opens.good g) m e
-opens_disk asked s says (disk.opened g n e) = opens_it (λ b. b) (λ b. b) (λ b. both g b) n e
+opens_disk asked s says (disk.bad_name_case g e) = badly_named (λ b. b) (λ b. b) g (λ m. never_named asked.name m.opens.pattern g m.opens.good) e
+opens_disk asked s says (disk.no_match m e) = not_there (λ b. b) (λ b. b) (λ g. never_named asked.name m.opens.pattern g m.opens.good) m e
+opens_disk asked s says (disk.opened pattern g n e) = opens_it (λ b. b) (λ b. b) (λ b. never_named asked.name pattern b g) n e
 
 opens_says : (device : Device) (asked : Asked) (s : Groups) → OpenSays device asked s ((device_acts device asked).opens (get_group (group_of device) s)).says
 unfolding open_of open_s graphics.open_of cassette.tape_opened
@@ -407,51 +411,59 @@ row_any true b A B f r = refl
 row_any false b A B f r = f r
 
 -- what is read behind the colon
-no_past : {P : Type 0} (name : Name) → Found name ≡ Past → P
-no_past name e = let z : ◌≡◌ {A = ℕ} 0 1 = cc in absurd (omega arith)
+no_past : {P : Type 0} (name : Option (List ℕ)) → as_read name ≡ Err Past → P
+no_past None e = let z : ◌≡◌ {A = ℕ} 0 1 = cc in absurd (omega arith)
+no_past (Some pattern) e = let z : ◌≡◌ {A = ℕ} 0 1 = cc in absurd (omega arith)
 
-found_one : (one other : Name) → Found one ≡ Found other → other ≡ one
-found_one one other e = cc
+found_one : (one other : Option (List ℕ)) → as_read one ≡ as_read other → other ≡ one
+found_one None None e = refl
+found_one None (Some pattern) e = let z : ◌≡◌ {A = ℕ} 0 1 = cc in absurd (omega arith)
+found_one (Some pattern) None e = let z : ◌≡◌ {A = ℕ} 0 1 = cc in absurd (omega arith)
+found_one (Some one) (Some other) e = cc
+
+named_opens : (then : After) (device : Device) (number : ℕ) (name : Option (List ℕ)) (c : Call) → named_plan then device number (as_read name) c ≡ planned_of device (work.Open then number name) c
+named_opens then device number None c = refl
+named_opens then device number (Some pattern) c = refl
 
 module _ (half : List ℕ) (address : ℕ) where
   abbrev after_colon : List ℕ
   after_colon = drop (name_of half address) half
 
-  past_behind : (device : Device) → named_for device half address ≡ Past → BehindColon device half address Past
+  past_behind : (device : Device) → named_for device half address ≡ Err Past → BehindColon device half address (Err Past)
   unfolding named_for
-  past_behind E e = no_past _ e
-  past_behind S e = no_past _ e
-  past_behind K e = no_past _ e
-  past_behind P e = no_past _ e
-  past_behind C e = no_past _ e
+  past_behind E e = no_past (Some no_name) e
+  past_behind S e = no_past (Some no_name) e
+  past_behind K e = no_past (Some no_name) e
+  past_behind P e = no_past (Some no_name) e
+  past_behind C e = no_past (Some no_name) e
   past_behind D e = subst (NameReads after_colon) e (named_reads after_colon)
 
-  behind_past : (device : Device) → BehindColon device half address Past → named_for device half address ≡ Past
+  behind_past : (device : Device) → BehindColon device half address (Err Past) → named_for device half address ≡ Err Past
   unfolding named_for
   behind_past E b = absurd b
   behind_past S b = absurd b
   behind_past K b = absurd b
   behind_past P b = absurd b
   behind_past C b = absurd b
-  behind_past D b = reads_named after_colon Past b
+  behind_past D b = reads_named after_colon (Err Past) b
 
-  found_name : (device : Device) (name : Name) → named_for device half address ≡ Found name → HasName device half address name
+  found_name : (device : Device) (name : Option (List ℕ)) → named_for device half address ≡ as_read name → HasName device half address name
   unfolding named_for
-  found_name E name e = found_one _ name e
-  found_name S name e = found_one _ name e
-  found_name K name e = found_one _ name e
-  found_name P name e = found_one _ name e
-  found_name C name e = found_one _ name e
+  found_name E name e = found_one (Some no_name) name e
+  found_name S name e = found_one (Some no_name) name e
+  found_name K name e = found_one (Some no_name) name e
+  found_name P name e = found_one (Some no_name) name e
+  found_name C name e = found_one (Some no_name) name e
   found_name D name e = subst (NameReads after_colon) e (named_reads after_colon)
 
-  name_found : (device : Device) (name : Name) → HasName device half address name → named_for device half address ≡ Found name
+  name_found : (device : Device) (name : Option (List ℕ)) → HasName device half address name → named_for device half address ≡ as_read name
   unfolding named_for
-  name_found E name e = ap Found (sym e)
-  name_found S name e = ap Found (sym e)
-  name_found K name e = ap Found (sym e)
-  name_found P name e = ap Found (sym e)
-  name_found C name e = ap Found (sym e)
-  name_found D name e = reads_named after_colon (Found name) e
+  name_found E name e = ap as_read (sym e)
+  name_found S name e = ap as_read (sym e)
+  name_found K name e = ap as_read (sym e)
+  name_found P name e = ap as_read (sym e)
+  name_found C name e = ap as_read (sym e)
+  name_found D name e = reads_named after_colon (as_read name) e
 
 module _ (c : Call) (l : Local) (s : Groups) where
   abbrev Row : ℕ → Type 0
@@ -555,15 +567,15 @@ module _ (c : Call) (l : Local) (s : Groups) where
 
   -- An opening's
 
-  abbrev asks : (number : ℕ) → Name → Asked
+  abbrev asks : (number : ℕ) → Option (List ℕ) → Asked
   asks number name = asks_open l.number c.iocb number c.aux1 c.aux2 name
 
   -- what a device says to it
-  abbrev open_says : (device : Device) → (number : ℕ) → Name → Done
+  abbrev open_says : (device : Device) → (number : ℕ) → Option (List ℕ) → Done
   open_says device number name = (opens_to device (asks number name) s).says
 
   -- and then to GET STATUS
-  abbrev then_says : (device : Device) → (number : ℕ) → Name → Done
+  abbrev then_says : (device : Device) → (number : ℕ) → Option (List ℕ) → Done
   then_says device number name = (device_acts device (asks number name)).statuses (opens_to device (asks number name) s).leaves
 
   -- GET STATUS leaves the block as it was
@@ -571,7 +583,7 @@ module _ (c : Call) (l : Local) (s : Groups) where
   status_block done.Success opened before = refl
   status_block (done.Refused status) opened before = refl
 
-  module _ (device : Device) (then : After) (number : ℕ) (name : Name) where
+  module _ (device : Device) (then : After) (number : ℕ) (name : Option (List ℕ)) where
     abbrev opens : Plan
     opens = planned_of device (work.Open then number name) c
 
@@ -605,7 +617,7 @@ module _ (c : Call) (l : Local) (s : Groups) where
     open_refused_table status o e = open_table o ∙ rw e same_block
 
   -- with the device opened: "$01 or $84", of D "$A7 if the file is locked"
-  module _ (device : Device) (number : ℕ) (name : Name) (o : offers_of device c.aux1 ≡ true) (e : open_says device number name ≡ done.Success) where
+  module _ (device : Device) (number : ℕ) (name : Option (List ℕ)) (o : offers_of device c.aux1 ≡ true) (e : open_says device number name ≡ done.Success) where
     opened_stays : replied (opens device after.Stay number name) ≡ uncounted 0x01
     unfolding opened_of then_of
     opened_stays = open_said device after.Stay number name o ∙ rw e
@@ -707,12 +719,14 @@ module _ (c : Call) (l : Local) (s : Groups) where
         (stays 0x84 _ (open_not_table device then d.number d.name t) (opening_close d.opening) (λ q r. omega (arith, r))))
 
   module _ (fg : FitGroups s) (then : After) (o : Opening c l s) (h : ThenNumber then c.command) where
-    named_row : (device : Device) (number : ℕ) → Specified half c.address device number → (n : Named) → named_for device half c.address ≡ n → Holds (named_plan then device number n c)
-    named_row device number q Past e =
+    named_row : (device : Device) (number : ℕ) → Specified half c.address device number → (n : Result (List ℕ) NameError) → named_for device half c.address ≡ n → Holds (named_plan then device number n c)
+    named_row device number q (Err Past) e =
         leaf _ 0xB0 (at_once_lem 0xB0) (at_once_area 0xB0) (name_past device number o q (past_behind half c.address device e))
         (refuses 0xB0 (opening_close o) (λ r. omega (arith, r)))
-    named_row device number q (Found name) e =
-        device_row fg device (record { opening = o; number = number; specified = q; name = name; named = found_name half c.address device name e }) then h
+    named_row device number q (Err Bad) e =
+        device_row fg device (record { opening = o; number = number; specified = q; name = None; named = found_name half c.address device None e }) then h
+    named_row device number q (Ok pattern) e =
+        device_row fg device (record { opening = o; number = number; specified = q; name = Some pattern; named = found_name half c.address device (Some pattern) e }) then h
 
     specification_row : (sp : Specification) → specification_of half c.address ≡ sp → Holds (open_plan then sp half c)
     specification_row (Names device number) e = named_row device number (((specifies half c.address).names device number).0 e) (named_for device half c.address) refl
@@ -1188,14 +1202,15 @@ module _ (c : Call) (l : Local) (s : Groups) where
   plan_b0 (name_past device number o q b) =
       let p = opening_plan o in
       p.plan ∙ ap (λ (sp : Specification). open_plan p.then sp half c) (((specifies half c.address).names device number).1 q)
-      ∙ ap (λ (n : Named). named_plan p.then device number n c) (behind_past half c.address device b)
+      ∙ ap (λ (n : Result (List ℕ) NameError). named_plan p.then device number n c) (behind_past half c.address device b)
 
   -- an opening's plan, past the $82 check
   device_plan : (device : Device) (d : NamesDevice c l s device) → planned ≡ opens device (opening_plan d.opening).then d.number d.name
   device_plan device d =
       let p = opening_plan d.opening in
       p.plan ∙ ap (λ (sp : Specification). open_plan p.then sp half c) (((specifies half c.address).names device d.number).1 d.specified)
-      ∙ ap (λ (n : Named). named_plan p.then device d.number n c) (name_found half c.address device d.name d.named)
+      ∙ ap (λ (n : Result (List ℕ) NameError). named_plan p.then device d.number n c) (name_found half c.address device d.name d.named)
+      ∙ named_opens p.then device d.number d.name c
 
   module _ (device : Device) (d : NamesDevice c l s device) where
     abbrev answers_open : Done

@@ -2,12 +2,11 @@
 -- says so. From the message, the port's blocks and area, and the device alone. With document 02's Asks 1, 7 and 12: the lines of the
 -- tape and of the diskettes.
 -- Assumes nothing.
-use Rattle.std.specs.Prelude.{◌≡◌, ◌↔◌, ◌⊎◌, Bool, true, false, List, [], ◌∷◌, ℕ, ◌+◌, ◌*◌, ◌<◌, ◌≤◌, length, get_or, drop}
+use Rattle.std.specs.Prelude.{◌≡◌, ◌↔◌, ◌⊎◌, Bool, true, false, List, [], ◌∷◌, ℕ, ◌+◌, ◌*◌, ◌<◌, ◌≤◌, length, get_or, drop, Option, Result, Ok, Err, Some, None}
 use Rattle.base.specs.Choice.{bit}
-use Rattle.names.specs.declared.Name.{Name}
-use Rattle.names.specs.declared.Named.{Named}
-use Rattle.names.specs.declared.Named.TheVariants.{Past, Found}
-use Rattle.names.specs.Names.{no_name}
+use Rattle.names.specs.declared.NameError.{NameError}
+use Rattle.names.specs.declared.NameError.TheVariants.{Past, Bad}
+use Rattle.names.specs.Names.{no_name, as_read}
 use Rattle.names.specs.Read.{NameReads}
 use Rattle.handler.specs.declared.Done.TheVariants as done
 use Rattle.handler.specs.Answer.{answer, Gives}
@@ -106,7 +105,7 @@ OpenElsewhere C s = TapeOpen s
 OpenElsewhere D s = ⊥
 
 -- "01's "nothing after the colon" is not for D.": what is read behind it, of a device that has names
-abbrev pub BehindColon : Device → (area : List ℕ) → (address : ℕ) → Named → Type 0
+abbrev pub BehindColon : Device → (area : List ℕ) → (address : ℕ) → Result (List ℕ) NameError → Type 0
 BehindColon E area address named = ⊥
 BehindColon S area address named = ⊥
 BehindColon K area address named = ⊥
@@ -115,25 +114,25 @@ BehindColon C area address named = ⊥
 BehindColon D area address named = NameReads (drop (name_of area address) area) named
 
 -- the name that it is opened by; other devices have none
-abbrev pub HasName : Device → (area : List ℕ) → (address : ℕ) → Name → Type 0
-HasName E area address name = name ≡ no_name
-HasName S area address name = name ≡ no_name
-HasName K area address name = name ≡ no_name
-HasName P area address name = name ≡ no_name
-HasName C area address name = name ≡ no_name
-HasName D area address name = BehindColon D area address (Found name)
+abbrev pub HasName : Device → (area : List ℕ) → (address : ℕ) → Option (List ℕ) → Type 0
+HasName E area address name = name ≡ Some no_name
+HasName S area address name = name ≡ Some no_name
+HasName K area address name = name ≡ Some no_name
+HasName P area address name = name ≡ Some no_name
+HasName C area address name = name ≡ Some no_name
+HasName D area address name = BehindColon D area address (as_read name)
 
 -- "(a byte outside A-Z, 0-9, these, one dot and the end, EOL or blank: $A5, with the group held ..)"
-abbrev pub BadName : Device → Name → Type 0
+abbrev pub BadName : Device → Option (List ℕ) → Type 0
 BadName E name = ⊥
 BadName S name = ⊥
 BadName K name = ⊥
 BadName P name = ⊥
 BadName C name = ⊥
-BadName D name = name.good ≡ false
+BadName D name = name ≡ None
 
 -- "The first match opens, none is $AA"
-abbrev pub NoneMatches : Device → (number aux1 : ℕ) → Name → Groups → Type 0
+abbrev pub NoneMatches : Device → (number aux1 : ℕ) → Option (List ℕ) → Groups → Type 0
 NoneMatches E number aux1 name s = ⊥
 NoneMatches S number aux1 name s = ⊥
 NoneMatches K number aux1 name s = ⊥
@@ -142,7 +141,7 @@ NoneMatches C number aux1 name s = ⊥
 NoneMatches D number aux1 name s = NoMatch s.disk.images number aux1 name
 
 -- "then $A7 if the file is locked"
-abbrev pub LockedMatches : Device → (number aux1 : ℕ) → Name → Groups → Type 0
+abbrev pub LockedMatches : Device → (number aux1 : ℕ) → Option (List ℕ) → Groups → Type 0
 LockedMatches E number aux1 name s = ⊥
 LockedMatches S number aux1 name s = ⊥
 LockedMatches K number aux1 name s = ⊥
@@ -219,7 +218,7 @@ module _ (c : Call) (l : Local) (s : Groups) where
     buffer_past : (reading : Bool) (device : Device) → Directed reading device → 0 < c.length → area_length < c.address + c.length → PastArea
     specification_past : Opening → NeededPast l.area c.address → PastArea
     -- "$82 and $B0 from left to right ($B0 if the area ends before the name)"
-    name_past : (device : Device) (number : ℕ) → Opening → Specified l.area c.address device number → BehindColon device l.area c.address Past → PastArea
+    name_past : (device : Device) (number : ℕ) → Opening → Specified l.area c.address device number → BehindColon device l.area c.address (Err Past) → PastArea
 
   -- "$82 unknown device, or malformed specification"
   pub record NoDevice : Type 0 where
@@ -231,7 +230,7 @@ module _ (c : Call) (l : Local) (s : Groups) where
     pub opening : Opening
     pub number : ℕ
     pub specified : Specified l.area c.address device number
-    pub name : Name
+    pub name : Option (List ℕ)
     pub named : HasName device l.area c.address name
 
   -- "$81 OPEN on an open block"; "while any block of either port has C open, another open is $81, checked after AUX1 with the group held"

@@ -9,7 +9,4 @@ use Rattle.chains.proofs.keep.Given as goal
 
 abbrev pub invariant-loop-count : goal.invariant-loop-count
 invariant-loop-count l = (walked_over l.last l.count l.marks (kept_in l.image l.file (marked l.marks) (719 - l.count) l.at) ≡ walk_of l.image l.initial.marks l.file l.first)
-    × ((length l.marks ≡ 720) × (length l.marks ≡ length l.initial.marks))
-
-abbrev pub decreases-loop-count : goal.decreases-loop-count
-decreases-loop-count l = 719 - l.count
+    × (length l.marks ≡ 720)

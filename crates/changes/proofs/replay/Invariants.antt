@@ -2,12 +2,8 @@
 -- Assumes nothing.
 use mathlib.Core.Path.{◌≡◌}
 use Prim.Native.Nat.{◌-◌}
-use lib.ListN.{length}
 use Rattle.changes.specs.Changes.{replay_in, replay_list}
 use Rattle.changes.proofs.replay.Given as goal
 
 abbrev pub invariant-loop-from : goal.invariant-loop-from
-invariant-loop-from l = (replay_in l.list (l.number - l.from) l.from l.image ≡ replay_list l.list l.number l.initial.image) × (length l.image ≡ length l.initial.image)
-
-abbrev pub decreases-loop-from : goal.decreases-loop-from
-decreases-loop-from l = l.number - l.from
+invariant-loop-from l = replay_in l.list (l.number - l.from) l.from l.image ≡ replay_list l.list l.number l.initial.image

@@ -10,7 +10,4 @@ use Rattle.doctor.proofs.note_files.Given as goal
 
 abbrev pub invariant-loop-entry : goal.invariant-loop-entry
 invariant-loop-entry l = (visited_on l.image l.number l.list l.marks (files_in l.image (64 - l.entry) l.entry (marked l.marks)) ≡ visited_on l.image 0 l.initial.list l.initial.marks (files_in l.image 64 0 (marked l.initial.marks)))
-    × ((l.number ≤ 4 * l.entry) × ((l.entry ≤ 64) × ((length l.marks ≡ 720) × ((length l.marks ≡ length l.initial.marks) × (length l.list ≡ length l.initial.list)))))
-
-abbrev pub decreases-loop-entry : goal.decreases-loop-entry
-decreases-loop-entry l = 64 - l.entry
+    × ((l.number ≤ 4 * l.entry) × (length l.marks ≡ 720))

@@ -1,20 +1,16 @@
 -- `find` meets its contract, by `found_end`, `found_here`, `found_turn` and `found_none`.
 -- Assumes nothing.
-use mathlib.Core.Path.{refl}
-use Rattle.image.proofs.Laws.{found_end, found_here, found_turn, found_none}
+use Rattle.image.proofs.Laws.{none_found, one_found, found_end, found_here, found_turn, found_none}
 use Rattle.image.proofs.find.Goals as goal
 
-pub loop-entry-init : goal.loop-entry-init
-loop-entry-init c = refl
-
 pub returns-then-flag-eq0 : goal.returns-then-flag-eq0
-returns-then-flag-eq0 c = search found_end
+returns-then-flag-eq0 c = search (none_found, found_end)
 
 pub returns-then-matches_entry : goal.returns-then-matches_entry
-returns-then-matches_entry c = search found_here
+returns-then-matches_entry c = search (one_found, found_here)
 
 pub loop-entry-preserved : goal.loop-entry-preserved
 loop-entry-preserved c = search found_turn
 
 pub returns : goal.returns
-returns c = search found_none
+returns c = search (none_found, found_none)

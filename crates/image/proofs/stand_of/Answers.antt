@@ -1,22 +1,18 @@
 -- `stand_of` meets its contract, by `stands_ended`, `stands_wrong`, `stands_here`, `stands_turn` and `stands_last`.
 -- Assumes nothing.
-use mathlib.Core.Path.{refl}
 use Prim.Native.Nat.{◌<◌, ◌≤◌}
 use native.Mathlib.Omega.{arith}
 use Rattle.image.proofs.Laws.{stands_ended, stands_wrong, stands_here, stands_turn, stands_last}
 use Rattle.image.proofs.stand_of.Goals as goal
 
-pub loop-behind-init : goal.loop-behind-init
-loop-behind-init c = refl
-
 pub returns-then-at-eq0 : goal.returns-then-at-eq0
 returns-then-at-eq0 c = search stands_ended
 
-pub returns-in-Wrong : goal.returns-in-Wrong
-returns-in-Wrong c = let h : c.loop-behind.behind < 719 = omega arith in search stands_wrong
+pub returns-in_default : goal.returns-in_default
+returns-in_default c = let h : c.loop-behind.behind < 719 = omega arith in search stands_wrong
 
-pub returns-then-character-count : goal.returns-then-character-count
-returns-then-character-count c = let h : c.loop-behind.behind < 719 = omega arith in search stands_here
+pub returns-then-character-held : goal.returns-then-character-held
+returns-then-character-held c = let h : c.loop-behind.behind < 719 = omega arith in search stands_here
 
 pub loop-behind-preserved : goal.loop-behind-preserved
 loop-behind-preserved c = let h : c.loop-behind.behind < 719 = omega arith in search stands_turn

@@ -7,6 +7,3 @@ use Rattle.image.proofs.stand_of.Given as goal
 
 abbrev pub invariant-loop-behind : goal.invariant-loop-behind
 invariant-loop-behind l = stand_of l.images l.unit l.file l.at l.character l.behind ≡ stand_of l.images l.unit l.file l.sector l.place l.passed
-
-abbrev pub decreases-loop-behind : goal.decreases-loop-behind
-decreases-loop-behind l = 719 - l.behind

