@@ -5,9 +5,10 @@ use mathlib.Core.Bool.{true, false}
 use mathlib.Core.List.{List, [], ◌∷◌, ◌++◌, map}
 use Prim.Native.Nat.{ℕ}
 use lib.ListN.{replicate}
+use Rattle.std.specs.Prelude.{Err}
 use Rattle.blocks.specs.declared.Device.TheVariants.{E, S, K, P, C, D}
-use Rattle.blocks.specs.declared.Specification.TheVariants.{Refused, Names}
-use Rattle.blocks.specs.Opening.{device_of, number_of, named_of, specification_of, offers_of}
+use Rattle.blocks.specs.declared.SpecificationError.TheVariants.{Malformed, Past}
+use Rattle.blocks.specs.Opening.{names, device_of, number_of, named_of, specification_of, offers_of}
 
 -- E: S1: K8: P:E (nothing after the colon is read) D: D4: C8:, then E0: E9: E12: E X: D5: malformed or unknown
 pub specifications :
@@ -15,8 +16,8 @@ pub specifications :
     ((0x45 ∷ 0x3A ∷ []) ∷ (0x53 ∷ 0x31 ∷ 0x3A ∷ []) ∷ (0x4B ∷ 0x38 ∷ 0x3A ∷ []) ∷ (0x50 ∷ 0x3A ∷ 0x45 ∷ [])
     ∷ (0x44 ∷ 0x3A ∷ []) ∷ (0x44 ∷ 0x34 ∷ 0x3A ∷ []) ∷ (0x43 ∷ 0x38 ∷ 0x3A ∷ [])
     ∷ (0x45 ∷ 0x30 ∷ 0x3A ∷ []) ∷ (0x45 ∷ 0x39 ∷ 0x3A ∷ []) ∷ (0x45 ∷ 0x31 ∷ 0x32 ∷ 0x3A ∷ []) ∷ (0x45 ∷ []) ∷ (0x58 ∷ 0x3A ∷ []) ∷ (0x44 ∷ 0x35 ∷ 0x3A ∷ []) ∷ [])
-    ≡ (Names E 1 ∷ Names S 1 ∷ Names K 8 ∷ Names P 1 ∷ Names D 1 ∷ Names D 4 ∷ Names C 8
-    ∷ Refused 0x82 ∷ Refused 0x82 ∷ Refused 0x82 ∷ Refused 0x82 ∷ Refused 0x82 ∷ Refused 0x82 ∷ [])
+    ≡ (names E 1 ∷ names S 1 ∷ names K 8 ∷ names P 1 ∷ names D 1 ∷ names D 4 ∷ names C 8
+    ∷ Err Malformed ∷ Err Malformed ∷ Err Malformed ∷ Err Malformed ∷ Err Malformed ∷ Err Malformed ∷ [])
 unfolding specification_of named_of number_of device_of
 specifications = refl
 
@@ -28,7 +29,7 @@ pub last_bytes :
     specification_of (ends (0 ∷ 0x58 ∷ [])) 16383 ∷ specification_of (ends (0 ∷ 0x45 ∷ [])) 16383
     ∷ specification_of (ends (0x45 ∷ 0x3A ∷ [])) 16382 ∷ specification_of (ends (0x45 ∷ 0x35 ∷ [])) 16382
     ∷ specification_of (ends (0x45 ∷ 0x39 ∷ [])) 16382 ∷ specification_of (ends (0x45 ∷ 0x3A ∷ [])) 16384 ∷ []
-    ≡ Refused 0x82 ∷ Refused 0xB0 ∷ Names E 1 ∷ Refused 0xB0 ∷ Refused 0x82 ∷ Refused 0xB0 ∷ []
+    ≡ Err Malformed ∷ Err Past ∷ names E 1 ∷ Err Past ∷ Err Malformed ∷ Err Past ∷ []
 unfolding specification_of named_of number_of device_of
 last_bytes = refl
 

@@ -9,21 +9,19 @@ use borrow.Author.Tests.{leb-true, le-leb, not-true}
 use lib.Dec.{eqb, leb, ltb}
 use lib.ListN.{length, get_or, set, length-set}
 use lib.Seq.{get_or-set_same, get_or-set_other, set-get_or}
+use Rattle.std.specs.Prelude.{Option, Some, None, Ok, Err}
 use Rattle.base.specs.Choice.{and, within}
 use Rattle.base.proofs.Choices.{pick_go, and_left, and_right}
 use Rattle.blocks.specs.declared.Device.{Device}
 use Rattle.blocks.specs.declared.Device.TheVariants.{E, S, K, P, C, D}
 use Rattle.blocks.specs.declared.ControlBlock.{ControlBlock}
 use Rattle.blocks.specs.declared.Table.{Table}
-use Rattle.blocks.specs.declared.Letter.{Letter}
-use Rattle.blocks.specs.declared.Letter.TheVariants.{Unknown, Known}
-use Rattle.blocks.specs.declared.Specification.{Specification}
-use Rattle.blocks.specs.declared.Specification.TheVariants.{Refused, Names}
+use Rattle.blocks.specs.declared.SpecificationError.TheVariants.{Malformed, Past}
 use Rattle.blocks.specs.Blocks.{closed_block, open_block, closed_table, with_block, block_at}
-use Rattle.blocks.specs.Opening.{letter_of, device_of, highest_of, needed, colon_of, number_of, named_of, specification_of, reads, writes, offers_of}
+use Rattle.blocks.specs.Opening.{Reading, names, letter_of, device_of, highest_of, needed, colon_of, number_of, named_of, specification_of, reads, writes, offers_of}
 use Rattle.blocks.specs.Made.{splits, made_open, made_of, all_made, table_made}
 
-pub device_letter : (device : Device) → device_of (letter_of device) ≡ Known device
+pub device_letter : (device : Device) → device_of (letter_of device) ≡ Some device
 unfolding device_of
 device_letter E = refl
 device_letter S = refl
@@ -109,15 +107,15 @@ unfolding offers_of
 tape_one_way aux1 o r = not-true (writes aux1) (rw r at o)
 
 -- a specification names a number that its device has
-abbrev Numbered : Specification → Type 0
-Numbered (Refused status) = Unit {0}
-Numbered (Names device number) = within 1 (highest_of device) number ≡ true
+abbrev Numbered : Reading → Type 0
+Numbered (Err e) = Unit {0}
+Numbered (Ok d) = within 1 (highest_of d.device) d.number ≡ true
 
 colon_numbered : (device : Device) (number byte : ℕ) → within 1 (highest_of device) number ≡ true → Numbered (colon_of device number byte)
-colon_numbered device number byte n = pick_go Numbered (eqb byte 0x3A) (Names device number) (Refused 0x82) (λ t. n) (λ t. tt)
+colon_numbered device number byte n = pick_go Numbered (eqb byte 0x3A) (names device number) (Err Malformed) (λ t. n) (λ t. tt)
 
-needed_numbered : (half : List ℕ) (place : ℕ) (reading : ℕ → Specification) → ((byte : ℕ) → Numbered (reading byte)) → Numbered (needed half place reading)
-needed_numbered half place reading n = pick_go Numbered (ltb place 16384) (reading (get_or half place 0)) (Refused 0xB0) (λ t. n (get_or half place 0)) (λ t. tt)
+needed_numbered : (half : List ℕ) (place : ℕ) (reading : ℕ → Reading) → ((byte : ℕ) → Numbered (reading byte)) → Numbered (needed half place reading)
+needed_numbered half place reading n = pick_go Numbered (ltb place 16384) (reading (get_or half place 0)) (Err Past) (λ t. n (get_or half place 0)) (λ t. tt)
 
 digit_number : (most byte : ℕ) → within 0x31 (0x30 + most) byte ≡ true → within 1 most (byte - 0x30) ≡ true
 digit_number most byte t =
@@ -140,12 +138,12 @@ number_numbered half device place byte =
     (λ t. needed_numbered half place (colon_of device (byte - 0x30)) (λ next. colon_numbered device (byte - 0x30) next (digit_number (highest_of device) byte t)))
     (λ t. colon_numbered device 1 byte (one_within device))
 
-named_numbered : (half : List ℕ) (letter : Letter) (place : ℕ) → Numbered (named_of half letter place)
+named_numbered : (half : List ℕ) (letter : Option Device) (place : ℕ) → Numbered (named_of half letter place)
 unfolding named_of
-named_numbered half Unknown place = tt
-named_numbered half (Known device) place = needed_numbered half place (number_of half device (place + 1)) (number_numbered half device (place + 1))
+named_numbered half None place = tt
+named_numbered half (Some device) place = needed_numbered half place (number_of half device (place + 1)) (number_numbered half device (place + 1))
 
-pub names_number : (half : List ℕ) (address : ℕ) (device : Device) (number : ℕ) → specification_of half address ≡ Names device number → within 1 (highest_of device) number ≡ true
+pub names_number : (half : List ℕ) (address : ℕ) (device : Device) (number : ℕ) → specification_of half address ≡ names device number → within 1 (highest_of device) number ≡ true
 unfolding specification_of
 names_number half address device number e =
     subst Numbered e

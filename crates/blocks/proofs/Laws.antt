@@ -1,6 +1,7 @@
 -- What each way through the code gives, as a law of the definition that its contract cites.
 -- Assumes nothing.
-use mathlib.Core.Path.{◌≡◌, ◌∙◌, sym}
+use mathlib.Core.Path.{◌≡◌, ◌∙◌, sym, ap}
+use Rattle.std.specs.Prelude.{Option, Some, None, Result, Ok, Err}
 use mathlib.Core.Bool.{Bool, true, false, not}
 use mathlib.Core.List.{List, map}
 use Prim.Native.Nat.{ℕ, ◌+◌, ◌-◌, ◌%◌, ◌≤◌, ◌<◌}
@@ -8,23 +9,21 @@ use native.Mathlib.Nat.{div-one}
 use native.Mathlib.Numerals.{add-one}
 use native.Mathlib.Omega.{arith}
 use borrow.Author.Tests.{lt-ltb, le-ltb, le-leb, lt-leb}
-use lib.Dec.{eqb}
+use lib.Dec.{eqb, ltb}
 use lib.ListN.{length, length-map, get_or, drop, drop_of_length-le, get_or-eq_default}
 use lib.Seq.{set_out, drop-cons}
-use Rattle.base.specs.Choice.{bit}
+use Rattle.base.specs.Choice.{pick, bit}
 use Rattle.blocks.specs.declared.BlockState.TheVariants.{Open}
 use Rattle.blocks.specs.declared.ControlBlock.{ControlBlock}
 use Rattle.blocks.specs.declared.Table.{Table}
 use Rattle.blocks.specs.declared.Gather.{Gather}
 use Rattle.blocks.specs.declared.Device.{Device}
 use Rattle.blocks.specs.declared.Device.TheVariants.{E, S, K, P, C, D}
-use Rattle.blocks.specs.declared.Letter.{Letter}
-use Rattle.blocks.specs.declared.Letter.TheVariants.{Unknown, Known}
-use Rattle.blocks.specs.declared.Specification.{Specification}
-use Rattle.blocks.specs.declared.Specification.TheVariants.{Refused}
 use Rattle.blocks.specs.declared.Phase.TheVariants.{Gathering}
 use Rattle.blocks.specs.Blocks.{closed_block, closed_table, with_block, block_at, fresh_gather, fresh_port}
-use Rattle.blocks.specs.Opening.{device_of, highest_of, colon_of, number_of, named_of, specification_of, reads, writes, offers_of}
+use Rattle.blocks.specs.declared.SpecificationError.{SpecificationError}
+use Rattle.blocks.specs.declared.SpecificationError.TheVariants.{Malformed, Past}
+use Rattle.blocks.specs.Opening.{Reading, needed_byte, needed, device_of, highest_of, colon_of, number_of, named_of, specification_of, reads, writes, offers_of}
 use Rattle.blocks.specs.Made.{splits, made_open, made_of, all_made, table_made}
 
 -- past the eight blocks; that there are eight is told of what each of them owns
@@ -41,16 +40,39 @@ module _ (X : Type 0) (f : ControlBlock → X) (table : Table) (iocb : ℕ) (eig
 pub fresh_port_lem : (table : Table) (gather : Gather) → table ≡ closed_table → gather ≡ fresh_gather → record { table = table; phase = Gathering gather } ≡ fresh_port
 fresh_port_lem table gather e f = rw (e, f)
 
+-- an error ends the reading
+abbrev pub goes_on : Result ℕ SpecificationError → (ℕ → Reading) → Reading
+goes_on (Ok byte) reading = reading byte
+goes_on (Err e) reading = Err e
+
 pub digit_arm : (known device : Device) → device ≡ known → 0x30 + highest_of known ≡ 0x30 + highest_of device
 digit_arm known device e = rw e
 
-module _ (half : List ℕ) (device : Device) (place byte : ℕ) where
-  pub number_low : (s : Specification) → byte < 0x31 → s ≡ colon_of device 1 byte → s ≡ number_of half device place byte
+-- a needed byte is there, or past the area
+module _ (half : List ℕ) (place : ℕ) where
+  pub byte_past : 16384 ≤ place → Err Past ≡ needed_byte half place
+  byte_past o = rw (le-ltb place 16384 o)
+
+  pub byte_there : (byte : ℕ) → place < 16384 → byte ≡ get_or half place 0 → Ok byte ≡ needed_byte half place
+  byte_there byte i e = rw (e, lt-ltb place 16384 i)
+
+  -- what is read on from it is read on from there
+  module _ (reading : ℕ → Reading) where
+    needed_by : (t : Bool) (r : Result ℕ SpecificationError) → r ≡ pick t (Ok (get_or half place 0)) (Err Past)
+        → pick t (reading (get_or half place 0)) (Err Past) ≡ goes_on r reading
+    needed_by true r e = rw e
+    needed_by false r e = rw e
+
+    pub needed_is : (r : Result ℕ SpecificationError) → r ≡ needed_byte half place → needed half place reading ≡ goes_on r reading
+    needed_is r e = needed_by (ltb place 16384) r e
+
+module _ (half : List ℕ) (device : Device) (address byte : ℕ) where
+  pub number_low : (s : Reading) → byte < 0x31 → s ≡ colon_of device 1 byte → s ≡ number_of half device (address + 2) byte
   unfolding number_of
   number_low s l e = e ∙ rw (lt-leb 0x31 byte l)
 
   module _ (digit : ℕ) (d : digit ≡ 0x30 + highest_of device) where
-    pub number_high : (s : Specification) → 0x31 ≤ byte → digit < byte → s ≡ colon_of device 1 byte → s ≡ number_of half device place byte
+    pub number_high : (s : Reading) → 0x31 ≤ byte → digit < byte → s ≡ colon_of device 1 byte → s ≡ number_of half device (address + 2) byte
     unfolding number_of
     number_high s l h e = let k : 0x30 + highest_of device < byte = omega arith in e ∙ rw (le-leb 0x31 byte l, lt-leb byte (0x30 + highest_of device) k)
 
@@ -58,36 +80,42 @@ module _ (half : List ℕ) (device : Device) (place byte : ℕ) where
     within_digit : byte ≤ 0x30 + highest_of device
     within_digit = omega arith
 
-    pub number_past : 16384 ≤ place → Refused 0xB0 ≡ number_of half device place byte
+    number_reads : (r : Result ℕ SpecificationError) → r ≡ needed_byte half (address + 2) → goes_on r (colon_of device (byte - 0x30)) ≡ number_of half device (address + 2) byte
     unfolding number_of
-    number_past o = rw (le-leb 0x31 byte l, le-leb byte (0x30 + highest_of device) within_digit, le-ltb place 16384 o)
+    number_reads r q = rw (le-leb 0x31 byte l, le-leb byte (0x30 + highest_of device) within_digit) (sym (needed_is half (address + 2) (colon_of device (byte - 0x30)) r q))
 
-    pub number_digit : (next : ℕ) (s : Specification) → place < 16384 → next ≡ get_or half place 0 → s ≡ colon_of device (byte - 0x30) next → s ≡ number_of half device place byte
-    unfolding number_of
-    number_digit next s i e q = q ∙ rw (e, le-leb 0x31 byte l, le-leb byte (0x30 + highest_of device) within_digit, lt-ltb place 16384 i)
+    pub number_past : (e : SpecificationError) → Err e ≡ needed_byte half (address + 2) → Err e ≡ number_of half device (address + 2) byte
+    number_past e q = number_reads (Err e) q
 
-module _ (half : List ℕ) (letter : Letter) (place : ℕ) where
-  pub letter_unknown : letter ≡ Unknown → Refused 0x82 ≡ named_of half letter place
+    pub number_digit : (next : ℕ) (s : Reading) → Ok next ≡ needed_byte half (address + 2) → s ≡ colon_of device (byte - 0x30) next → s ≡ number_of half device (address + 2) byte
+    number_digit next s q e = e ∙ number_reads (Ok next) q
+
+module _ (half : List ℕ) (letter : Option Device) (address : ℕ) where
+  pub letter_unknown : letter ≡ None → Err Malformed ≡ named_of half letter (address + 1)
   unfolding named_of
   letter_unknown e = rw e
 
-  module _ (device : Device) (k : letter ≡ Known device) where
-    pub letter_past : 16384 ≤ place → Refused 0xB0 ≡ named_of half letter place
+  module _ (device : Device) (k : letter ≡ Some device) where
+    letter_reads : (r : Result ℕ SpecificationError) → r ≡ needed_byte half (address + 1) → goes_on r (number_of half device (address + 2)) ≡ named_of half letter (address + 1)
     unfolding named_of
-    letter_past o = rw (k, le-ltb place 16384 o)
+    letter_reads r q = let two : address + 1 + 1 ≡ address + 2 = omega arith in rw (k, two) (sym (needed_is half (address + 1) (number_of half device (address + 2)) r q))
 
-    pub letter_known : (byte : ℕ) (s : Specification) → place < 16384 → byte ≡ get_or half place 0 → s ≡ number_of half device (place + 1) byte → s ≡ named_of half letter place
-    unfolding named_of
-    letter_known byte s i e q = q ∙ rw (e, k, lt-ltb place 16384 i)
+    pub letter_past : (e : SpecificationError) → Err e ≡ needed_byte half (address + 1) → Err e ≡ named_of half letter (address + 1)
+    letter_past e q = letter_reads (Err e) q
+
+    pub letter_known : (byte : ℕ) (s : Reading) → Ok byte ≡ needed_byte half (address + 1) → s ≡ number_of half device (address + 2) byte → s ≡ named_of half letter (address + 1)
+    letter_known byte s q e = e ∙ letter_reads (Ok byte) q
 
 module _ (half : List ℕ) (address : ℕ) where
-  pub address_past : 16384 ≤ address → Refused 0xB0 ≡ specification_of half address
+  address_reads : (r : Result ℕ SpecificationError) → r ≡ needed_byte half address → goes_on r (λ byte. named_of half (device_of byte) (address + 1)) ≡ specification_of half address
   unfolding specification_of
-  address_past o = rw (le-ltb address 16384 o)
+  address_reads r q = sym (needed_is half address (λ byte. named_of half (device_of byte) (address + 1)) r q)
 
-  pub address_in : (byte : ℕ) (letter : Letter) (s : Specification) → address < 16384 → byte ≡ get_or half address 0 → letter ≡ device_of byte → s ≡ named_of half letter (address + 1) → s ≡ specification_of half address
-  unfolding specification_of
-  address_in byte letter s i e f q = q ∙ rw (f, e, lt-ltb address 16384 i)
+  pub address_past : (e : SpecificationError) → Err e ≡ needed_byte half address → Err e ≡ specification_of half address
+  address_past e q = address_reads (Err e) q
+
+  pub address_in : (byte : ℕ) (letter : Option Device) (s : Reading) → Ok byte ≡ needed_byte half address → letter ≡ device_of byte → s ≡ named_of half letter (address + 1) → s ≡ specification_of half address
+  address_in byte letter s q l e = e ∙ ap (λ (x : Option Device). named_of half x (address + 1)) l ∙ address_reads (Ok byte) q
 
 module _ (device : Device) (aux1 : ℕ) (t : Bool) where
   module _ (d : device ≡ E) (e : t ≡ reads aux1) where

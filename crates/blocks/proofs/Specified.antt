@@ -10,15 +10,14 @@ use native.Mathlib.Omega.{arith}
 use borrow.Author.Tests.{lt-ltb, le-ltb, le-leb, lt-leb, eq-eqb, ne_eqb}
 use lib.Dec.{T, leb}
 use lib.ListN.{get_or}
+use Rattle.std.specs.Prelude.{Some, None, Ok, Err}
 use Rattle.base.specs.Choice.{and, or, within, bit}
 use Rattle.base.proofs.Choices.{by_eq, by_lt, and_false}
 use Rattle.blocks.specs.declared.Device.{Device}
 use Rattle.blocks.specs.declared.Device.TheVariants.{E, S, K, P, C, D}
-use Rattle.blocks.specs.declared.Letter.TheVariants.{Unknown, Known}
-use Rattle.blocks.specs.declared.Specification.{Specification}
-use Rattle.blocks.specs.declared.Specification.TheVariants.{Refused, Names}
-use Rattle.blocks.specs.Opening.{area_length, letter_of, device_of, highest_of, needed, colon_of, number_of, named_of, specification_of, offers_of}
-use Rattle.blocks.specs.Specified.{KnownLetter, NumberDigit, behind, Specified, unnumbered, numbered, Malformed, unknown_letter, neither_number_nor_colon, no_colon, NeededPast, letter_past, next_past, colon_past, Specifies, NotOffered}
+use Rattle.blocks.specs.declared.SpecificationError.TheVariants as error
+use Rattle.blocks.specs.Opening.{Reading, names, error_status, area_length, letter_of, device_of, highest_of, needed, colon_of, number_of, named_of, specification_of, offers_of}
+use Rattle.blocks.specs.Specified.{RefusedWith, KnownLetter, NumberDigit, behind, Specified, unnumbered, numbered, Malformed, unknown_letter, neither_number_nor_colon, no_colon, NeededPast, letter_past, next_past, colon_past, Specifies, NotOffered}
 use Rattle.blocks.proofs.Keeps.{device_letter}
 
 -- "a 16,384-byte area"
@@ -55,13 +54,13 @@ by_digit device byte p q =
     (λ k. q (λ d. omega (arith, d.digit, d.high)))
     (λ k. p (record { number = byte - 0x30; low = omega arith; high = omega arith; digit = omega arith })))
 
-unknown_device : (byte : ℕ) → (KnownLetter byte → ⊥) → device_of byte ≡ Unknown
+unknown_device : (byte : ℕ) → (KnownLetter byte → ⊥) → device_of byte ≡ None
 unfolding device_of
 unknown_device byte n =
     let not : (device : Device) → byte ≡ letter_of device → ⊥ = λ device e. n (record { device = device; letter = e }) in
     rw (ne_eqb byte 0x45 (not E), ne_eqb byte 0x53 (not S), ne_eqb byte 0x4B (not K), ne_eqb byte 0x50 (not P), ne_eqb byte 0x43 (not C), ne_eqb byte 0x44 (not D))
 
-known_device : (byte : ℕ) (device : Device) → byte ≡ letter_of device → device_of byte ≡ Known device
+known_device : (byte : ℕ) (device : Device) → byte ≡ letter_of device → device_of byte ≡ Some device
 known_device byte device e = ap device_of e ∙ device_letter device
 
 digit_within : (device : Device) (byte : ℕ) → NumberDigit device byte → within 0x31 (0x30 + highest_of device) byte ≡ true
@@ -89,13 +88,13 @@ highest D = omega arith
 colon_digit : (device : Device) (byte : ℕ) → byte ≡ 0x3A → NumberDigit device byte → ⊥
 colon_digit device byte e d = omega (arith, d.digit, d.high, highest device)
 
--- one more than the status of a refusal
-abbrev refusal : Specification → ℕ
-refusal (Refused status) = 1 + status
-refusal (Names device number) = 0
+-- one more than the status of a refusal, and 0 of none
+abbrev refusal : Reading → ℕ
+refusal (Err e) = 1 + error_status e
+refusal (Ok d) = 0
 
 module _ (half : List ℕ) (address : ℕ) where
-  abbrev says : Specification
+  abbrev says : Reading
   says = specification_of half address
 
   first : get_or half address 0 ≡ behind half address 0
@@ -119,7 +118,7 @@ module _ (half : List ℕ) (address : ℕ) where
   unfolding number_of
   digited device d h e = nexted device h e ∙ rw (digit_within device (behind half address 1) d, two)
 
-  specified : (device : Device) (number : ℕ) → Specified half address device number → says ≡ Names device number
+  specified : (device : Device) (number : ℕ) → Specified half address device number → says ≡ names device number
   unfolding number_of
   specified device number (unnumbered _ h l c) =
       nexted device h l ∙ rw (no_digit device (behind half address 1) (colon_digit device (behind half address 1) c), eq-eqb (behind half address 1) 0x3A c)
@@ -128,7 +127,7 @@ module _ (half : List ℕ) (address : ℕ) where
       digited device (record { number = number; low = low; high = high; digit = d }) (omega arith) l
       ∙ rw (lt-ltb (address + 2) area_length h, eq-eqb (behind half address 2) 0x3A c, n)
 
-  malformed : Malformed half address → says ≡ Refused 0x82
+  malformed : Malformed half address → says ≡ Err error.Malformed
   unfolding specification_of named_of number_of
   malformed (unknown_letter h n) = rw (lt-ltb address area_length h, unknown_device (get_or half address 0) (λ k. n (subst KnownLetter first k)))
   malformed (neither_number_nor_colon h k d c) =
@@ -136,7 +135,7 @@ module _ (half : List ℕ) (address : ℕ) where
   malformed (no_colon h k d c) =
       digited k.device d (omega arith) k.letter ∙ rw (lt-ltb (address + 2) area_length h, ne_eqb (behind half address 2) 0x3A c)
 
-  past : NeededPast half address → says ≡ Refused 0xB0
+  past : NeededPast half address → says ≡ Err error.Past
   unfolding specification_of
   past (letter_past h) = rw (le-ltb address area_length h)
   past (next_past h g k) = lettered k.device h k.letter ∙ rw (le-ltb (address + 1) area_length g)
@@ -166,35 +165,35 @@ module _ (half : List ℕ) (address : ℕ) where
       (λ k. is_malformed (unknown_letter h k)))
       (λ h. is_past (letter_past h))
 
-  abbrev Named : Specification → Type 0
-  Named (Refused status) = ⊥
-  Named (Names device number) = Specified half address device number
+  abbrev Named : Reading → Type 0
+  Named (Err e) = ⊥
+  Named (Ok d) = Specified half address d.device d.number
 
-  is_names : (device : Device) (number : ℕ) → says ≡ Names device number → Read → Specified half address device number
+  is_names : (device : Device) (number : ℕ) → says ≡ names device number → Read → Specified half address device number
   is_names device number e (is_specified d n s) = subst Named (sym (specified d n s) ∙ e) s
   is_names device number e (is_malformed m) = absurd (omega (arith, ap refusal (malformed m), ap refusal e))
   is_names device number e (is_past p) = absurd (omega (arith, ap refusal (past p), ap refusal e))
 
-  is_82 : says ≡ Refused 0x82 → Read → Malformed half address
-  is_82 e (is_specified d n s) = absurd (omega (arith, ap refusal (specified d n s), ap refusal e))
+  is_82 : RefusedWith half address says 0x82 → Read → Malformed half address
+  is_82 e (is_specified d n s) = absurd (omega (arith, ap refusal (specified d n s), ap refusal e.1.0, e.1.1))
   is_82 e (is_malformed m) = m
-  is_82 e (is_past p) = absurd (omega (arith, ap refusal (past p), ap refusal e))
+  is_82 e (is_past p) = absurd (omega (arith, ap refusal (past p), ap refusal e.1.0, e.1.1))
 
-  is_b0 : says ≡ Refused 0xB0 → Read → NeededPast half address
-  is_b0 e (is_specified d n s) = absurd (omega (arith, ap refusal (specified d n s), ap refusal e))
-  is_b0 e (is_malformed m) = absurd (omega (arith, ap refusal (malformed m), ap refusal e))
+  is_b0 : RefusedWith half address says 0xB0 → Read → NeededPast half address
+  is_b0 e (is_specified d n s) = absurd (omega (arith, ap refusal (specified d n s), ap refusal e.1.0, e.1.1))
+  is_b0 e (is_malformed m) = absurd (omega (arith, ap refusal (malformed m), ap refusal e.1.0, e.1.1))
   is_b0 e (is_past p) = p
 
-  no_other : (status : ℕ) → says ≡ Refused status → (status ≡ 0x82 → ⊥) → Read → status ≡ 0xB0
-  no_other status e n (is_specified d m s) = absurd (omega (arith, ap refusal (specified d m s), ap refusal e))
-  no_other status e n (is_malformed m) = absurd (n (omega (arith, ap refusal (malformed m), ap refusal e)))
-  no_other status e n (is_past p) = omega (arith, ap refusal (past p), ap refusal e)
+  no_other : (status : ℕ) → RefusedWith half address says status → (status ≡ 0x82 → ⊥) → Read → status ≡ 0xB0
+  no_other status e n (is_specified d m s) = absurd (omega (arith, ap refusal (specified d m s), ap refusal e.1.0, e.1.1))
+  no_other status e n (is_malformed m) = absurd (n (omega (arith, ap refusal (malformed m), ap refusal e.1.0, e.1.1)))
+  no_other status e n (is_past p) = omega (arith, ap refusal (past p), ap refusal e.1.0, e.1.1)
 
   pub specifies : Specifies half address says
   specifies = record {
     names = λ device number. (λ e. is_names device number e read, specified device number);
-    malformed = (λ e. is_82 e read, malformed);
-    past = (λ e. is_b0 e read, past);
+    malformed = (λ e. is_82 e read, λ m. (error.Malformed, (malformed m, refl)));
+    past = (λ e. is_b0 e read, λ p. (error.Past, (past p, refl)));
     numbers = λ status e n. no_other status e n read;
   }
 

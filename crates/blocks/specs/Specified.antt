@@ -1,13 +1,12 @@
 -- Document 01, OPEN, said a second time: which bytes at the address name a device, which are malformed, and when a needed byte is
 -- past the area; and which AUX1 a device does not offer.
 -- Assumes nothing.
-use Rattle.std.specs.Prelude.{◌≡◌, ◌↔◌, true, false, List, ℕ, ◌+◌, ◌<◌, ◌≤◌, get_or}
+use Rattle.std.specs.Prelude.{◌≡◌, ◌↔◌, true, false, Err, List, ℕ, ◌+◌, ◌<◌, ◌≤◌, get_or}
 use Rattle.base.specs.Choice.{bit}
 use Rattle.blocks.specs.declared.Device.{Device}
 use Rattle.blocks.specs.declared.Device.TheVariants.{E, S, K, P, C, D}
-use Rattle.blocks.specs.declared.Specification.{Specification}
-use Rattle.blocks.specs.declared.Specification.TheVariants.{Refused, Names}
-use Rattle.blocks.specs.Opening.{area_length, letter_of, highest_of}
+use Rattle.blocks.specs.declared.SpecificationError.{SpecificationError}
+use Rattle.blocks.specs.Opening.{area_length, letter_of, highest_of, Reading, names, error_status}
 
 -- "E, S, K or P", C and D
 pub record KnownLetter (byte : ℕ) : Type 0 where
@@ -44,13 +43,17 @@ module _ (half : List ℕ) (address : ℕ) where
     next_past : address < area_length → area_length ≤ address + 1 → KnownLetter (behind 0) → NeededPast
     colon_past : address + 1 < area_length → area_length ≤ address + 2 → (k : KnownLetter (behind 0)) → NumberDigit k.device (behind 1) → NeededPast
 
-  pub record Specifies (s : Specification) : Type 0 where
-    pub names : (device : Device) (number : ℕ) → (s ≡ Names device number) ↔ Specified device number
+  -- the status with which this is refused
+  abbrev pub RefusedWith : Reading → (status : ℕ) → Type 0
+  RefusedWith s status = (e : SpecificationError) × ((s ≡ Err e) × (error_status e ≡ status))
+
+  pub record Specifies (s : Reading) : Type 0 where
+    pub names : (device : Device) (number : ℕ) → (s ≡ names device number) ↔ Specified device number
     -- "$82 unknown device, or malformed specification"
-    pub malformed : (s ≡ Refused 0x82) ↔ Malformed
+    pub malformed : RefusedWith s 0x82 ↔ Malformed
     -- "a needed byte past the area is $B0"
-    pub past : (s ≡ Refused 0xB0) ↔ NeededPast
-    pub numbers : (status : ℕ) → s ≡ Refused status → (status ≡ 0x82 → ⊥) → status ≡ 0xB0
+    pub past : RefusedWith s 0xB0 ↔ NeededPast
+    pub numbers : (status : ℕ) → RefusedWith s status → (status ≡ 0x82 → ⊥) → status ≡ 0xB0
 
 -- "AUX1: R is 4, W is 8. K offers R, P offers W, E and S both; an AUX1 with neither bit is accepted. E with R needs bit 0, forced
 -- read (house). Other bits do not refuse, save S's bit 4.": that one is the mode's. "C opens for reading or writing, both at once is $84"; of D

@@ -4,7 +4,7 @@
 
 ghost use Rattle.std.specs.Prelude.{◌≡◌, ◌+◌};
 ghost use Rattle.blocks.specs.Blocks.{closed_table, fresh_gather, fresh_port};
-ghost use Rattle.blocks.specs.Opening.{device_of, highest_of, colon_of, number_of, named_of, specification_of, reads, writes, offers_of};
+ghost use Rattle.blocks.specs.Opening.{error_status, device_of, highest_of, needed_byte, colon_of, number_of, named_of, specification_of, reads, writes, offers_of};
 
 // The bytes of a port's own area.
 pub const AREA: usize = 16384;
@@ -146,53 +146,66 @@ impl Port {
     }
 }
 
-// A device's letter.
+// A device specification: a device and its number.
 #[derive(Clone, Copy)]
-pub enum Letter {
-    Unknown,
-    Known(Device),
+pub struct Specification {
+    pub device: Device,
+    pub number: u8,
 }
 
-// A device specification: refused with its status, or a device and its number.
+// Why bytes are none: an unknown letter, or no colon where one has to stand; or a needed byte past the area.
 #[derive(Clone, Copy)]
-pub enum Specification {
-    Refused(u8),
-    Names(Device, u8),
+pub enum SpecificationError {
+    Malformed,
+    Past,
+}
+
+impl From<SpecificationError> for u8 {
+    // The status of the refusal.
+    fn from(error: SpecificationError) -> u8
+        ensures { result ≡ error_status error }
+    {
+        match error {
+            SpecificationError::Malformed => 0x82,
+            SpecificationError::Past => 0xB0,
+        }
+    }
 }
 
 // The device that a letter names.
-pub fn device_of(byte: u8) -> Letter
+#[tactic(auto, using(base::proofs::Tests::tests), unfolding(crate::specs::Opening::device_of))]
+pub fn device_of(byte: u8) -> Option<Device>
     ensures { result ≡ device_of byte }
 {
-    if byte == b'E' {
-        return Letter::Known(Device::E);
+    match byte {
+        b'E' => Some(Device::E),
+        b'S' => Some(Device::S),
+        b'K' => Some(Device::K),
+        b'P' => Some(Device::P),
+        b'C' => Some(Device::C),
+        b'D' => Some(Device::D),
+        _ => None,
     }
-    if byte == b'S' {
-        return Letter::Known(Device::S);
+}
+
+// A byte of the port's own half that has to be there.
+fn needed(half: &[u8], place: usize) -> Result<u8, SpecificationError>
+    ensures { result ≡ needed_byte half.now place }
+{
+    if AREA <= place {
+        return Err(SpecificationError::Past);
     }
-    if byte == b'K' {
-        return Letter::Known(Device::K);
-    }
-    if byte == b'P' {
-        return Letter::Known(Device::P);
-    }
-    if byte == b'C' {
-        return Letter::Known(Device::C);
-    }
-    if byte == b'D' {
-        return Letter::Known(Device::D);
-    }
-    Letter::Unknown
+    Ok(base::byte_at(half, place))
 }
 
 // The colon that ends a specification.
-fn colon_of(device: Device, number: u8, byte: u8) -> Specification
+fn colon_of(device: Device, number: u8, byte: u8) -> Result<Specification, SpecificationError>
     ensures { result ≡ colon_of device number byte }
 {
     if byte == b':' {
-        return Specification::Names(device, number);
+        return Ok(Specification { device, number });
     }
-    Specification::Refused(0x82)
+    Err(SpecificationError::Malformed)
 }
 
 // The digit of a device's highest number.
@@ -209,9 +222,14 @@ fn last_digit(device: Device) -> u8
     }
 }
 
-// After the letter a digit and the colon, or the colon alone; `place` is the next byte's.
-fn number_of(half: &[u8], device: Device, place: usize, byte: u8) -> Specification
-    ensures { result ≡ number_of half.now device place byte }
+// Behind the letter at an address: a digit and the colon, or the colon alone. The byte is the one behind the letter.
+fn number_of(
+    half: &[u8],
+    device: Device,
+    address: u16,
+    byte: u8,
+) -> Result<Specification, SpecificationError>
+    ensures { result ≡ number_of half.now device (address + 2) byte }
 {
     if byte < b'1' {
         return colon_of(device, 1, byte);
@@ -219,37 +237,31 @@ fn number_of(half: &[u8], device: Device, place: usize, byte: u8) -> Specificati
     if last_digit(device) < byte {
         return colon_of(device, 1, byte);
     }
-    if AREA <= place {
-        return Specification::Refused(0xB0);
-    }
-    colon_of(device, byte - b'0', base::byte_at(half, place))
+    let colon = needed(half, address as usize + 2)?;
+    colon_of(device, byte - b'0', colon)
 }
 
-// What follows the letter, from `place` on.
-fn named_of(half: &[u8], letter: Letter, place: usize) -> Specification
-    ensures { result ≡ named_of half.now letter place }
+// What follows the letter at an address.
+fn named_of(
+    half: &[u8],
+    letter: Option<Device>,
+    address: u16,
+) -> Result<Specification, SpecificationError>
+    ensures { result ≡ named_of half.now letter (address + 1) }
 {
-    match letter {
-        Letter::Unknown => Specification::Refused(0x82),
-        Letter::Known(device) => {
-            if AREA <= place {
-                return Specification::Refused(0xB0);
-            }
-            number_of(half, device, place + 1, base::byte_at(half, place))
-        }
-    }
+    let Some(device) = letter else {
+        return Err(SpecificationError::Malformed);
+    };
+    let byte = needed(half, address as usize + 1)?;
+    number_of(half, device, address, byte)
 }
 
 // The device specification at an address of the port's own half.
-pub fn specification_at(half: &[u8], address: u16) -> Specification
+pub fn specification_at(half: &[u8], address: u16) -> Result<Specification, SpecificationError>
     ensures { result ≡ specification_of half.now address }
 {
-    let place = address as usize;
-    if AREA <= place {
-        return Specification::Refused(0xB0);
-    }
-    let letter = device_of(base::byte_at(half, place));
-    named_of(half, letter, place + 1)
+    let letter = needed(half, address as usize)?;
+    named_of(half, device_of(letter), address)
 }
 
 // AUX1's R.

@@ -1,7 +1,7 @@
 // Replies, made in a port's room: a CALL's, a status alone, and a FETCH's with its bytes. A reply stands in the room from 0 on.
 #![tactic(auto)]
 
-ghost use Rattle.std.specs.Prelude.{◌≡◌, ◌/◌, ◌%◌, [], ◌∷◌};
+ghost use Rattle.std.specs.Prelude.{◌≡◌};
 ghost use Rattle.std.proofs.lemmas.List.Edits.{sets};
 ghost use Rattle.replies.specs.Replies.{call_reply, status_reply, bytes_at, fetch_reply, replied, replied_of};
 
@@ -11,11 +11,9 @@ use blocks::Reply;
 fn copy_each(to: &mut [u8], place: u16, from: &[u8], start: u16, count: u16)
     ensures { to.new ≡ sets to.old place (bytes_at from.now start count) }
 {
-    let mut i: u16 = 0;
-    while i < count {
-        let byte = base::byte_at(from, start as usize + i as usize);
-        base::set_byte(to, place as usize + i as usize, byte);
-        i += 1;
+    for i in 0..count as usize {
+        let byte = base::byte_at(from, start as usize + i);
+        base::set_byte(to, place as usize + i, byte);
     }
 }
 
@@ -37,29 +35,12 @@ pub fn copy_bytes(to: &mut [u8], place: u16, from: &[u8], start: u16, count: u16
     copy_each(to, place, from, start, count);
 }
 
-// A number as two bytes, the low one first.
-fn set_word(room: &mut [u8], place: u8, number: u16)
-    ensures { room.new ≡ sets room.old place (number % 256 ∷ number / 256 ∷ []) }
-{
-    base::set_byte(room, place as usize, (number % 256) as u8);
-    base::set_byte(room, place as usize + 1, (number / 256) as u8);
-}
-
-fn set_header(room: &mut [u8], tag: u8, length: u16)
-    ensures { room.new ≡ sets room.old 0 (tag ∷ length % 256 ∷ length / 256 ∷ []) }
-{
-    base::set_byte(room, 0, tag);
-    set_word(room, 1, length);
-}
-
 // A CALL's reply.
 pub fn call_reply(room: &mut [u8], status: u8, count: u16, a: u8) -> Reply
     ensures { replied result room.new ≡ replied_of room.old (call_reply status count a) }
 {
-    set_header(room, 0x90, 4);
-    base::set_byte(room, 3, status);
-    set_word(room, 4, count);
-    base::set_byte(room, 6, a);
+    let [low, high] = count.to_le_bytes();
+    base::lay(room, 0, &[0x90, 4, 0, status, low, high, a]);
     Reply {
         length: 7,
         given: 0,
@@ -70,8 +51,7 @@ pub fn call_reply(room: &mut [u8], status: u8, count: u16, a: u8) -> Reply
 pub fn status_reply(room: &mut [u8], tag: u8, status: u8) -> Reply
     ensures { replied result room.new ≡ replied_of room.old (status_reply tag status) }
 {
-    set_header(room, tag, 1);
-    base::set_byte(room, 3, status);
+    base::lay(room, 0, &[tag, 1, 0, status]);
     Reply {
         length: 4,
         given: 0,
@@ -91,8 +71,8 @@ pub fn fetch_reply(room: &mut [u8], half: &[u8], address: u16, count: u16) -> Re
     if blocks::AREA < address as usize + count as usize {
         return status_reply(room, 0x92, 0xB0);
     }
-    set_header(room, 0x92, 1 + count);
-    base::set_byte(room, 3, 0x01);
+    let [low, high] = (1 + count).to_le_bytes();
+    base::lay(room, 0, &[0x92, low, high, 0x01]);
     copy_bytes(room, 4, half, address, count);
     Reply {
         length: 4 + count,

@@ -35,28 +35,22 @@ module _ (gather : Gather) (room : List ℕ) (byte : ℕ) where
   unfolding take_of
   take_tag z = rw (eq-eqb gather.taken 0 z)
 
-  module _ (z : gather.taken ≡ 0 → ⊥) where
-    pub take_low : gather.taken ≡ 1 → gathered (Gathering (gather_of gather.tag byte 2)) room ≡ take_of gather room byte
+  pub take_low : gather.taken ≡ 1 → gathered (Gathering (gather_of gather.tag byte 2)) room ≡ take_of gather room byte
+  unfolding take_of
+  take_low o = rw (ne_eqb gather.taken 0 (λ z. omega (arith, o, z)), eq-eqb gather.taken 1 o)
+
+  module _ (phase : Phase) where
+    pub take_high : (length : ℕ) → gather.taken ≡ 2 → length ≡ word_of (gather.length % 256) byte → phase ≡ after_of gather.tag length 3 → gathered phase room ≡ take_of gather room byte
     unfolding take_of
-    take_low o = rw (ne_eqb gather.taken 0 z, eq-eqb gather.taken 1 o)
+    take_high length t e f = rw (f, e, ne_eqb gather.taken 0 (λ z. omega (arith, t, z)), ne_eqb gather.taken 1 (λ o. omega (arith, t, o)), eq-eqb gather.taken 2 t)
 
-    module _ (o : gather.taken ≡ 1 → ⊥) (phase : Phase) where
-      pub take_high : (length : ℕ) → gather.taken ≡ 2 → length ≡ word_of (gather.length % 256) byte → phase ≡ after_of gather.tag length 3 → gathered phase room ≡ take_of gather room byte
-      unfolding take_of
-      take_high length t e f = rw (f, e, ne_eqb gather.taken 0 z, ne_eqb gather.taken 1 o, eq-eqb gather.taken 2 t)
-
-      pub take_value : (next : List ℕ) → (gather.taken ≡ 2 → ⊥) → next ≡ kept_of gather.tag gather.length room (gather.taken - 3) byte → phase ≡ after_of gather.tag gather.length (gather.taken + 1) → gathered phase next ≡ take_of gather room byte
-      unfolding take_of
-      take_value next t e f = rw (f, e, ne_eqb gather.taken 0 z, ne_eqb gather.taken 1 o, ne_eqb gather.taken 2 t)
+    pub take_value : (next : List ℕ) → (gather.taken ≡ 0 → ⊥) → (gather.taken ≡ 1 → ⊥) → (gather.taken ≡ 2 → ⊥)
+        → next ≡ kept_of gather.tag gather.length room (gather.taken - 3) byte → phase ≡ after_of gather.tag gather.length (gather.taken + 1) → gathered phase next ≡ take_of gather room byte
+    unfolding take_of
+    take_value next z o t e f = rw (f, e, ne_eqb gather.taken 0 z, ne_eqb gather.taken 1 o, ne_eqb gather.taken 2 t)
 
 -- a value that goes on
 module _ (gather : Gather) where
-  pub goes_far : 3 ≤ gather.taken → ltb (gather.taken + 1) (3 + gather.length) ≡ goes_on gather
-  goes_far h = rw (le-leb 3 gather.taken h)
-
-  pub goes_not : gather.taken < 3 → false ≡ goes_on gather
-  goes_not h = rw (lt-leb 3 gather.taken h)
-
   module _ (e : goes_on gather ≡ true) where
     pub goes_begun : 3 ≤ gather.taken
     goes_begun = leb-true 3 gather.taken (and_left (leb 3 gather.taken) (ltb (gather.taken + 1) (3 + gather.length)) e)
@@ -96,21 +90,23 @@ module _ (header : Header) (room : List ℕ) (good : Bool) (e : good ≡ good_fi
     unfolding message_of sense_of
     says_call call c f = rw (f, ← e, t, eq-eqb header.tag 0x10 c)
 
-    module _ (c : header.tag ≡ 0x10 → ⊥) where
-      module _ (l : header.tag ≡ 0x11) where
-        pub load_size : 2 ≤ header.length
-        unfolding good_field
-        load_size =
-            let g : within 3 258 header.length ≡ true = rw (← t, e, ne_eqb header.tag 0x10 c, eq-eqb header.tag 0x11 l) in
-            omega (arith, leb-true 3 header.length (and_left (leb 3 header.length) (leb header.length 258) g))
+    module _ (l : header.tag ≡ 0x11) where
+      no_call : header.tag ≡ 0x10 → ⊥
+      no_call c = omega (arith, l, c)
 
-        pub says_load : (address : ℕ) → address ≡ word_at room 0 → says.Load address (header.length - 2) ≡ message_of header room
-        unfolding message_of sense_of
-        says_load address f = rw (f, ← e, t, ne_eqb header.tag 0x10 c, eq-eqb header.tag 0x11 l)
+      pub load_size : 2 ≤ header.length
+      unfolding good_field
+      load_size =
+          let g : within 3 258 header.length ≡ true = rw (← t, e, ne_eqb header.tag 0x10 no_call, eq-eqb header.tag 0x11 l) in
+          omega (arith, leb-true 3 header.length (and_left (leb 3 header.length) (leb header.length 258) g))
 
-      pub says_fetch : (address count : ℕ) → (header.tag ≡ 0x11 → ⊥) → address ≡ word_at room 0 → count ≡ word_at room 2 → says.Fetch address count ≡ message_of header room
+      pub says_load : (address : ℕ) → address ≡ word_at room 0 → says.Load address (header.length - 2) ≡ message_of header room
       unfolding message_of sense_of
-      says_fetch address count l f g = rw (f, g, ← e, t, ne_eqb header.tag 0x10 c, ne_eqb header.tag 0x11 l)
+      says_load address f = rw (f, ← e, t, ne_eqb header.tag 0x10 no_call, eq-eqb header.tag 0x11 l)
+
+    pub says_fetch : (address count : ℕ) → (header.tag ≡ 0x10 → ⊥) → (header.tag ≡ 0x11 → ⊥) → address ≡ word_at room 0 → count ≡ word_at room 2 → says.Fetch address count ≡ message_of header room
+    unfolding message_of sense_of
+    says_fetch address count c l f g = rw (f, g, ← e, t, ne_eqb header.tag 0x10 c, ne_eqb header.tag 0x11 l)
 
 -- a reply's byte, the last and another
 module _ (reply : Reply) (room : List ℕ) (byte : ℕ) (e : byte ≡ get_or room reply.given 0) where

@@ -3,7 +3,7 @@
 #![tactic(auto)]
 
 ghost use Rattle.std.specs.Prelude.{true, ◌≡◌};
-ghost use Rattle.wire.specs.Messages.{word_of, good_field, gathered, after_of, kept_of, take_of, goes_on, word_at, call_of, bad_status, message_of};
+ghost use Rattle.wire.specs.Messages.{good_field, gathered, after_of, kept_of, take_of, goes_on, call_of, bad_status, message_of};
 ghost use Rattle.wire.specs.Fits.{gather_fits, reply_fits};
 ghost use Rattle.wire.specs.Giving.{give_of};
 
@@ -40,39 +40,17 @@ pub struct Given {
     pub phase: Phase,
 }
 
-// Two bytes as a number, the low one first.
-fn word_of(low: u8, high: u8) -> u16
-    ensures { result ≡ word_of low high }
-{
-    low as u16 + 256 * (high as u16)
-}
-
-fn word_at(room: &[u8], place: u8) -> u16
-    ensures { result ≡ word_at room.now place }
-{
-    word_of(
-        base::byte_at(room, place as usize),
-        base::byte_at(room, place as usize + 1),
-    )
-}
-
 // Whether the field has a known tag and that tag's length.
+#[tactic(auto, using(base::proofs::Tests::tests), unfolding(crate::specs::Messages::good_field))]
 pub fn field_is_good(tag: u8, length: u16) -> bool
     ensures { result ≡ good_field tag length }
 {
-    if tag == 0x10 {
-        return length == 9;
+    match tag {
+        0x10 => length == 9,
+        0x11 => 3 <= length && length <= 258,
+        0x12 => length == 4,
+        _ => false,
     }
-    if tag == 0x11 {
-        if length < 3 {
-            return false;
-        }
-        return length <= 258;
-    }
-    if tag == 0x12 {
-        return length == 4;
-    }
-    false
 }
 
 // The phase with so many bytes taken, the header's three among them.
@@ -102,10 +80,7 @@ fn keep(tag: u8, length: u16, room: &mut [u8], place: u32, byte: u8)
 pub fn goes_on(gather: Gather) -> bool
     ensures { result ≡ goes_on gather }
 {
-    if 3 <= gather.taken {
-        return gather.taken as u64 + 1 < 3 + gather.length as u64;
-    }
-    false
+    3 <= gather.taken && gather.taken as u64 + 1 < 3 + gather.length as u64
 }
 
 // Such a byte: the message is gathered on.
@@ -115,9 +90,8 @@ pub fn value(gather: Gather, room: &mut [u8], byte: u8) -> Gather
 {
     keep(gather.tag, gather.length, room, gather.taken - 3, byte);
     Gather {
-        tag: gather.tag,
-        length: gather.length,
         taken: gather.taken + 1,
+        ..gather
     }
 }
 
@@ -125,27 +99,26 @@ pub fn value(gather: Gather, room: &mut [u8], byte: u8) -> Gather
 pub fn take(gather: Gather, room: &mut [u8], byte: u8) -> Phase
     ensures { gathered result room.new ≡ take_of gather room.old byte }
 {
-    let taken = gather.taken;
-    if taken == 0 {
-        return Phase::Gathering(Gather {
+    match gather.taken {
+        0 => Phase::Gathering(Gather {
             tag: byte,
             length: 0,
             taken: 1,
-        });
-    }
-    if taken == 1 {
-        return Phase::Gathering(Gather {
-            tag: gather.tag,
+        }),
+        1 => Phase::Gathering(Gather {
             length: byte as u16,
             taken: 2,
-        });
+            ..gather
+        }),
+        2 => {
+            let low = gather.length % 256;
+            after(gather.tag, base::word(low as u8, byte), 3)
+        }
+        taken => {
+            keep(gather.tag, gather.length, room, taken - 3, byte);
+            after(gather.tag, gather.length, taken as u64 + 1)
+        }
     }
-    if taken == 2 {
-        let low = gather.length % 256;
-        return after(gather.tag, word_of(low as u8, byte), 3);
-    }
-    keep(gather.tag, gather.length, room, taken - 3, byte);
-    after(gather.tag, gather.length, taken as u64 + 1)
 }
 
 fn call_of(room: &[u8]) -> Call
@@ -154,8 +127,8 @@ fn call_of(room: &[u8]) -> Call
     Call {
         iocb: base::byte_at(room, 0),
         command: base::byte_at(room, 1),
-        address: word_at(room, 2),
-        length: word_at(room, 4),
+        address: base::word_at(room, 2),
+        length: base::word_at(room, 4),
         aux1: base::byte_at(room, 6),
         aux2: base::byte_at(room, 7),
         a: base::byte_at(room, 8),
@@ -163,40 +136,35 @@ fn call_of(room: &[u8]) -> Call
 }
 
 // A bad message's status, by its tag.
+#[tactic(auto, using(base::proofs::Tests::tests), unfolding(crate::specs::Messages::bad_status))]
 fn bad_status(tag: u8) -> u8
     ensures { result ≡ bad_status tag }
 {
-    if tag < 0x10 {
-        return 0x92;
+    match tag {
+        0x10..=0x12 => 0x84,
+        _ => 0x92,
     }
-    if tag <= 0x12 {
-        return 0x84;
-    }
-    0x92
 }
 
 // What a ready message says.
 pub fn message_of(header: Header, room: &[u8]) -> Message
     ensures { result ≡ message_of header room.now }
 {
-    let tag = header.tag;
-    let length = header.length;
-    if field_is_good(tag, length) {
-        if tag == 0x10 {
-            return Message::Call(call_of(room));
-        }
-        if tag == 0x11 {
-            return Message::Load {
-                address: word_at(room, 0),
-                size: length - 2,
-            };
-        }
-        return Message::Fetch {
-            address: word_at(room, 0),
-            count: word_at(room, 2),
-        };
+    let Header { tag, length } = header;
+    if !field_is_good(tag, length) {
+        return Message::Bad(bad_status(tag));
     }
-    Message::Bad(bad_status(tag))
+    match tag {
+        0x10 => Message::Call(call_of(room)),
+        0x11 => Message::Load {
+            address: base::word_at(room, 0),
+            size: length - 2,
+        },
+        _ => Message::Fetch {
+            address: base::word_at(room, 0),
+            count: base::word_at(room, 2),
+        },
+    }
 }
 
 // The reply's next byte; with the last the port gathers again.
@@ -222,33 +190,22 @@ pub fn give(reply: Reply, room: &[u8]) -> Given
 }
 
 // Whether a gathering is undamaged.
+#[tactic(auto, using(base::proofs::Tests::tests), unfolding(crate::specs::Fits::gather_fits))]
 pub fn gather_fits(gather: Gather) -> bool
     ensures { result ≡ gather_fits gather }
 {
-    if gather.taken == 0 {
-        if gather.tag == 0 {
-            return gather.length == 0;
-        }
-        return false;
+    match gather.taken {
+        0 => gather.tag == 0 && gather.length == 0,
+        1 => gather.length == 0,
+        2 => gather.length < 256,
+        taken => (taken as u64) < 3 + gather.length as u64,
     }
-    if gather.taken == 1 {
-        return gather.length == 0;
-    }
-    if gather.taken == 2 {
-        return gather.length < 256;
-    }
-    (gather.taken as u64) < 3 + gather.length as u64
 }
 
 // Whether a reply is undamaged.
+#[tactic(auto, using(base::proofs::Tests::tests), unfolding(crate::specs::Fits::reply_fits))]
 pub fn reply_fits(reply: Reply) -> bool
     ensures { result ≡ reply_fits reply }
 {
-    if reply.length < 4 {
-        return false;
-    }
-    if ROOM < reply.length as usize {
-        return false;
-    }
-    reply.given < reply.length
+    4 <= reply.length && reply.length as usize <= ROOM && reply.given < reply.length
 }
