@@ -1,5 +1,5 @@
 // The devices: the one crate that calls a handler. Each act of a handler is one function with one match; an arm reads and
-// writes its own group's numbers, which are a part of the lent state, and is lent its own group's buffer alone. An arm of the console
+// writes its own group's numbers, which are a part of the lent state, and is lent its own group's buffer of the media alone. An arm of the console
 // that changes nothing writes back what it read.
 #![tactic(auto)]
 
@@ -10,7 +10,8 @@ ghost use Rattle.std.specs.Prelude.{◌≡◌};
 ghost use Rattle.handler.specs.Answer.{answer};
 ghost use Rattle.layout.specs.Places.{Numbers};
 ghost use Rattle.devices.specs.Groups.{owner_of, group_of, held_of, group_number, clash};
-ghost use Rattle.devices.specs.Lent.{Lends, devices_lent, lent_acts};
+ghost use Rattle.devices.specs.Lent.{Lends, lent_acts};
+ghost use Rattle.devices.specs.Media.{lent_with, SameBuffers};
 
 use blocks::{Device, Phase};
 use console::Handler;
@@ -24,6 +25,15 @@ pub enum Group {
     Printer,
     Cassette,
     Disk,
+}
+
+// The buffers that are lent of the groups beside the state; the images are lent to be read.
+#[derive(Drop)]
+pub struct Media<'a> {
+    pub screen: &'a mut [u8],
+    pub paper: &'a mut [u8],
+    pub tape: &'a mut [u8],
+    pub images: &'a [u8],
 }
 
 // A device's group, and its handler there.
@@ -104,27 +114,25 @@ pub fn open(
     device: Device,
     asked: Asked,
     numbers: &mut [u8],
-    screen: &mut [u8],
-    paper: &mut [u8],
-    tape: &mut [u8],
-    images: &[u8],
+    media: &mut Media<'_>,
 ) -> Done
-    requires { Lends numbers.old screen.old tape.old }
-    ensures { answer result (devices_lent numbers.new screen.new paper.new tape.new images.now) ≡ (lent_acts device asked).opens (devices_lent numbers.old screen.old paper.old tape.old images.now) }
+    requires { Lends numbers.old media.old.screen.now media.old.tape.now }
+    ensures says { answer result (lent_with numbers.new media.new) ≡ (lent_acts device asked).opens (lent_with numbers.old media.old) }
+    ensures same { SameBuffers media.new media.old }
 {
     let owner = owner_of(device);
     match owner {
         Owner::Console(handler) => {
             let console = numbers::console_of(numbers);
-            let opened = acts::open(handler, console, screen, asked.aux1, asked.aux2);
+            let opened = acts::open(handler, console, media.screen, asked.aux1, asked.aux2);
             let next = opened.console;
             let done = opened.done;
             numbers::set_console(numbers, next);
             done
         }
         Owner::Printer => Done::Success,
-        Owner::Cassette => recorder::open(numbers, tape, asked.aux1),
-        Owner::Disk => drives::open(numbers, images, asked),
+        Owner::Cassette => recorder::open(numbers, &mut *media.tape, asked.aux1),
+        Owner::Disk => drives::open(numbers, media.images, asked),
     }
 }
 
@@ -133,13 +141,11 @@ pub fn close(
     device: Device,
     asked: Asked,
     numbers: &mut [u8],
-    screen: &mut [u8],
-    paper: &mut [u8],
-    tape: &mut [u8],
-    images: &[u8],
+    media: &mut Media<'_>,
 )
-    requires { Lends numbers.old screen.old tape.old }
-    ensures { devices_lent numbers.new screen.new paper.new tape.new images.now ≡ (lent_acts device asked).closes (devices_lent numbers.old screen.old paper.old tape.old images.now) }
+    requires { Lends numbers.old media.old.screen.now media.old.tape.now }
+    ensures says { lent_with numbers.new media.new ≡ (lent_acts device asked).closes (lent_with numbers.old media.old) }
+    ensures same { SameBuffers media.new media.old }
 {
     let owner = owner_of(device);
     match owner {
@@ -148,7 +154,7 @@ pub fn close(
             numbers::set_console(numbers, console);
         }
         Owner::Printer => {}
-        Owner::Cassette => recorder::close(numbers, tape),
+        Owner::Cassette => recorder::close(numbers, media.tape),
         Owner::Disk => {}
     }
 }
@@ -158,19 +164,17 @@ pub fn prepare(
     device: Device,
     asked: Asked,
     numbers: &mut [u8],
-    screen: &mut [u8],
-    paper: &mut [u8],
-    tape: &mut [u8],
-    images: &[u8],
+    media: &mut Media<'_>,
 ) -> Done
-    requires { Lends numbers.old screen.old tape.old }
-    ensures { answer result (devices_lent numbers.new screen.new paper.new tape.new images.now) ≡ (lent_acts device asked).prepares (devices_lent numbers.old screen.old paper.old tape.old images.now) }
+    requires { Lends numbers.old media.old.screen.now media.old.tape.now }
+    ensures says { answer result (lent_with numbers.new media.new) ≡ (lent_acts device asked).prepares (lent_with numbers.old media.old) }
+    ensures same { SameBuffers media.new media.old }
 {
     let owner = owner_of(device);
     match owner {
         Owner::Console(handler) => {
             let console = numbers::console_of(numbers);
-            let prepared = acts::prepare(handler, console, screen);
+            let prepared = acts::prepare(handler, console, media.screen);
             let next = prepared.console;
             let done = prepared.done;
             numbers::set_console(numbers, next);
@@ -187,27 +191,25 @@ pub fn read(
     device: Device,
     asked: Asked,
     numbers: &mut [u8],
-    screen: &mut [u8],
-    paper: &mut [u8],
-    tape: &mut [u8],
-    images: &[u8],
+    media: &mut Media<'_>,
 ) -> Got
-    requires { Lends numbers.old screen.old tape.old }
-    ensures { answer result (devices_lent numbers.new screen.new paper.new tape.new images.now) ≡ (lent_acts device asked).reads (devices_lent numbers.old screen.old paper.old tape.old images.now) }
+    requires { Lends numbers.old media.old.screen.now media.old.tape.now }
+    ensures says { answer result (lent_with numbers.new media.new) ≡ (lent_acts device asked).reads (lent_with numbers.old media.old) }
+    ensures same { SameBuffers media.new media.old }
 {
     let owner = owner_of(device);
     match owner {
         Owner::Console(handler) => {
             let console = numbers::console_of(numbers);
-            let read = acts::read(handler, console, screen);
+            let read = acts::read(handler, console, media.screen);
             let next = read.console;
             let got = read.got;
             numbers::set_console(numbers, next);
             got
         }
         Owner::Printer => Got::Refused(0x83),
-        Owner::Cassette => recorder::read(numbers, tape),
-        Owner::Disk => drives::read(numbers, images, asked),
+        Owner::Cassette => recorder::read(numbers, &mut *media.tape),
+        Owner::Disk => drives::read(numbers, media.images, asked),
     }
 }
 
@@ -217,19 +219,17 @@ pub fn write(
     asked: Asked,
     byte: u8,
     numbers: &mut [u8],
-    screen: &mut [u8],
-    paper: &mut [u8],
-    tape: &mut [u8],
-    images: &[u8],
+    media: &mut Media<'_>,
 ) -> Done
-    requires { Lends numbers.old screen.old tape.old }
-    ensures { answer result (devices_lent numbers.new screen.new paper.new tape.new images.now) ≡ (lent_acts device asked).writes byte (devices_lent numbers.old screen.old paper.old tape.old images.now) }
+    requires { Lends numbers.old media.old.screen.now media.old.tape.now }
+    ensures says { answer result (lent_with numbers.new media.new) ≡ (lent_acts device asked).writes byte (lent_with numbers.old media.old) }
+    ensures same { SameBuffers media.new media.old }
 {
     let owner = owner_of(device);
     match owner {
         Owner::Console(handler) => {
             let console = numbers::console_of(numbers);
-            let written = acts::write(handler, console, screen, byte);
+            let written = acts::write(handler, console, media.screen, byte);
             let next = written.console;
             let done = written.done;
             numbers::set_console(numbers, next);
@@ -237,13 +237,13 @@ pub fn write(
         }
         Owner::Printer => {
             let printer = numbers::printer_of(numbers);
-            let printed = printer.put(paper, byte);
+            let printed = printer.put(media.paper, byte);
             let next = printed.printer;
             let done = printed.done;
             numbers::set_printer(numbers, next);
             done
         }
-        Owner::Cassette => recorder::write(numbers, tape, byte),
+        Owner::Cassette => recorder::write(numbers, media.tape, byte),
         Owner::Disk => Done::Refused(0x87),
     }
 }
@@ -253,20 +253,17 @@ pub fn status(
     device: Device,
     asked: Asked,
     numbers: &[u8],
-    screen: &[u8],
-    paper: &[u8],
-    tape: &[u8],
-    images: &[u8],
+    media: &Media<'_>,
 ) -> Done
     requires { Numbers numbers.now }
-    ensures { result ≡ (lent_acts device asked).statuses (devices_lent numbers.now screen.now paper.now tape.now images.now) }
+    ensures { result ≡ (lent_acts device asked).statuses (lent_with numbers.now media.now) }
 {
     let owner = owner_of(device);
     match owner {
         Owner::Console(handler) => Done::Success,
         Owner::Printer => Done::Success,
         Owner::Cassette => Done::Success,
-        Owner::Disk => drives::status(numbers, images, asked),
+        Owner::Disk => drives::status(numbers, media.images, asked),
     }
 }
 
@@ -275,13 +272,11 @@ pub fn special(
     device: Device,
     asked: Asked,
     numbers: &mut [u8],
-    screen: &mut [u8],
-    paper: &mut [u8],
-    tape: &mut [u8],
-    images: &[u8],
+    media: &mut Media<'_>,
 ) -> Done
-    requires { Lends numbers.old screen.old tape.old }
-    ensures { answer result (devices_lent numbers.new screen.new paper.new tape.new images.now) ≡ (lent_acts device asked).specials (devices_lent numbers.old screen.old paper.old tape.old images.now) }
+    requires { Lends numbers.old media.old.screen.now media.old.tape.now }
+    ensures says { answer result (lent_with numbers.new media.new) ≡ (lent_acts device asked).specials (lent_with numbers.old media.old) }
+    ensures same { SameBuffers media.new media.old }
 {
     let owner = owner_of(device);
     match owner {
