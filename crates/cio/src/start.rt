@@ -5,6 +5,7 @@ ghost use Rattle.handler.specs.Answer.{answer, done_status};
 ghost use Rattle.handler.specs.Acts.{asks_open, asks_on};
 ghost use Rattle.transfer.specs.Transfer.{out_of};
 ghost use Rattle.layout.specs.Places.{Numbers};
+ghost use Rattle.recorder.specs.Recorder.{Wound};
 ghost use Rattle.devices.specs.Lent.{Lends, lent_acts};
 ghost use Rattle.devices.specs.Media.{lent_with, SameBuffers};
 ghost use Rattle.cio.specs.Start.{then_of, opened_of, block_after, prepared_out, begun, opening_of, transfer_of, job_begun};
@@ -54,7 +55,7 @@ fn then(
     numbers: &mut [u8],
     media: &mut Media<'_>,
 ) -> Done
-    requires { Lends numbers.old media.old.screen.now media.old.tape.now }
+    requires { Wound numbers.old media.old.tape.now }
     ensures says { answer result (lent_with numbers.new media.new) ≡ then_of (lent_acts device asked) after (lent_with numbers.old media.old) }
     ensures same { SameBuffers media.new media.old }
 {

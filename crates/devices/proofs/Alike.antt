@@ -15,3 +15,7 @@ pub left_alike : (old : Media) (numbers numbers' : List ℕ) (m m' : Media) → 
     → SameBuffers m old → SameBuffers m' old → ◌≡◌ {A = List ℕ × Media} (numbers, m) (numbers', m')
 left_alike old numbers numbers' m m' e s s' =
     ap (λ (x : Media). (numbers, x)) s ∙ ap (λ (x : DevicesLent). (x.numbers, left_in old x)) e ∙ sym (ap (λ (x : Media). (numbers', x)) s')
+
+-- after two acts, one behind the other
+pub same_again : (old mid new : Media) → SameBuffers mid old → SameBuffers new mid → SameBuffers new old
+same_again old mid new s t = t ∙ ap (λ (m : Media). holding m new.screen.now new.paper.now new.tape.now) s

@@ -11,7 +11,7 @@ use Rattle.devices.specs.declared.Media.{Media}
 use Rattle.devices.specs.Lent.{DevicesLent, devices_lent, lent_acts, lent_of, fresh_groups}
 use Rattle.devices.specs.Media.{lent_with, holding, SameBuffers}
 use Rattle.devices.proofs.Alike.{left_in, left_alike}
-use Rattle.devices.proofs.Images.{images_kept, left_with}
+use Rattle.devices.proofs.Images.{images_kept, left_with, tape_stays, media_stay}
 use Rattle.devices.proofs.owner_of.Kinds as owner_of_kinds
 use Rattle.devices.proofs.owner_of.Reads as owner_of_reads
 use Rattle.devices.proofs.group_of.Kinds as group_of_kinds
@@ -72,13 +72,13 @@ clashes_allows κs a p = (_, (_, refl))
 pub open_decides : Decides open_kinds.ps open_kinds.r open_reads.Pre open_reads.Learnt
 open_decides κs a z z' ws ws' p e e' =
     let q = e.0 ∙ sym e'.0 in
-    (ap (λ (w : Answer Done DevicesLent). w.says) q, ap (λ (l : List ℕ × Media). (tt, (tt, (l.0, (l.1, tt))))) (left_alike a.1.1.1.0.now _ _ _ _ (ap (λ (w : Answer Done DevicesLent). w.leaves) q) e.1 e'.1))
+    (ap (λ (w : Answer Done DevicesLent). w.says) q, ap (λ (l : List ℕ × Media). (tt, (tt, (l.0, (l.1, tt))))) (left_alike a.1.1.1.0.now _ _ _ _ (ap (λ (w : Answer Done DevicesLent). w.leaves) q) e.1.0 e'.1.0))
 
 pub open_allows : Allows open_kinds.ps open_kinds.r open_reads.Pre open_reads.Learnt
 open_allows κs a p =
     let s = lent_with a.1.1.0.now a.1.1.1.0.now in
     let x = (lent_acts a.0 a.1.0).opens s in
-    (x.says, ((tt, (tt, (x.leaves.numbers, (left_in a.1.1.1.0.now x.leaves, tt)))), (ap (answer x.says) (left_with x.leaves s.images ((images_kept a.0 a.1.0).opens s)), refl)))
+    (x.says, ((tt, (tt, (x.leaves.numbers, (left_in a.1.1.1.0.now x.leaves, tt)))), (ap (answer x.says) (left_with x.leaves s.images ((images_kept a.0 a.1.0).opens s)), (refl, tape_stays a.0 a.1.0 s))))
 
 pub close_decides : Decides close_kinds.ps close_kinds.r close_reads.Pre close_reads.Learnt
 close_decides κs a z z' ws ws' p e e' = (refl, ap (λ (l : List ℕ × Media). (tt, (tt, (l.0, (l.1, tt))))) (left_alike a.1.1.1.0.now _ _ _ _ (e.0 ∙ sym e'.0) e.1 e'.1))
@@ -129,15 +129,13 @@ pub status_allows : Allows status_kinds.ps status_kinds.r status_reads.Pre statu
 status_allows κs a p = (_, (_, refl))
 
 pub special_decides : Decides special_kinds.ps special_kinds.r special_reads.Pre special_reads.Learnt
-special_decides κs a z z' ws ws' p e e' =
-    let q = e.0 ∙ sym e'.0 in
-    (ap (λ (w : Answer Done DevicesLent). w.says) q, ap (λ (l : List ℕ × Media). (tt, (tt, (l.0, (l.1, tt))))) (left_alike a.1.1.1.0.now _ _ _ _ (ap (λ (w : Answer Done DevicesLent). w.leaves) q) e.1 e'.1))
+special_decides κs a z z' ws ws' p e e' = let q = e ∙ sym e' in (ap (λ (w : Answer Done DevicesLent). w.says) q, ap (λ (w : Answer Done DevicesLent). (tt, (tt, (w.leaves.numbers, (tt, tt))))) q)
 
 pub special_allows : Allows special_kinds.ps special_kinds.r special_reads.Pre special_reads.Learnt
 special_allows κs a p =
     let s = lent_with a.1.1.0.now a.1.1.1.0.now in
     let x = (lent_acts a.0 a.1.0).specials s in
-    (x.says, ((tt, (tt, (x.leaves.numbers, (left_in a.1.1.1.0.now x.leaves, tt)))), (ap (answer x.says) (left_with x.leaves s.images ((images_kept a.0 a.1.0).specials s)), refl)))
+    (x.says, ((tt, (tt, (x.leaves.numbers, (tt, tt)))), ap (answer x.says) (media_stay a.0 a.1.0 s)))
 
 pub fresh_decides : Decides fresh_kinds.ps fresh_kinds.r fresh_reads.Pre fresh_reads.Learnt
 fresh_decides κs a z z' ws ws' p e e' = (refl, ap (λ (l : List ℕ × Media). (l.0, (l.1, tt))) (left_alike a.1.0.now _ _ _ _ (e.0 ∙ sym e'.0) e.1 e'.1))

@@ -9,6 +9,7 @@ pub mod numbers;
 ghost use Rattle.std.specs.Prelude.{◌≡◌};
 ghost use Rattle.handler.specs.Answer.{answer};
 ghost use Rattle.layout.specs.Places.{Numbers};
+ghost use Rattle.recorder.specs.Recorder.{Wound};
 ghost use Rattle.devices.specs.Groups.{owner_of, group_of, held_of, group_number, clash};
 ghost use Rattle.devices.specs.Lent.{Lends, lent_acts};
 ghost use Rattle.devices.specs.Media.{lent_with, SameBuffers};
@@ -109,7 +110,7 @@ pub fn clashes(one: Group, other: Group) -> bool
     false
 }
 
-// OPEN, with an AUX1 that the device offers.
+// OPEN, with an AUX1 that the device offers. It writes no tape.
 pub fn open(
     device: Device,
     asked: Asked,
@@ -119,6 +120,7 @@ pub fn open(
     requires { Lends numbers.old media.old.screen.now media.old.tape.now }
     ensures says { answer result (lent_with numbers.new media.new) ≡ (lent_acts device asked).opens (lent_with numbers.old media.old) }
     ensures same { SameBuffers media.new media.old }
+    ensures tape { media.new.tape.now ≡ media.old.tape.now }
 {
     let owner = owner_of(device);
     match owner {
@@ -143,7 +145,7 @@ pub fn close(
     numbers: &mut [u8],
     media: &mut Media<'_>,
 )
-    requires { Lends numbers.old media.old.screen.now media.old.tape.now }
+    requires { Wound numbers.old media.old.tape.now }
     ensures says { lent_with numbers.new media.new ≡ (lent_acts device asked).closes (lent_with numbers.old media.old) }
     ensures same { SameBuffers media.new media.old }
 {
@@ -267,16 +269,15 @@ pub fn status(
     }
 }
 
-// SPECIAL.
+// SPECIAL. It writes no buffer.
 pub fn special(
     device: Device,
     asked: Asked,
     numbers: &mut [u8],
-    media: &mut Media<'_>,
+    media: &Media<'_>,
 ) -> Done
-    requires { Lends numbers.old media.old.screen.now media.old.tape.now }
-    ensures says { answer result (lent_with numbers.new media.new) ≡ (lent_acts device asked).specials (lent_with numbers.old media.old) }
-    ensures same { SameBuffers media.new media.old }
+    requires { Numbers numbers.old }
+    ensures { answer result (lent_with numbers.new media.now) ≡ (lent_acts device asked).specials (lent_with numbers.old media.now) }
 {
     let owner = owner_of(device);
     match owner {
