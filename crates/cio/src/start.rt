@@ -35,12 +35,7 @@ fn status_of(done: Done) -> u8
 }
 
 // What GET STATUS says of a device.
-fn status_said(
-    device: Device,
-    asked: Asked,
-    numbers: &[u8],
-    media: &Media<'_>,
-) -> u8
+fn status_said(device: Device, asked: Asked, numbers: &[u8], media: &Media<'_>) -> u8
     requires { Numbers numbers.now }
     ensures { result ≡ done_status ((lent_acts device asked).statuses (lent_with numbers.now media.now)) }
 {
@@ -236,8 +231,6 @@ pub fn start(
         Work::Open(after, number, name) => opening(
             port, after, number, name, job, block, numbers, media,
         ),
-        Work::Transfer(kind) => transfer(
-            port, kind, job, block, numbers, media,
-        ),
+        Work::Transfer(kind) => transfer(port, kind, job, block, numbers, media),
     }
 }

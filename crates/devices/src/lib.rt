@@ -111,12 +111,7 @@ pub fn clashes(one: Group, other: Group) -> bool
 }
 
 // OPEN, with an AUX1 that the device offers. It writes no tape.
-pub fn open(
-    device: Device,
-    asked: Asked,
-    numbers: &mut [u8],
-    media: &mut Media<'_>,
-) -> Done
+pub fn open(device: Device, asked: Asked, numbers: &mut [u8], media: &mut Media<'_>) -> Done
     requires { Lends numbers.old media.old.screen.now media.old.tape.now }
     ensures says { answer result (lent_with numbers.new media.new) ≡ (lent_acts device asked).opens (lent_with numbers.old media.old) }
     ensures same { SameBuffers media.new media.old }
@@ -139,12 +134,7 @@ pub fn open(
 }
 
 // CLOSE.
-pub fn close(
-    device: Device,
-    asked: Asked,
-    numbers: &mut [u8],
-    media: &mut Media<'_>,
-)
+pub fn close(device: Device, asked: Asked, numbers: &mut [u8], media: &mut Media<'_>)
     requires { Wound numbers.old media.old.tape.now }
     ensures says { lent_with numbers.new media.new ≡ (lent_acts device asked).closes (lent_with numbers.old media.old) }
     ensures same { SameBuffers media.new media.old }
@@ -162,12 +152,7 @@ pub fn close(
 }
 
 // Before the first character of a transfer.
-pub fn prepare(
-    device: Device,
-    asked: Asked,
-    numbers: &mut [u8],
-    media: &mut Media<'_>,
-) -> Done
+pub fn prepare(device: Device, asked: Asked, numbers: &mut [u8], media: &mut Media<'_>) -> Done
     requires { Lends numbers.old media.old.screen.now media.old.tape.now }
     ensures says { answer result (lent_with numbers.new media.new) ≡ (lent_acts device asked).prepares (lent_with numbers.old media.old) }
     ensures same { SameBuffers media.new media.old }
@@ -189,12 +174,7 @@ pub fn prepare(
 }
 
 // A character is read.
-pub fn read(
-    device: Device,
-    asked: Asked,
-    numbers: &mut [u8],
-    media: &mut Media<'_>,
-) -> Got
+pub fn read(device: Device, asked: Asked, numbers: &mut [u8], media: &mut Media<'_>) -> Got
     requires { Lends numbers.old media.old.screen.now media.old.tape.now }
     ensures says { answer result (lent_with numbers.new media.new) ≡ (lent_acts device asked).reads (lent_with numbers.old media.old) }
     ensures same { SameBuffers media.new media.old }
@@ -251,12 +231,7 @@ pub fn write(
 }
 
 // GET STATUS.
-pub fn status(
-    device: Device,
-    asked: Asked,
-    numbers: &[u8],
-    media: &Media<'_>,
-) -> Done
+pub fn status(device: Device, asked: Asked, numbers: &[u8], media: &Media<'_>) -> Done
     requires { Numbers numbers.now }
     ensures { result ≡ (lent_acts device asked).statuses (lent_with numbers.now media.now) }
 {
@@ -270,12 +245,7 @@ pub fn status(
 }
 
 // SPECIAL. It writes no buffer.
-pub fn special(
-    device: Device,
-    asked: Asked,
-    numbers: &mut [u8],
-    media: &Media<'_>,
-) -> Done
+pub fn special(device: Device, asked: Asked, numbers: &mut [u8], media: &Media<'_>) -> Done
     requires { Numbers numbers.old }
     ensures { answer result (lent_with numbers.new media.now) ≡ (lent_acts device asked).specials (lent_with numbers.old media.now) }
 {

@@ -41,6 +41,7 @@ pub fn fixlomand_doctor(image: &mut [u8], list: &mut [u8]) -> u32
     doctor::repair(image, list)
 }
 
+#[tactic(auto, using(base::proofs::Tests::tests), unfolding(calls::specs::Bytes::six_fit))]
 fn lengths_fit(state: &[u8], area: &[u8], media: &Media<'_>) -> bool
     ensures { result ≡ buffers_fit (buffers_in state.now area.now media.now) }
 {

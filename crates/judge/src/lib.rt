@@ -663,11 +663,7 @@ fn head(state: &[u8]) -> bool
 }
 
 // Whether a state, with what is lent beside it, stands for an undamaged stick.
-pub fn undamaged(
-    state: &[u8],
-    area: &[u8],
-    media: &Media<'_>,
-) -> bool
+pub fn undamaged(state: &[u8], area: &[u8], media: &Media<'_>) -> bool
     requires { Headed state.now }
     ensures { result ≡ and (stands state.now) (stick_fits (stick_in state.now) (lent_in state.now area.now media.now.screen.now media.now.paper.now media.now.tape.now media.now.images.now)) }
 {

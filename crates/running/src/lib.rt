@@ -48,13 +48,7 @@ fn carry_at(port: u8, run: Run, carried: Carried, state: &mut [u8])
 }
 
 // A running request moves one character.
-pub fn advance_at(
-    port: u8,
-    run: Run,
-    state: &mut [u8],
-    area: &mut [u8],
-    media: &mut Media<'_>,
-)
+pub fn advance_at(port: u8, run: Run, state: &mut [u8], area: &mut [u8], media: &mut Media<'_>)
     requires { Going port run (buffers_in state.old area.old media.old) }
     ensures says { buffers_in state.new area.new media.new ≡ advance_on port run (buffers_in state.old area.old media.old) }
     ensures same { SameBuffers media.new media.old }

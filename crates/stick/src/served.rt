@@ -9,13 +9,7 @@ use devices::{Group, Media};
 use layout::places::{DEVICES, ROOM, ROOMS};
 
 // A byte offered by a port's host.
-pub fn take_at(
-    port: u8,
-    byte: u8,
-    state: &mut [u8],
-    area: &[u8],
-    media: &Media<'_>,
-) -> u8
+pub fn take_at(port: u8, byte: u8, state: &mut [u8], area: &[u8], media: &Media<'_>) -> u8
     requires { Called port (buffers_in state.old area.now media.now) }
     ensures { left result 0 (buffers_in state.new area.now media.now) ≡ left_of (take_at port (stick_by (buffers_in state.old area.now media.now)) (lent_by (buffers_in state.old area.now media.now)) byte) }
 {
@@ -43,12 +37,7 @@ fn both(answer: u8, byte: u8) -> u16
 }
 
 // The next byte of a port's reply, above the answer.
-pub fn give_at(
-    port: u8,
-    state: &mut [u8],
-    area: &[u8],
-    media: &Media<'_>,
-) -> u16
+pub fn give_at(port: u8, state: &mut [u8], area: &[u8], media: &Media<'_>) -> u16
     requires { Called port (buffers_in state.old area.now media.now) }
     ensures { returned result (buffers_in state.new area.now media.now) ≡ both_of (left_of (give_at port (stick_by (buffers_in state.old area.now media.now)) (lent_by (buffers_in state.old area.now media.now)))) }
 {
@@ -87,12 +76,7 @@ fn store_key(code: u8, state: &mut [u8])
 }
 
 // A key of the console.
-pub fn press_at(
-    code: u8,
-    state: &mut [u8],
-    area: &[u8],
-    media: &Media<'_>,
-) -> u8
+pub fn press_at(code: u8, state: &mut [u8], area: &[u8], media: &Media<'_>) -> u8
     requires { Called 0 (buffers_in state.old area.now media.now) }
     ensures { left result 0 (buffers_in state.new area.now media.now) ≡ left_of (press_at (stick_by (buffers_in state.old area.now media.now)) (lent_by (buffers_in state.old area.now media.now)) code) }
 {

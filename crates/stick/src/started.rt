@@ -18,11 +18,7 @@ fn fresh_ports(state: &mut [u8])
     ports::set_port(1, Port::fresh(), state);
 }
 
-pub fn fresh_all(
-    state: &mut [u8],
-    area: &mut [u8],
-    media: &mut Media<'_>,
-)
+pub fn fresh_all(state: &mut [u8], area: &mut [u8], media: &mut Media<'_>)
     requires { Lengths (buffers_in state.old area.old media.old) }
     ensures says { buffers_in state.new area.new media.new ≡ fresh_on (buffers_in state.old area.old media.old) }
     ensures same { SameBuffers media.new media.old }

@@ -42,13 +42,7 @@ fn waits(port: u8, plan: Plan, state: &[u8]) -> bool
 }
 
 // A start that needs no group.
-fn errand_at(
-    port: u8,
-    errand: Errand,
-    state: &mut [u8],
-    area: &mut [u8],
-    media: &Media<'_>,
-)
+fn errand_at(port: u8, errand: Errand, state: &mut [u8], area: &mut [u8], media: &Media<'_>)
     requires { Halves port state.old area.old }
     ensures { buffers_in state.new area.new media.now ≡ errand_on port errand (buffers_in state.old area.old media.now) }
 {
@@ -61,13 +55,7 @@ fn errand_at(
 }
 
 // A start with its group held.
-fn job_at(
-    port: u8,
-    job: Job,
-    state: &mut [u8],
-    area: &[u8],
-    media: &mut Media<'_>,
-)
+fn job_at(port: u8, job: Job, state: &mut [u8], area: &[u8], media: &mut Media<'_>)
     requires { Called port (buffers_in state.old area.now media.old) }
     ensures says { buffers_in state.new area.now media.new ≡ job_on port job (buffers_in state.old area.now media.old) }
     ensures same { SameBuffers media.new media.old }
@@ -75,26 +63,14 @@ fn job_at(
     let call = job.call;
     let iocb = call.iocb;
     let block = ports::block_of(port, iocb, state);
-    let begin = cio::start::start(
-        port,
-        job,
-        block,
-        &mut state[DEVICES..ROOMS],
-        media,
-    );
+    let begin = cio::start::start(port, job, block, &mut state[DEVICES..ROOMS], media);
     let after = begin.block;
     let next = begin.next;
     ports::set_block(port, iocb, after, state);
     running::land_at(port, next, state);
 }
 
-fn start_at(
-    port: u8,
-    plan: Plan,
-    state: &mut [u8],
-    area: &mut [u8],
-    media: &mut Media<'_>,
-)
+fn start_at(port: u8, plan: Plan, state: &mut [u8], area: &mut [u8], media: &mut Media<'_>)
     requires { Called port (buffers_in state.old area.old media.old) }
     ensures says { buffers_in state.new area.new media.new ≡ start_on port plan (buffers_in state.old area.old media.old) }
     ensures same { SameBuffers media.new media.old }
@@ -125,12 +101,7 @@ fn ready_at(
     0
 }
 
-pub fn tick_at(
-    port: u8,
-    state: &mut [u8],
-    area: &mut [u8],
-    media: &mut Media<'_>,
-) -> u8
+pub fn tick_at(port: u8, state: &mut [u8], area: &mut [u8], media: &mut Media<'_>) -> u8
     requires { Called port (buffers_in state.old area.old media.old) }
     ensures says { left result 0 (buffers_in state.new area.new media.new) ≡ left_of (tick_at port (stick_by (buffers_in state.old area.old media.old)) (lent_by (buffers_in state.old area.old media.old))) }
     ensures same { SameBuffers media.new media.old }
