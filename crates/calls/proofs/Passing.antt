@@ -269,16 +269,16 @@ module _ (state area screen paper tape images : List ℕ) (l : Lengths (buffers 
   pub long_state : Long state
   long_state = record { long = l.long }
 
-  pub fresh_all_law : (s1 area' numbers screen' : List ℕ) → length s1 ≡ length state → s1 ≡ ports_fresh state → area' ≡ replicate (length area) 0 → length numbers ≡ length (part devices_place devices_length s1)
-      → devices_lent numbers screen' paper tape images ≡ lent_of (fresh_groups paper tape images)
-      → buffers (take devices_place s1 ++ (numbers ++ drop devices_length (drop devices_place s1))) area' screen' paper tape images ≡ fresh_on (buffers state area screen paper tape images)
+  pub fresh_all_law : (s1 area' numbers screen' paper' tape' images' : List ℕ) → length s1 ≡ length state → s1 ≡ ports_fresh state → area' ≡ replicate (length area) 0 → length numbers ≡ length (part devices_place devices_length s1)
+      → devices_lent numbers screen' paper' tape' images' ≡ lent_of (fresh_groups paper tape images)
+      → buffers (take devices_place s1 ++ (numbers ++ drop devices_length (drop devices_place s1))) area' screen' paper' tape' images' ≡ fresh_on (buffers state area screen paper tape images)
   unfolding fresh_on
-  fresh_all_law s1 area' numbers screen' k e f n q =
+  fresh_all_law s1 area' numbers screen' paper' tape' images' k e f n q =
       let m : length s1 ≡ state_length = k ∙ l.long in
-      ap (λ (x : List ℕ). buffers x area' screen' paper tape images)
+      ap (λ (x : List ℕ). buffers x area' screen' paper' tape' images')
       (back devices_place devices_length numbers s1 (n ∙ part_length devices_place devices_length s1 (omega arith)) (omega arith) ∙ ap (λ (x : List ℕ). sets x devices_place numbers) e)
-      ∙ ap (λ (x : List ℕ). buffers (sets (ports_fresh state) devices_place numbers) x screen' paper tape images) (f ∙ ap (λ (x : ℕ). replicate x 0) l.halves)
-      ∙ ap (λ (x : DevicesLent). buffers (sets (ports_fresh state) devices_place x.numbers) (replicate (2 * area_length) 0) x.screen paper tape images) q
+      ∙ ap (λ (x : List ℕ). buffers (sets (ports_fresh state) devices_place numbers) x screen' paper' tape' images') (f ∙ ap (λ (x : ℕ). replicate x 0) l.halves)
+      ∙ ap (λ (x : DevicesLent). buffers (sets (ports_fresh state) devices_place x.numbers) (replicate (2 * area_length) 0) x.screen x.paper x.tape x.images) q
 
   pub freshens : (s1 : List ℕ) → length s1 ≡ length state → Freshens (part devices_place devices_length s1) screen
   freshens s1 k =

@@ -100,19 +100,19 @@ module _ (port : ℕ) (run : Run) (state area screen paper tape images : List �
     lends = record { all = record { long = omega (arith, part_length devices_place devices_length state (omega (arith, g.called.long))) }; whole = g.called.whole; reel = g.called.reel };
   }
 
-  pub advance_law : (half numbers state' screen' paper' tape' : List ℕ) (out : Out)
+  pub advance_law : (half numbers state' screen' paper' tape' images' : List ℕ) (out : Out)
       → length half ≡ length (part (area_place port) (area_place port + area_length - area_place port) area) → length numbers ≡ length (part devices_place devices_length state)
-      → went half (devices_lent numbers screen' paper' tape' images) out
+      → went half (devices_lent numbers screen' paper' tape' images') out
       ≡ advance_of (lent_acts run.device) port run (part (area_place port) (area_place port + area_length - area_place port) area) (devices_lent (part devices_place devices_length state) screen paper tape images)
       → state' ≡ land_on port out (take devices_place state ++ (numbers ++ drop devices_length (drop devices_place state)))
-      → buffers state' (take (area_place port) area ++ (half ++ drop (area_place port + area_length - area_place port) (drop (area_place port) area))) screen' paper' tape' images
+      → buffers state' (take (area_place port) area ++ (half ++ drop (area_place port + area_length - area_place port) (drop (area_place port) area))) screen' paper' tape' images'
       ≡ advance_on port run (buffers state area screen paper tape images)
   unfolding advance_on
-  advance_law half numbers state' screen' paper' tape' out l k q e =
+  advance_law half numbers state' screen' paper' tape' images' out l k q e =
       let s = devices_lent (numbers_in state) screen paper tape images in
-      ap (λ (x : List ℕ). buffers x (take (area_place port) area ++ (half ++ drop (area_place port + area_length - area_place port) (drop (area_place port) area))) screen' paper' tape' images)
+      ap (λ (x : List ℕ). buffers x (take (area_place port) area ++ (half ++ drop (area_place port + area_length - area_place port) (drop (area_place port) area))) screen' paper' tape' images')
       (e ∙ ap (land_on port out) (numbers_back state numbers g.called.long k))
-      ∙ ap (λ (x : List ℕ). buffers (land_on port out (sets state devices_place numbers)) x screen' paper' tape' images) (half_back port area half g.called.low g.called.halves l)
+      ∙ ap (λ (x : List ℕ). buffers (land_on port out (sets state devices_place numbers)) x screen' paper' tape' images') (half_back port area half g.called.low g.called.halves l)
       ∙ ap (λ (w : Went DevicesLent). buffers (land_on port w.out (sets state devices_place w.device.numbers)) (sets area (area_place port) w.area) w.device.screen w.device.paper w.device.tape w.device.images)
       (q ∙ ap (λ (x : List ℕ). advance_of (lent_acts run.device) port run x s) (lent_part (area_place port) area_length area))
 
@@ -144,15 +144,15 @@ module _ (port : ℕ) (state area : List ℕ) (h : Halves port state area) where
       ∙ ap (errand_of e (room_in port state)) (lent_part (area_place port) area_length area))
 
 module _ (port : ℕ) (job : Job) (state area screen paper tape images : List ℕ) (c : Called port (buffers state area screen paper tape images)) where
-  pub job_law : (b after : ControlBlock) (numbers state' state'' screen' paper' tape' : List ℕ) (out : Out)
+  pub job_law : (b after : ControlBlock) (numbers state' state'' screen' paper' tape' images' : List ℕ) (out : Out)
       → b ≡ block_at (table_in (drop (table_place port) state)) job.call.iocb → length numbers ≡ length (part devices_place devices_length state)
-      → begun after (devices_lent numbers screen' paper' tape' images) out ≡ job_begun (lent_acts job.device) port job b (devices_lent (part devices_place devices_length state) screen paper tape images)
+      → begun after (devices_lent numbers screen' paper' tape' images') out ≡ job_begun (lent_acts job.device) port job b (devices_lent (part devices_place devices_length state) screen paper tape images)
       → state' ≡ with_block_on port job.call.iocb after (take devices_place state ++ (numbers ++ drop devices_length (drop devices_place state)))
-      → state'' ≡ land_on port out state' → buffers state'' area screen' paper' tape' images ≡ job_on port job (buffers state area screen paper tape images)
+      → state'' ≡ land_on port out state' → buffers state'' area screen' paper' tape' images' ≡ job_on port job (buffers state area screen paper tape images)
   unfolding job_on
-  job_law b after numbers state' state'' screen' paper' tape' out i l q e f =
+  job_law b after numbers state' state'' screen' paper' tape' images' out i l q e f =
       let iocb = job.call.iocb in
-      ap (λ (x : List ℕ). buffers x area screen' paper' tape' images)
+      ap (λ (x : List ℕ). buffers x area screen' paper' tape' images')
       (f ∙ ap (land_on port out) (e ∙ ap (with_block_on port iocb after) (numbers_back state numbers c.long l)))
       ∙ ap (λ (x : Begun DevicesLent). buffers (land_on port x.out (with_block_on port iocb x.block (sets state devices_place x.device.numbers))) area x.device.screen x.device.paper x.device.tape x.device.images)
       (q ∙ ap (λ (x : ControlBlock). job_begun (lent_acts job.device) port job x (devices_lent (numbers_in state) screen paper tape images)) i)

@@ -11,6 +11,7 @@ use Rattle.layout.specs.Places.{state_length}
 use Rattle.layout.specs.Stick.{Stick, fresh_stick, Lent}
 use Rattle.layout.specs.Layout.{head_of, stick_in, lent_in}
 use Rattle.layout.specs.Stands.{stands}
+use Rattle.devices.specs.declared.Media.{Media}
 use Rattle.damage.specs.Fits.{stick_fits}
 use Rattle.calls.specs.Stick.{Outcome, screen_length}
 use Rattle.calls.specs.Calls.{fresh_call, take_call, tick_call, give_call, press_call}
@@ -26,6 +27,10 @@ pub record Buffers : Type 0 where
 
 abbrev pub buffers : (state area screen paper tape images : List ℕ) → Buffers
 buffers state area screen paper tape images = record { state = state; area = area; screen = screen; paper = paper; tape = tape; images = images }
+
+-- with the groups' buffers as they are lent
+abbrev pub buffers_in : (state area : List ℕ) → Media → Buffers
+buffers_in state area m = buffers state area m.screen.now m.paper.now m.tape.now m.images.now
 
 -- all that a call over bytes returns and leaves
 pub record Left : Type 0 where

@@ -5,10 +5,13 @@ ghost use Rattle.handler.specs.Answer.{answer, done_status};
 ghost use Rattle.handler.specs.Acts.{asks_open, asks_on};
 ghost use Rattle.transfer.specs.Transfer.{out_of};
 ghost use Rattle.layout.specs.Places.{Numbers};
-ghost use Rattle.devices.specs.Lent.{Lends, devices_lent, lent_acts};
+ghost use Rattle.recorder.specs.Recorder.{Wound};
+ghost use Rattle.devices.specs.Lent.{Lends, lent_acts};
+ghost use Rattle.devices.specs.Media.{lent_with, SameBuffers};
 ghost use Rattle.cio.specs.Start.{then_of, opened_of, block_after, prepared_out, begun, opening_of, transfer_of, job_begun};
 
 use blocks::{BlockState, ControlBlock, Device, Kind, Run};
+use devices::Media;
 use handler::{Asked, Done};
 use names::Pattern;
 use plan::{After, Job, Work};
@@ -32,19 +35,11 @@ fn status_of(done: Done) -> u8
 }
 
 // What GET STATUS says of a device.
-fn status_said(
-    device: Device,
-    asked: Asked,
-    numbers: &[u8],
-    screen: &[u8],
-    paper: &[u8],
-    tape: &[u8],
-    images: &[u8],
-) -> u8
+fn status_said(device: Device, asked: Asked, numbers: &[u8], media: &Media<'_>) -> u8
     requires { Numbers numbers.now }
-    ensures { result ≡ done_status ((lent_acts device asked).statuses (devices_lent numbers.now screen.now paper.now tape.now images.now)) }
+    ensures { result ≡ done_status ((lent_acts device asked).statuses (lent_with numbers.now media.now)) }
 {
-    status_of(devices::status(device, asked, numbers, screen, paper, tape, images))
+    status_of(devices::status(device, asked, numbers, media))
 }
 
 // After an opening: GET STATUS and SPECIAL answer and close again.
@@ -53,24 +48,22 @@ fn then(
     device: Device,
     asked: Asked,
     numbers: &mut [u8],
-    screen: &mut [u8],
-    paper: &mut [u8],
-    tape: &mut [u8],
-    images: &[u8],
+    media: &mut Media<'_>,
 ) -> Done
-    requires { Lends numbers.old screen.old tape.old }
-    ensures { answer result (devices_lent numbers.new screen.new paper.new tape.new images.now) ≡ then_of (lent_acts device asked) after (devices_lent numbers.old screen.old paper.old tape.old images.now) }
+    requires { Wound numbers.old media.old.tape.now }
+    ensures says { answer result (lent_with numbers.new media.new) ≡ then_of (lent_acts device asked) after (lent_with numbers.old media.old) }
+    ensures same { SameBuffers media.new media.old }
 {
     match after {
         After::Stay => Done::Success,
         After::Status => {
-            let done = devices::status(device, asked, numbers, screen, paper, tape, images);
-            devices::close(device, asked, numbers, screen, paper, tape, images);
+            let done = devices::status(device, asked, numbers, media);
+            devices::close(device, asked, numbers, media);
             done
         }
         After::Special => {
-            let done = devices::special(device, asked, numbers, screen, paper, tape, images);
-            devices::close(device, asked, numbers, screen, paper, tape, images);
+            let done = devices::special(device, asked, numbers, media);
+            devices::close(device, asked, numbers, media);
             done
         }
     }
@@ -81,17 +74,15 @@ fn open(
     device: Device,
     asked: Asked,
     numbers: &mut [u8],
-    screen: &mut [u8],
-    paper: &mut [u8],
-    tape: &mut [u8],
-    images: &[u8],
+    media: &mut Media<'_>,
 ) -> Done
-    requires { Lends numbers.old screen.old tape.old }
-    ensures { answer result (devices_lent numbers.new screen.new paper.new tape.new images.now) ≡ opened_of (lent_acts device asked) after (devices_lent numbers.old screen.old paper.old tape.old images.now) }
+    requires { Lends numbers.old media.old.screen.now media.old.tape.now }
+    ensures says { answer result (lent_with numbers.new media.new) ≡ opened_of (lent_acts device asked) after (lent_with numbers.old media.old) }
+    ensures same { SameBuffers media.new media.old }
 {
-    let done = devices::open(device, asked, numbers, screen, paper, tape, images);
+    let done = devices::open(device, asked, numbers, media);
     match done {
-        Done::Success => then(after, device, asked, numbers, screen, paper, tape, images),
+        Done::Success => then(after, device, asked, numbers, media),
         Done::Refused(status) => Done::Refused(status),
     }
 }
@@ -118,13 +109,11 @@ fn opening(
     job: Job,
     block: ControlBlock,
     numbers: &mut [u8],
-    screen: &mut [u8],
-    paper: &mut [u8],
-    tape: &mut [u8],
-    images: &[u8],
+    media: &mut Media<'_>,
 ) -> Begin
-    requires { Lends numbers.old screen.old tape.old }
-    ensures { begun result.block (devices_lent numbers.new screen.new paper.new tape.new images.now) (out_of result.next) ≡ opening_of (lent_acts job.device) port after number name job.device job.call block (devices_lent numbers.old screen.old paper.old tape.old images.now) }
+    requires { Lends numbers.old media.old.screen.now media.old.tape.now }
+    ensures says { begun result.block (lent_with numbers.new media.new) (out_of result.next) ≡ opening_of (lent_acts job.device) port after number name job.device job.call block (lent_with numbers.old media.old) }
+    ensures same { SameBuffers media.new media.old }
 {
     let device = job.device;
     let call = job.call;
@@ -144,7 +133,7 @@ fn opening(
                 aux1: call.aux1,
             },
         };
-        let done = open(after, device, asked, numbers, screen, paper, tape, images);
+        let done = open(after, device, asked, numbers, media);
         let settled = settle(done, after, opened, block);
         return Begin {
             block: settled,
@@ -184,18 +173,16 @@ fn transfer(
     job: Job,
     block: ControlBlock,
     numbers: &mut [u8],
-    screen: &mut [u8],
-    paper: &mut [u8],
-    tape: &mut [u8],
-    images: &[u8],
+    media: &mut Media<'_>,
 ) -> Begin
-    requires { Lends numbers.old screen.old tape.old }
-    ensures { begun result.block (devices_lent numbers.new screen.new paper.new tape.new images.now) (out_of result.next) ≡ transfer_of (lent_acts job.device) port kind job.device job.call block (devices_lent numbers.old screen.old paper.old tape.old images.now) }
+    requires { Lends numbers.old media.old.screen.now media.old.tape.now }
+    ensures says { begun result.block (lent_with numbers.new media.new) (out_of result.next) ≡ transfer_of (lent_acts job.device) port kind job.device job.call block (lent_with numbers.old media.old) }
+    ensures same { SameBuffers media.new media.old }
 {
     let device = job.device;
     let call = job.call;
     let asked = handler::on_block(port, call.iocb);
-    let done = devices::prepare(device, asked, numbers, screen, paper, tape, images);
+    let done = devices::prepare(device, asked, numbers, media);
     let next = prepared(done, kind, device, call);
     Begin {
         block: block,
@@ -209,13 +196,11 @@ pub fn start(
     job: Job,
     block: ControlBlock,
     numbers: &mut [u8],
-    screen: &mut [u8],
-    paper: &mut [u8],
-    tape: &mut [u8],
-    images: &[u8],
+    media: &mut Media<'_>,
 ) -> Begin
-    requires { Lends numbers.old screen.old tape.old }
-    ensures { begun result.block (devices_lent numbers.new screen.new paper.new tape.new images.now) (out_of result.next) ≡ job_begun (lent_acts job.device) port job block (devices_lent numbers.old screen.old paper.old tape.old images.now) }
+    requires { Lends numbers.old media.old.screen.now media.old.tape.now }
+    ensures says { begun result.block (lent_with numbers.new media.new) (out_of result.next) ≡ job_begun (lent_acts job.device) port job block (lent_with numbers.old media.old) }
+    ensures same { SameBuffers media.new media.old }
 {
     let work = job.work;
     let call = job.call;
@@ -223,31 +208,29 @@ pub fn start(
     let asked = handler::on_block(port, call.iocb);
     match work {
         Work::Close => {
-            devices::close(device, asked, numbers, screen, paper, tape, images);
+            devices::close(device, asked, numbers, media);
             Begin {
                 block: ControlBlock::CLOSED,
                 next: Next::Off(0x01, 0, call.a),
             }
         }
         Work::Status => {
-            let status = status_said(device, asked, numbers, screen, paper, tape, images);
+            let status = status_said(device, asked, numbers, media);
             Begin {
                 block: block,
                 next: Next::Off(status, 0, call.a),
             }
         }
         Work::Special => {
-            let done = devices::special(device, asked, numbers, screen, paper, tape, images);
+            let done = devices::special(device, asked, numbers, media);
             Begin {
                 block: block,
                 next: Next::Off(status_of(done), 0, call.a),
             }
         }
         Work::Open(after, number, name) => opening(
-            port, after, number, name, job, block, numbers, screen, paper, tape, images,
+            port, after, number, name, job, block, numbers, media,
         ),
-        Work::Transfer(kind) => transfer(
-            port, kind, job, block, numbers, screen, paper, tape, images,
-        ),
+        Work::Transfer(kind) => transfer(port, kind, job, block, numbers, media),
     }
 }

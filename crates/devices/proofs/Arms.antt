@@ -43,7 +43,7 @@ use Rattle.devices.specs.declared.Group.TheVariants as groups
 use Rattle.devices.specs.declared.Owner.{Owner}
 use Rattle.devices.specs.declared.Owner.TheVariants as owner
 use Rattle.devices.specs.Groups.{group_number, clash, owner_of}
-use Rattle.devices.specs.Lent.{DevicesLent, devices_lent, printer_with, with_tape, with_disk, get_lent, put_lent, lent_acts, lent_of, fresh_groups, Lends, Freshens}
+use Rattle.devices.specs.Lent.{DevicesLent, devices_lent, printer_with, with_tape, with_disk, get_lent, put_lent, lent_acts, lent_of, fresh_groups, Freshens}
 use Rattle.layout.proofs.WriteRead.{bytes_drop, printer_back, Known, bytes_of}
 
 -- the numbers of two groups compared
@@ -111,9 +111,9 @@ module _ (d : Device) (asked : Asked) (o : Owner) (own : o ≡ owner_of d) (b af
     status_console = rw (← own, is)
 
   module _ (is : o ≡ owner.Printer) where
-    module _ (w : Known b) (r : Lends b screen tape) where
+    module _ (w : Known b) (r : Numbers b) where
       still : lent ≡ put_lent groups.Printer lent (get_lent groups.Printer lent)
-      still = ap (λ (x : List ℕ). devices_lent x screen paper tape images) (sym (printer_still b (bytes_of b w) r.all))
+      still = ap (λ (x : List ℕ). devices_lent x screen paper tape images) (sym (printer_still b (bytes_of b w) r))
 
       pub open_printer : answer done.Success lent ≡ (lent_acts d asked).opens lent
       open_printer = rw (← own, is) (ap (answer done.Success) still)
@@ -151,9 +151,9 @@ module _ (d : Device) (asked : Asked) (o : Owner) (own : o ≡ owner_of d) (b af
       pub write_cassette : (byte : ℕ) (x : Done) → answer x (tape_lent after t) ≡ seen (put_tape b) (cassette.write_of byte (get_tape b tape)) → answer x (devices_lent after screen paper t images) ≡ (lent_acts d asked).writes byte lent
       write_cassette byte x q = rw (← own, is) (ap (seen (with_tape lent)) q)
 
-    module _ (r : Lends b screen tape) where
+    module _ (r : Numbers b) where
       rests : lent ≡ put_lent groups.Cassette lent (get_lent groups.Cassette lent)
-      rests = ap (with_tape lent) (sym (tape_still b r.all tape))
+      rests = ap (with_tape lent) (sym (tape_still b r tape))
 
       pub prepare_cassette : answer done.Success lent ≡ (lent_acts d asked).prepares lent
       prepare_cassette = rw (← own, is) (ap (answer done.Success) rests)
@@ -174,10 +174,10 @@ module _ (d : Device) (asked : Asked) (o : Owner) (own : o ≡ owner_of d) (b af
     pub status_disk : (x : Done) → x ≡ (disk.disk_acts asked).statuses (get_disk b images) → x ≡ (lent_acts d asked).statuses lent
     status_disk x q = rw (← own, is) q
 
-    module _ (r : Lends b screen tape) where
+    module _ (r : Numbers b) where
       -- a place put back as it was got changes nothing
       kept : lent ≡ put_lent groups.Disk lent (disk.put_place asked.port asked.iocb (get_disk b images) (disk.get_place asked.port asked.iocb (get_disk b images)))
-      kept = ap (with_disk lent) (sym (place_still b r.all asked.port asked.iocb images))
+      kept = ap (with_disk lent) (sym (place_still b r asked.port asked.iocb images))
 
       pub close_disk : lent ≡ (lent_acts d asked).closes lent
       close_disk = rw (← own, is) kept

@@ -7,8 +7,11 @@ use Rattle.base.specs.Decides.{Decides, Allows}
 use Rattle.handler.specs.declared.Got.{Got}
 use Rattle.handler.specs.declared.Done.{Done}
 use Rattle.handler.specs.Answer.{Answer, answer}
-use Rattle.devices.specs.Lent.{DevicesLent, devices_lent, lent_acts}
-use Rattle.devices.proofs.Images.{images_kept, left_with}
+use Rattle.devices.specs.declared.Media.{Media}
+use Rattle.devices.specs.Lent.{DevicesLent, devices_lent, lent_acts, lent_of, fresh_groups}
+use Rattle.devices.specs.Media.{lent_with, holding, SameBuffers}
+use Rattle.devices.proofs.Alike.{left_in, left_alike}
+use Rattle.devices.proofs.Images.{images_kept, left_with, tape_stays, media_stay}
 use Rattle.devices.proofs.owner_of.Kinds as owner_of_kinds
 use Rattle.devices.proofs.owner_of.Reads as owner_of_reads
 use Rattle.devices.proofs.group_of.Kinds as group_of_kinds
@@ -67,49 +70,57 @@ pub clashes_allows : Allows clashes_kinds.ps clashes_kinds.r clashes_reads.Pre c
 clashes_allows κs a p = (_, (_, refl))
 
 pub open_decides : Decides open_kinds.ps open_kinds.r open_reads.Pre open_reads.Learnt
-open_decides κs a z z' ws ws' p e e' = let q = e ∙ sym e' in (ap (λ (w : Answer Done DevicesLent). w.says) q, ap (λ (w : Answer Done DevicesLent). (tt, (tt, (w.leaves.numbers, (w.leaves.screen, (w.leaves.paper, (w.leaves.tape, (tt, tt)))))))) q)
+open_decides κs a z z' ws ws' p e e' =
+    let q = e.0 ∙ sym e'.0 in
+    (ap (λ (w : Answer Done DevicesLent). w.says) q, ap (λ (l : List ℕ × Media). (tt, (tt, (l.0, (l.1, tt))))) (left_alike a.1.1.1.0.now _ _ _ _ (ap (λ (w : Answer Done DevicesLent). w.leaves) q) e.1.0 e'.1.0))
 
 pub open_allows : Allows open_kinds.ps open_kinds.r open_reads.Pre open_reads.Learnt
 open_allows κs a p =
-    let s = devices_lent a.1.1.0.now a.1.1.1.0.now a.1.1.1.1.0.now a.1.1.1.1.1.0.now a.1.1.1.1.1.1.0.now in
+    let s = lent_with a.1.1.0.now a.1.1.1.0.now in
     let x = (lent_acts a.0 a.1.0).opens s in
-    (x.says, ((tt, (tt, (x.leaves.numbers, (x.leaves.screen, (x.leaves.paper, (x.leaves.tape, (tt, tt))))))), ap (answer x.says) (left_with x.leaves s.images ((images_kept a.0 a.1.0).opens s))))
+    (x.says, ((tt, (tt, (x.leaves.numbers, (left_in a.1.1.1.0.now x.leaves, tt)))), (ap (answer x.says) (left_with x.leaves s.images ((images_kept a.0 a.1.0).opens s)), (refl, tape_stays a.0 a.1.0 s))))
 
 pub close_decides : Decides close_kinds.ps close_kinds.r close_reads.Pre close_reads.Learnt
-close_decides κs a z z' ws ws' p e e' = (refl, ap (λ (w : DevicesLent). (tt, (tt, (w.numbers, (w.screen, (w.paper, (w.tape, (tt, tt)))))))) (e ∙ sym e'))
+close_decides κs a z z' ws ws' p e e' = (refl, ap (λ (l : List ℕ × Media). (tt, (tt, (l.0, (l.1, tt))))) (left_alike a.1.1.1.0.now _ _ _ _ (e.0 ∙ sym e'.0) e.1 e'.1))
 
 pub close_allows : Allows close_kinds.ps close_kinds.r close_reads.Pre close_reads.Learnt
 close_allows κs a p =
-    let s = devices_lent a.1.1.0.now a.1.1.1.0.now a.1.1.1.1.0.now a.1.1.1.1.1.0.now a.1.1.1.1.1.1.0.now in
+    let s = lent_with a.1.1.0.now a.1.1.1.0.now in
     let x = (lent_acts a.0 a.1.0).closes s in
-    (tt, ((tt, (tt, (x.numbers, (x.screen, (x.paper, (x.tape, (tt, tt))))))), left_with x s.images ((images_kept a.0 a.1.0).closes s)))
+    (tt, ((tt, (tt, (x.numbers, (left_in a.1.1.1.0.now x, tt)))), (left_with x s.images ((images_kept a.0 a.1.0).closes s), refl)))
 
 pub prepare_decides : Decides prepare_kinds.ps prepare_kinds.r prepare_reads.Pre prepare_reads.Learnt
-prepare_decides κs a z z' ws ws' p e e' = let q = e ∙ sym e' in (ap (λ (w : Answer Done DevicesLent). w.says) q, ap (λ (w : Answer Done DevicesLent). (tt, (tt, (w.leaves.numbers, (w.leaves.screen, (w.leaves.paper, (w.leaves.tape, (tt, tt)))))))) q)
+prepare_decides κs a z z' ws ws' p e e' =
+    let q = e.0 ∙ sym e'.0 in
+    (ap (λ (w : Answer Done DevicesLent). w.says) q, ap (λ (l : List ℕ × Media). (tt, (tt, (l.0, (l.1, tt))))) (left_alike a.1.1.1.0.now _ _ _ _ (ap (λ (w : Answer Done DevicesLent). w.leaves) q) e.1 e'.1))
 
 pub prepare_allows : Allows prepare_kinds.ps prepare_kinds.r prepare_reads.Pre prepare_reads.Learnt
 prepare_allows κs a p =
-    let s = devices_lent a.1.1.0.now a.1.1.1.0.now a.1.1.1.1.0.now a.1.1.1.1.1.0.now a.1.1.1.1.1.1.0.now in
+    let s = lent_with a.1.1.0.now a.1.1.1.0.now in
     let x = (lent_acts a.0 a.1.0).prepares s in
-    (x.says, ((tt, (tt, (x.leaves.numbers, (x.leaves.screen, (x.leaves.paper, (x.leaves.tape, (tt, tt))))))), ap (answer x.says) (left_with x.leaves s.images ((images_kept a.0 a.1.0).prepares s))))
+    (x.says, ((tt, (tt, (x.leaves.numbers, (left_in a.1.1.1.0.now x.leaves, tt)))), (ap (answer x.says) (left_with x.leaves s.images ((images_kept a.0 a.1.0).prepares s)), refl)))
 
 pub read_decides : Decides read_kinds.ps read_kinds.r read_reads.Pre read_reads.Learnt
-read_decides κs a z z' ws ws' p e e' = let q = e ∙ sym e' in (ap (λ (w : Answer Got DevicesLent). w.says) q, ap (λ (w : Answer Got DevicesLent). (tt, (tt, (w.leaves.numbers, (w.leaves.screen, (w.leaves.paper, (w.leaves.tape, (tt, tt)))))))) q)
+read_decides κs a z z' ws ws' p e e' =
+    let q = e.0 ∙ sym e'.0 in
+    (ap (λ (w : Answer Got DevicesLent). w.says) q, ap (λ (l : List ℕ × Media). (tt, (tt, (l.0, (l.1, tt))))) (left_alike a.1.1.1.0.now _ _ _ _ (ap (λ (w : Answer Got DevicesLent). w.leaves) q) e.1 e'.1))
 
 pub read_allows : Allows read_kinds.ps read_kinds.r read_reads.Pre read_reads.Learnt
 read_allows κs a p =
-    let s = devices_lent a.1.1.0.now a.1.1.1.0.now a.1.1.1.1.0.now a.1.1.1.1.1.0.now a.1.1.1.1.1.1.0.now in
+    let s = lent_with a.1.1.0.now a.1.1.1.0.now in
     let x = (lent_acts a.0 a.1.0).reads s in
-    (x.says, ((tt, (tt, (x.leaves.numbers, (x.leaves.screen, (x.leaves.paper, (x.leaves.tape, (tt, tt))))))), ap (answer x.says) (left_with x.leaves s.images ((images_kept a.0 a.1.0).reads s))))
+    (x.says, ((tt, (tt, (x.leaves.numbers, (left_in a.1.1.1.0.now x.leaves, tt)))), (ap (answer x.says) (left_with x.leaves s.images ((images_kept a.0 a.1.0).reads s)), refl)))
 
 pub write_decides : Decides write_kinds.ps write_kinds.r write_reads.Pre write_reads.Learnt
-write_decides κs a z z' ws ws' p e e' = let q = e ∙ sym e' in (ap (λ (w : Answer Done DevicesLent). w.says) q, ap (λ (w : Answer Done DevicesLent). (tt, (tt, (tt, (w.leaves.numbers, (w.leaves.screen, (w.leaves.paper, (w.leaves.tape, (tt, tt))))))))) q)
+write_decides κs a z z' ws ws' p e e' =
+    let q = e.0 ∙ sym e'.0 in
+    (ap (λ (w : Answer Done DevicesLent). w.says) q, ap (λ (l : List ℕ × Media). (tt, (tt, (tt, (l.0, (l.1, tt)))))) (left_alike a.1.1.1.1.0.now _ _ _ _ (ap (λ (w : Answer Done DevicesLent). w.leaves) q) e.1 e'.1))
 
 pub write_allows : Allows write_kinds.ps write_kinds.r write_reads.Pre write_reads.Learnt
 write_allows κs a p =
-    let s = devices_lent a.1.1.1.0.now a.1.1.1.1.0.now a.1.1.1.1.1.0.now a.1.1.1.1.1.1.0.now a.1.1.1.1.1.1.1.0.now in
+    let s = lent_with a.1.1.1.0.now a.1.1.1.1.0.now in
     let x = (lent_acts a.0 a.1.0).writes a.1.1.0 s in
-    (x.says, ((tt, (tt, (tt, (x.leaves.numbers, (x.leaves.screen, (x.leaves.paper, (x.leaves.tape, (tt, tt)))))))), ap (answer x.says) (left_with x.leaves s.images ((images_kept a.0 a.1.0).writes a.1.1.0 s))))
+    (x.says, ((tt, (tt, (tt, (x.leaves.numbers, (left_in a.1.1.1.1.0.now x.leaves, tt))))), (ap (answer x.says) (left_with x.leaves s.images ((images_kept a.0 a.1.0).writes a.1.1.0 s)), refl)))
 
 pub status_decides : Decides status_kinds.ps status_kinds.r status_reads.Pre status_reads.Learnt
 status_decides κs a z z' ws ws' p e e' = (e ∙ sym e', refl)
@@ -118,19 +129,21 @@ pub status_allows : Allows status_kinds.ps status_kinds.r status_reads.Pre statu
 status_allows κs a p = (_, (_, refl))
 
 pub special_decides : Decides special_kinds.ps special_kinds.r special_reads.Pre special_reads.Learnt
-special_decides κs a z z' ws ws' p e e' = let q = e ∙ sym e' in (ap (λ (w : Answer Done DevicesLent). w.says) q, ap (λ (w : Answer Done DevicesLent). (tt, (tt, (w.leaves.numbers, (w.leaves.screen, (w.leaves.paper, (w.leaves.tape, (tt, tt)))))))) q)
+special_decides κs a z z' ws ws' p e e' = let q = e ∙ sym e' in (ap (λ (w : Answer Done DevicesLent). w.says) q, ap (λ (w : Answer Done DevicesLent). (tt, (tt, (w.leaves.numbers, (tt, tt))))) q)
 
 pub special_allows : Allows special_kinds.ps special_kinds.r special_reads.Pre special_reads.Learnt
 special_allows κs a p =
-    let s = devices_lent a.1.1.0.now a.1.1.1.0.now a.1.1.1.1.0.now a.1.1.1.1.1.0.now a.1.1.1.1.1.1.0.now in
+    let s = lent_with a.1.1.0.now a.1.1.1.0.now in
     let x = (lent_acts a.0 a.1.0).specials s in
-    (x.says, ((tt, (tt, (x.leaves.numbers, (x.leaves.screen, (x.leaves.paper, (x.leaves.tape, (tt, tt))))))), ap (answer x.says) (left_with x.leaves s.images ((images_kept a.0 a.1.0).specials s))))
+    (x.says, ((tt, (tt, (x.leaves.numbers, (tt, tt)))), ap (answer x.says) (media_stay a.0 a.1.0 s)))
 
 pub fresh_decides : Decides fresh_kinds.ps fresh_kinds.r fresh_reads.Pre fresh_reads.Learnt
-fresh_decides κs a z z' ws ws' p e e' = (refl, ap (λ (w : DevicesLent). (w.numbers, (w.screen, (tt, (tt, (tt, tt)))))) (e ∙ sym e'))
+fresh_decides κs a z z' ws ws' p e e' = (refl, ap (λ (l : List ℕ × Media). (l.0, (l.1, tt))) (left_alike a.1.0.now _ _ _ _ (e.0 ∙ sym e'.0) e.1 e'.1))
 
 pub fresh_allows : Allows fresh_kinds.ps fresh_kinds.r fresh_reads.Pre fresh_reads.Learnt
-fresh_allows κs a p = (_, (_, refl))
+fresh_allows κs a p =
+    let x = lent_of (fresh_groups a.1.0.now.paper.now a.1.0.now.tape.now a.1.0.now.images.now) in
+    (tt, ((x.numbers, (left_in a.1.0.now x, tt)), (refl, refl)))
 
 pub console_of_decides : Decides console_of_kinds.ps console_of_kinds.r console_of_reads.Pre console_of_reads.Learnt
 console_of_decides κs a z z' ws ws' p e e' = (e ∙ sym e', refl)

@@ -1,4 +1,4 @@
--- No act of any device changes an image.
+-- No act of any device changes an image, no OPEN the tape, and no SPECIAL a buffer.
 -- Assumes nothing.
 use mathlib.Core.Path.{◌≡◌, refl, sym, ap}
 use mathlib.Core.List.{List}
@@ -23,3 +23,22 @@ images_kept D asked = record { opens = λ x. refl; closes = λ x. refl; prepares
 -- so what is left of all that is lent is what is left of the rest, and the images
 pub left_with : (s : DevicesLent) (images : List ℕ) → s.images ≡ images → devices_lent s.numbers s.screen s.paper s.tape images ≡ s
 left_with s images e = ap (λ (x : List ℕ). devices_lent s.numbers s.screen s.paper s.tape x) (sym e)
+
+-- an OPEN writes no tape
+pub tape_stays : (device : Device) (asked : Asked) (s : DevicesLent) → ((lent_acts device asked).opens s).leaves.tape ≡ s.tape
+tape_stays E asked s = refl
+tape_stays S asked s = refl
+tape_stays K asked s = refl
+tape_stays P asked s = refl
+tape_stays C asked s = refl
+tape_stays D asked s = refl
+
+-- and SPECIAL no buffer
+pub media_stay : (device : Device) (asked : Asked) (s : DevicesLent) → let x = ((lent_acts device asked).specials s).leaves in
+    devices_lent x.numbers s.screen s.paper s.tape s.images ≡ x
+media_stay E asked s = refl
+media_stay S asked s = refl
+media_stay K asked s = refl
+media_stay P asked s = refl
+media_stay C asked s = refl
+media_stay D asked s = refl

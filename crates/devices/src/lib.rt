@@ -1,5 +1,5 @@
 // The devices: the one crate that calls a handler. Each act of a handler is one function with one match; an arm reads and
-// writes its own group's numbers, which are a part of the lent state, and is lent its own group's buffer alone. An arm of the console
+// writes its own group's numbers, which are a part of the lent state, and is lent its own group's buffer of the media alone. An arm of the console
 // that changes nothing writes back what it read.
 #![tactic(auto)]
 
@@ -9,8 +9,10 @@ pub mod numbers;
 ghost use Rattle.std.specs.Prelude.{◌≡◌};
 ghost use Rattle.handler.specs.Answer.{answer};
 ghost use Rattle.layout.specs.Places.{Numbers};
+ghost use Rattle.recorder.specs.Recorder.{Wound};
 ghost use Rattle.devices.specs.Groups.{owner_of, group_of, held_of, group_number, clash};
-ghost use Rattle.devices.specs.Lent.{Lends, devices_lent, lent_acts};
+ghost use Rattle.devices.specs.Lent.{Lends, lent_acts};
+ghost use Rattle.devices.specs.Media.{lent_with, SameBuffers};
 
 use blocks::{Device, Phase};
 use console::Handler;
@@ -24,6 +26,15 @@ pub enum Group {
     Printer,
     Cassette,
     Disk,
+}
+
+// The buffers that are lent of the groups beside the state; the images are lent to be read.
+#[derive(Drop)]
+pub struct Media<'a> {
+    pub screen: &'a mut [u8],
+    pub paper: &'a mut [u8],
+    pub tape: &'a mut [u8],
+    pub images: &'a [u8],
 }
 
 // A device's group, and its handler there.
@@ -99,45 +110,32 @@ pub fn clashes(one: Group, other: Group) -> bool
     false
 }
 
-// OPEN, with an AUX1 that the device offers.
-pub fn open(
-    device: Device,
-    asked: Asked,
-    numbers: &mut [u8],
-    screen: &mut [u8],
-    paper: &mut [u8],
-    tape: &mut [u8],
-    images: &[u8],
-) -> Done
-    requires { Lends numbers.old screen.old tape.old }
-    ensures { answer result (devices_lent numbers.new screen.new paper.new tape.new images.now) ≡ (lent_acts device asked).opens (devices_lent numbers.old screen.old paper.old tape.old images.now) }
+// OPEN, with an AUX1 that the device offers. It writes no tape.
+pub fn open(device: Device, asked: Asked, numbers: &mut [u8], media: &mut Media<'_>) -> Done
+    requires { Lends numbers.old media.old.screen.now media.old.tape.now }
+    ensures says { answer result (lent_with numbers.new media.new) ≡ (lent_acts device asked).opens (lent_with numbers.old media.old) }
+    ensures same { SameBuffers media.new media.old }
+    ensures tape { media.new.tape.now ≡ media.old.tape.now }
 {
     let owner = owner_of(device);
     match owner {
         Owner::Console(handler) => {
             let mut console = numbers::console_of(numbers);
-            let done = acts::open(handler, &mut console, screen, asked.aux1, asked.aux2);
+            let done = acts::open(handler, &mut console, media.screen, asked.aux1, asked.aux2);
             numbers::set_console(numbers, console);
             done
         }
         Owner::Printer => Done::Success,
-        Owner::Cassette => recorder::open(numbers, tape, asked.aux1),
-        Owner::Disk => drives::open(numbers, images, asked),
+        Owner::Cassette => recorder::open(numbers, &mut *media.tape, asked.aux1),
+        Owner::Disk => drives::open(numbers, media.images, asked),
     }
 }
 
 // CLOSE.
-pub fn close(
-    device: Device,
-    asked: Asked,
-    numbers: &mut [u8],
-    screen: &mut [u8],
-    paper: &mut [u8],
-    tape: &mut [u8],
-    images: &[u8],
-)
-    requires { Lends numbers.old screen.old tape.old }
-    ensures { devices_lent numbers.new screen.new paper.new tape.new images.now ≡ (lent_acts device asked).closes (devices_lent numbers.old screen.old paper.old tape.old images.now) }
+pub fn close(device: Device, asked: Asked, numbers: &mut [u8], media: &mut Media<'_>)
+    requires { Wound numbers.old media.old.tape.now }
+    ensures says { lent_with numbers.new media.new ≡ (lent_acts device asked).closes (lent_with numbers.old media.old) }
+    ensures same { SameBuffers media.new media.old }
 {
     let owner = owner_of(device);
     match owner {
@@ -146,29 +144,22 @@ pub fn close(
             numbers::set_console(numbers, console);
         }
         Owner::Printer => {}
-        Owner::Cassette => recorder::close(numbers, tape),
+        Owner::Cassette => recorder::close(numbers, media.tape),
         Owner::Disk => {}
     }
 }
 
 // Before the first character of a transfer.
-pub fn prepare(
-    device: Device,
-    asked: Asked,
-    numbers: &mut [u8],
-    screen: &mut [u8],
-    paper: &mut [u8],
-    tape: &mut [u8],
-    images: &[u8],
-) -> Done
-    requires { Lends numbers.old screen.old tape.old }
-    ensures { answer result (devices_lent numbers.new screen.new paper.new tape.new images.now) ≡ (lent_acts device asked).prepares (devices_lent numbers.old screen.old paper.old tape.old images.now) }
+pub fn prepare(device: Device, asked: Asked, numbers: &mut [u8], media: &mut Media<'_>) -> Done
+    requires { Lends numbers.old media.old.screen.now media.old.tape.now }
+    ensures says { answer result (lent_with numbers.new media.new) ≡ (lent_acts device asked).prepares (lent_with numbers.old media.old) }
+    ensures same { SameBuffers media.new media.old }
 {
     let owner = owner_of(device);
     match owner {
         Owner::Console(handler) => {
             let mut console = numbers::console_of(numbers);
-            let done = acts::prepare(handler, &mut console, screen);
+            let done = acts::prepare(handler, &mut console, media.screen);
             numbers::set_console(numbers, console);
             done
         }
@@ -179,29 +170,22 @@ pub fn prepare(
 }
 
 // A character is read.
-pub fn read(
-    device: Device,
-    asked: Asked,
-    numbers: &mut [u8],
-    screen: &mut [u8],
-    paper: &mut [u8],
-    tape: &mut [u8],
-    images: &[u8],
-) -> Got
-    requires { Lends numbers.old screen.old tape.old }
-    ensures { answer result (devices_lent numbers.new screen.new paper.new tape.new images.now) ≡ (lent_acts device asked).reads (devices_lent numbers.old screen.old paper.old tape.old images.now) }
+pub fn read(device: Device, asked: Asked, numbers: &mut [u8], media: &mut Media<'_>) -> Got
+    requires { Lends numbers.old media.old.screen.now media.old.tape.now }
+    ensures says { answer result (lent_with numbers.new media.new) ≡ (lent_acts device asked).reads (lent_with numbers.old media.old) }
+    ensures same { SameBuffers media.new media.old }
 {
     let owner = owner_of(device);
     match owner {
         Owner::Console(handler) => {
             let mut console = numbers::console_of(numbers);
-            let got = acts::read(handler, &mut console, screen);
+            let got = acts::read(handler, &mut console, media.screen);
             numbers::set_console(numbers, console);
             got
         }
         Owner::Printer => Got::Refused(0x83),
-        Owner::Cassette => recorder::read(numbers, tape),
-        Owner::Disk => drives::read(numbers, images, asked),
+        Owner::Cassette => recorder::read(numbers, &mut *media.tape),
+        Owner::Disk => drives::read(numbers, media.images, asked),
     }
 }
 
@@ -211,67 +195,49 @@ pub fn write(
     asked: Asked,
     byte: u8,
     numbers: &mut [u8],
-    screen: &mut [u8],
-    paper: &mut [u8],
-    tape: &mut [u8],
-    images: &[u8],
+    media: &mut Media<'_>,
 ) -> Done
-    requires { Lends numbers.old screen.old tape.old }
-    ensures { answer result (devices_lent numbers.new screen.new paper.new tape.new images.now) ≡ (lent_acts device asked).writes byte (devices_lent numbers.old screen.old paper.old tape.old images.now) }
+    requires { Lends numbers.old media.old.screen.now media.old.tape.now }
+    ensures says { answer result (lent_with numbers.new media.new) ≡ (lent_acts device asked).writes byte (lent_with numbers.old media.old) }
+    ensures same { SameBuffers media.new media.old }
 {
     let owner = owner_of(device);
     match owner {
         Owner::Console(handler) => {
             let mut console = numbers::console_of(numbers);
-            let done = acts::write(handler, &mut console, screen, byte);
+            let done = acts::write(handler, &mut console, media.screen, byte);
             numbers::set_console(numbers, console);
             done
         }
         Owner::Printer => {
             let mut printer = numbers::printer_of(numbers);
-            let done = printer.put(paper, byte);
+            let done = printer.put(media.paper, byte);
             numbers::set_printer(numbers, printer);
             done
         }
-        Owner::Cassette => recorder::write(numbers, tape, byte),
+        Owner::Cassette => recorder::write(numbers, media.tape, byte),
         Owner::Disk => Done::Refused(0x87),
     }
 }
 
 // GET STATUS.
-pub fn status(
-    device: Device,
-    asked: Asked,
-    numbers: &[u8],
-    screen: &[u8],
-    paper: &[u8],
-    tape: &[u8],
-    images: &[u8],
-) -> Done
+pub fn status(device: Device, asked: Asked, numbers: &[u8], media: &Media<'_>) -> Done
     requires { Numbers numbers.now }
-    ensures { result ≡ (lent_acts device asked).statuses (devices_lent numbers.now screen.now paper.now tape.now images.now) }
+    ensures { result ≡ (lent_acts device asked).statuses (lent_with numbers.now media.now) }
 {
     let owner = owner_of(device);
     match owner {
         Owner::Console(handler) => Done::Success,
         Owner::Printer => Done::Success,
         Owner::Cassette => Done::Success,
-        Owner::Disk => drives::status(numbers, images, asked),
+        Owner::Disk => drives::status(numbers, media.images, asked),
     }
 }
 
-// SPECIAL.
-pub fn special(
-    device: Device,
-    asked: Asked,
-    numbers: &mut [u8],
-    screen: &mut [u8],
-    paper: &mut [u8],
-    tape: &mut [u8],
-    images: &[u8],
-) -> Done
-    requires { Lends numbers.old screen.old tape.old }
-    ensures { answer result (devices_lent numbers.new screen.new paper.new tape.new images.now) ≡ (lent_acts device asked).specials (devices_lent numbers.old screen.old paper.old tape.old images.now) }
+// SPECIAL. It writes no buffer.
+pub fn special(device: Device, asked: Asked, numbers: &mut [u8], media: &Media<'_>) -> Done
+    requires { Numbers numbers.old }
+    ensures { answer result (lent_with numbers.new media.now) ≡ (lent_acts device asked).specials (lent_with numbers.old media.now) }
 {
     let owner = owner_of(device);
     match owner {

@@ -5,10 +5,11 @@
 
 ghost use Rattle.std.specs.Prelude.{◌≡◌};
 ghost use Rattle.keys.specs.Translation.{translate_of};
-ghost use Rattle.calls.specs.Bytes.{buffers, six_fit, bytes_refusal, fresh_bytes, take_bytes, tick_bytes, give_bytes, press_bytes};
+ghost use Rattle.calls.specs.Bytes.{buffers, buffers_in, buffers_fit, bytes_refusal, fresh_bytes, take_bytes, tick_bytes, give_bytes, press_bytes};
 ghost use Rattle.calls.specs.Returned.{returned, answer_of, both_of};
 ghost use Rattle.doctor.specs.Doctor.{leaving, doctor_of};
 
+use devices::Media;
 use layout::places::{AREA, STATE};
 
 // The cells of the lent screen, and the bytes of the lent paper, of the lent tape and of the lent images.
@@ -40,70 +41,32 @@ pub fn fixlomand_doctor(image: &mut [u8], list: &mut [u8]) -> u32
     doctor::repair(image, list)
 }
 
-fn lengths_fit(
-    state: usize,
-    area: usize,
-    screen: usize,
-    paper: usize,
-    tape: usize,
-    images: usize,
-) -> bool
-    ensures { result ≡ six_fit state area screen paper tape images }
+#[tactic(auto, using(base::proofs::Tests::tests), unfolding(calls::specs::Bytes::six_fit))]
+fn lengths_fit(state: &[u8], area: &[u8], media: &Media<'_>) -> bool
+    ensures { result ≡ buffers_fit (buffers_in state.now area.now media.now) }
 {
-    if state == STATE {
-        if area == 2 * AREA {
-            if screen == SCREEN {
-                if paper == PAPER {
-                    if tape == TAPE {
-                        return images == IMAGES;
-                    }
-                    return false;
-                }
-                return false;
-            }
-            return false;
-        }
-        return false;
-    }
-    false
+    state.len() == STATE
+        && area.len() == 2 * AREA
+        && media.screen.len() == SCREEN
+        && media.paper.len() == PAPER
+        && media.tape.len() == TAPE
+        && media.images.len() == IMAGES
 }
 
 // 2, 3 or 1, in this order, or 0.
-fn guard(
-    state: &[u8],
-    area: &[u8],
-    screen: &[u8],
-    paper: &[u8],
-    tape: &[u8],
-    images: &[u8],
-    port: u8,
-) -> u8
-    ensures { result ≡ bytes_refusal (buffers state.now area.now screen.now paper.now tape.now images.now) port }
+fn guard(state: &[u8], area: &[u8], media: &Media<'_>, port: u8) -> u8
+    ensures { result ≡ bytes_refusal (buffers_in state.now area.now media.now) port }
 {
-    if lengths_fit(
-        state.len(),
-        area.len(),
-        screen.len(),
-        paper.len(),
-        tape.len(),
-        images.len(),
-    ) {
-        if judge::undamaged(
-            &state[..],
-            &area[..],
-            &screen[..],
-            &paper[..],
-            &tape[..],
-            &images[..],
-        ) {
-            if port < 2 {
-                return 0;
-            }
-            return 1;
-        }
+    if !lengths_fit(state, area, media) {
+        return 2;
+    }
+    if !judge::undamaged(state, area, media) {
         return 3;
     }
-    2
+    if 2 <= port {
+        return 1;
+    }
+    0
 }
 
 // uint8_t fixlomand_fresh(state, area, screen, paper, tape, images), each a pointer and a length; the same twelve in each call
@@ -118,15 +81,14 @@ pub fn fixlomand_fresh(
 ) -> u8
     ensures { returned result (buffers state.new area.new screen.new paper.new tape.new images.new) ≡ answer_of (fresh_bytes (buffers state.old area.old screen.old paper.old tape.old images.old)) }
 {
-    if lengths_fit(
-        state.len(),
-        area.len(),
-        screen.len(),
-        paper.len(),
-        tape.len(),
-        images.len(),
-    ) {
-        stick::started::fresh_all(state, area, screen, paper, tape, images);
+    let mut media = Media {
+        screen,
+        paper,
+        tape,
+        images,
+    };
+    if lengths_fit(state, area, &media) {
+        stick::started::fresh_all(state, area, &mut media);
         return 0;
     }
     2
@@ -146,9 +108,15 @@ pub fn fixlomand_take(
 ) -> u8
     ensures { returned result (buffers state.new area.new screen.new paper.new tape.new images.new) ≡ answer_of (take_bytes (buffers state.old area.old screen.old paper.old tape.old images.old) port byte) }
 {
-    let refused = guard(state, area, screen, paper, tape, images, port);
+    let media = Media {
+        screen,
+        paper,
+        tape,
+        images,
+    };
+    let refused = guard(state, area, &media, port);
     if refused == 0 {
-        return stick::served::take_at(port, byte, state, area, screen, paper, tape, images);
+        return stick::served::take_at(port, byte, state, area, &media);
     }
     refused
 }
@@ -166,9 +134,15 @@ pub fn fixlomand_tick(
 ) -> u8
     ensures { returned result (buffers state.new area.new screen.new paper.new tape.new images.new) ≡ answer_of (tick_bytes (buffers state.old area.old screen.old paper.old tape.old images.old) port) }
 {
-    let refused = guard(state, area, screen, paper, tape, images, port);
+    let mut media = Media {
+        screen,
+        paper,
+        tape,
+        images,
+    };
+    let refused = guard(state, area, &media, port);
     if refused == 0 {
-        return ticks::tick_at(port, state, area, screen, paper, tape, images);
+        return ticks::tick_at(port, state, area, &mut media);
     }
     refused
 }
@@ -186,9 +160,15 @@ pub fn fixlomand_give(
 ) -> u16
     ensures { returned result (buffers state.new area.new screen.new paper.new tape.new images.new) ≡ both_of (give_bytes (buffers state.old area.old screen.old paper.old tape.old images.old) port) }
 {
-    let refused = guard(state, area, screen, paper, tape, images, port);
+    let media = Media {
+        screen,
+        paper,
+        tape,
+        images,
+    };
+    let refused = guard(state, area, &media, port);
     if refused == 0 {
-        return stick::served::give_at(port, state, area, screen, paper, tape, images);
+        return stick::served::give_at(port, state, area, &media);
     }
     refused as u16
 }
@@ -206,9 +186,15 @@ pub fn fixlomand_press(
 ) -> u8
     ensures { returned result (buffers state.new area.new screen.new paper.new tape.new images.new) ≡ answer_of (press_bytes (buffers state.old area.old screen.old paper.old tape.old images.old) code) }
 {
-    let refused = guard(state, area, screen, paper, tape, images, 0);
+    let media = Media {
+        screen,
+        paper,
+        tape,
+        images,
+    };
+    let refused = guard(state, area, &media, 0);
     if refused == 0 {
-        return stick::served::press_at(code, state, area, screen, paper, tape, images);
+        return stick::served::press_at(code, state, area, &media);
     }
     refused
 }

@@ -1,17 +1,23 @@
 // The five calls, over buffers that may be lent cut.
+use script::board::Board;
 use script::lengths::LentLengths;
 use script::ops::CallOp;
 
-// The answer in the low byte; of a give the reply byte in the high one.
-fn perform(
-    call: CallOp,
-    state: &mut [u8],
-    area: &mut [u8],
-    screen: &mut [u8],
-    paper: &mut [u8],
-    tape: &mut [u8],
-    images: &mut [u8],
-) -> u16 {
+// At most so many bytes of a buffer, the first.
+fn cut(buffer: &mut [u8], length: u32) -> &mut [u8] {
+    let end = (length as usize).min(buffer.len());
+    &mut buffer[..end]
+}
+
+// A call that is lent the first bytes of each buffer, at most its whole. The answer is in the low byte, of a give the reply byte in the
+// high one.
+pub fn perform(board: &mut Board, call: CallOp, lengths: LentLengths) -> u16 {
+    let state = cut(&mut board.state, lengths.state);
+    let area = cut(&mut board.area, lengths.area);
+    let screen = cut(&mut board.screen, lengths.screen);
+    let paper = cut(&mut board.paper, lengths.paper);
+    let tape = cut(&mut board.tape, lengths.tape);
+    let images = cut(&mut board.images, lengths.images);
     match call {
         CallOp::Nothing => 0,
         CallOp::Fresh => firmware::fixlomand_fresh(state, area, screen, paper, tape, images) as u16,
@@ -21,39 +27,11 @@ fn perform(
         CallOp::Tick(port) => {
             firmware::fixlomand_tick(state, area, screen, paper, tape, images, port) as u16
         }
-        CallOp::Give(port) => firmware::fixlomand_give(
-            state, area, screen, paper, tape, images, port,
-        ),
+        CallOp::Give(port) => {
+            firmware::fixlomand_give(state, area, screen, paper, tape, images, port)
+        }
         CallOp::Press(code) => {
             firmware::fixlomand_press(state, area, screen, paper, tape, images, code) as u16
         }
     }
-}
-
-// A call that is lent the first bytes of each buffer, at most its whole.
-pub fn perform_cut(
-    call: CallOp,
-    lengths: LentLengths,
-    state: &mut [u8],
-    area: &mut [u8],
-    screen: &mut [u8],
-    paper: &mut [u8],
-    tape: &mut [u8],
-    images: &mut [u8],
-) -> u16 {
-    let state_end = (lengths.state as usize).min(state.len());
-    let area_end = (lengths.area as usize).min(area.len());
-    let screen_end = (lengths.screen as usize).min(screen.len());
-    let paper_end = (lengths.paper as usize).min(paper.len());
-    let tape_end = (lengths.tape as usize).min(tape.len());
-    let images_end = (lengths.images as usize).min(images.len());
-    perform(
-        call,
-        &mut state[..state_end],
-        &mut area[..area_end],
-        &mut screen[..screen_end],
-        &mut paper[..paper_end],
-        &mut tape[..tape_end],
-        &mut images[..images_end],
-    )
 }

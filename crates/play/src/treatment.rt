@@ -9,10 +9,9 @@ use std::io;
 const REFUSED: u32 = 1;
 
 fn repair(streams: &mut Streams, image: &mut [u8]) -> io::Result<()> {
-    let mut some_list = [0u8; LIST];
-    let list: &mut [u8] = &mut some_list;
-    let returned = firmware::fixlomand_doctor(image, list);
-    changes::write(streams, returned, list)
+    let mut list = [0u8; LIST];
+    let returned = firmware::fixlomand_doctor(image, &mut list);
+    changes::write(streams, returned, &list)
 }
 
 // What an op asks of the doctor: an image that is not there is refused like one of a wrong length.

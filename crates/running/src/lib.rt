@@ -3,10 +3,12 @@
 
 ghost use Rattle.std.specs.Prelude.{◌≡◌};
 ghost use Rattle.transfer.specs.Transfer.{next_of, out_of};
-ghost use Rattle.calls.specs.Bytes.{buffers};
+ghost use Rattle.devices.specs.Media.{SameBuffers};
+ghost use Rattle.calls.specs.Bytes.{buffers_in};
 ghost use Rattle.calls.specs.Parts.{Rooms, Going, land_on, advance_on};
 
 use blocks::Run;
+use devices::Media;
 use layout::places::{AREA, DEVICES, ROOM, ROOMS};
 use transfer::{Carried, Next};
 
@@ -46,18 +48,10 @@ fn carry_at(port: u8, run: Run, carried: Carried, state: &mut [u8])
 }
 
 // A running request moves one character.
-pub fn advance_at(
-    port: u8,
-    run: Run,
-    state: &mut [u8],
-    area: &mut [u8],
-    screen: &mut [u8],
-    paper: &mut [u8],
-    tape: &mut [u8],
-    images: &[u8],
-)
-    requires { Going port run (buffers state.old area.old screen.old paper.old tape.old images.now) }
-    ensures { buffers state.new area.new screen.new paper.new tape.new images.now ≡ advance_on port run (buffers state.old area.old screen.old paper.old tape.old images.now) }
+pub fn advance_at(port: u8, run: Run, state: &mut [u8], area: &mut [u8], media: &mut Media<'_>)
+    requires { Going port run (buffers_in state.old area.old media.old) }
+    ensures says { buffers_in state.new area.new media.new ≡ advance_on port run (buffers_in state.old area.old media.old) }
+    ensures same { SameBuffers media.new media.old }
 {
     let from = AREA * (port as usize);
     let end = from + AREA;
@@ -66,10 +60,7 @@ pub fn advance_at(
         run,
         &mut area[from..end],
         &mut state[DEVICES..ROOMS],
-        screen,
-        paper,
-        tape,
-        images,
+        media,
     );
     carry_at(port, run, carried, state);
 }

@@ -1,5 +1,6 @@
 // A dump: area, screen and paper whole, then what the state holds but for the cassette and the blocks' places on diskettes, from its
 // bytes.
+use crate::board::Board;
 use crate::say;
 use crate::streams::Streams;
 use layout::places;
@@ -24,49 +25,39 @@ fn letter(device: u8) -> u8 {
 }
 
 // Open, device letter, number, AUX1; zeros for a closed block.
-fn write_block(streams: &mut Streams, device: u8, number: u8, aux1: u8) -> io::Result<()> {
+fn write_block(streams: &mut Streams, block: &[u8]) -> io::Result<()> {
+    let device = base::byte_at(block, 0);
     if device == 0 {
         return say::bytes(streams, b"\x00\x00\x00\x00");
     }
-    let some = [1, letter(device), number, aux1];
-    say::bytes(streams, &some)
+    let number = base::byte_at(block, 1);
+    let aux1 = base::byte_at(block, 2);
+    say::bytes(streams, &[1, letter(device), number, aux1])
 }
 
 // A port's blocks.
 fn write_table(streams: &mut Streams, table: &[u8]) -> io::Result<()> {
-    for i in 0..8 {
-        let place = places::BLOCK * i;
-        write_block(
-            streams,
-            base::byte_at(table, place),
-            base::byte_at(table, place + 1),
-            base::byte_at(table, place + 2),
-        )?;
+    for block in table.chunks(places::BLOCK) {
+        write_block(streams, block)?;
     }
     Ok(())
 }
 
-fn write_state(streams: &mut Streams, state: &[u8]) -> io::Result<()> {
-    if state.len() == places::STATE {
-        say::bytes(streams, &state[PRINTER..CASSETTE])?;
-        say::bytes(streams, &state[CONSOLE..PRINTER])?;
-        write_table(streams, &state[places::PHASE..])?;
-        write_table(streams, &state[places::PORT + places::PHASE..])?;
-        say::byte(streams, state[0])?;
-        say::byte(streams, state[places::PORT])?;
-    }
-    Ok(())
+fn write_state(streams: &mut Streams, state: &[u8; places::STATE]) -> io::Result<()> {
+    say::bytes(streams, &state[PRINTER..CASSETTE])?;
+    say::bytes(streams, &state[CONSOLE..PRINTER])?;
+    write_table(streams, &state[places::PHASE..places::PORT])?;
+    write_table(
+        streams,
+        &state[places::PORT + places::PHASE..places::DEVICES],
+    )?;
+    say::byte(streams, state[0])?;
+    say::byte(streams, state[places::PORT])
 }
 
-pub fn write(
-    streams: &mut Streams,
-    state: &[u8],
-    area: &[u8],
-    screen: &[u8],
-    paper: &[u8],
-) -> io::Result<()> {
-    say::bytes(streams, area)?;
-    say::bytes(streams, screen)?;
-    say::bytes(streams, paper)?;
-    write_state(streams, state)
+pub fn write(streams: &mut Streams, board: &Board) -> io::Result<()> {
+    say::bytes(streams, &board.area)?;
+    say::bytes(streams, &board.screen)?;
+    say::bytes(streams, &board.paper)?;
+    write_state(streams, &board.state)
 }

@@ -1,4 +1,5 @@
 // How much of each buffer is lent: its first so many bytes, at most its whole.
+use crate::board::Buffer;
 use crate::ops::Op;
 
 #[derive(Clone, Copy)]
@@ -24,38 +25,41 @@ impl LentLengths {
         }
     }
 
-    // Another length for buffer 0, area; 1, screen; 2, paper; 3, state; 4, tape; 6, images.
-    fn lend(self, which: u8, length: u32) -> LentLengths {
-        let mut next = self;
-        match which {
-            0 => {
-                next.area = length;
-            }
-            1 => {
-                next.screen = length;
-            }
-            2 => {
-                next.paper = length;
-            }
-            3 => {
-                next.state = length;
-            }
-            4 => {
-                next.tape = length;
-            }
-            6 => {
-                next.images = length;
-            }
-            _ => {}
+    // Another length for a buffer.
+    fn lend(self, buffer: Buffer, length: u32) -> LentLengths {
+        match buffer {
+            Buffer::Area => LentLengths {
+                area: length,
+                ..self
+            },
+            Buffer::Screen => LentLengths {
+                screen: length,
+                ..self
+            },
+            Buffer::Paper => LentLengths {
+                paper: length,
+                ..self
+            },
+            Buffer::State => LentLengths {
+                state: length,
+                ..self
+            },
+            Buffer::Tape => LentLengths {
+                tape: length,
+                ..self
+            },
+            Buffer::Images => LentLengths {
+                images: length,
+                ..self
+            },
         }
-        next
     }
 
     // How much is lent after an op.
     pub fn after(self, op: Op) -> LentLengths {
-        let Op::Lend(which, length) = op else {
-            return self;
-        };
-        self.lend(which, length)
+        match op {
+            Op::Lend(Some(buffer), length) => self.lend(buffer, length),
+            _ => self,
+        }
     }
 }

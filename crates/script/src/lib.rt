@@ -1,8 +1,9 @@
-// A call script: its ops, read from standard input, how much of each buffer they lend, and what is written for them on standard
+// A call script: its ops, read from standard input, the buffers that it lends, how much of each, and what is written for them on standard
 // output. What reads the one and writes the other promises nothing: no promise can speak of either.
 #![tactic(auto)]
 
 pub mod answers;
+pub mod board;
 pub mod changes;
 pub mod dump;
 pub mod lengths;

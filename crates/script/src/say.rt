@@ -7,12 +7,10 @@ pub fn bytes(streams: &mut Streams, some: &[u8]) -> io::Result<()> {
 }
 
 pub fn byte(streams: &mut Streams, one: u8) -> io::Result<()> {
-    let some = [one];
-    bytes(streams, &some)
+    bytes(streams, &[one])
 }
 
 // A number of two bytes, the low one first.
 pub fn word(streams: &mut Streams, number: u16) -> io::Result<()> {
-    let some = [(number % 256) as u8, (number / 256) as u8];
-    bytes(streams, &some)
+    bytes(streams, &number.to_le_bytes())
 }

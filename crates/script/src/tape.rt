@@ -1,4 +1,5 @@
 // A dump of the tape: its bytes whole, then what the state holds of the cassette.
+use crate::board::Board;
 use crate::say;
 use crate::streams::Streams;
 use layout::places;
@@ -14,37 +15,28 @@ const DISK: usize = places::DEVICES + places::DISK;
 const WRITING: u8 = 2;
 
 // How many characters are pending.
-fn pending(mark: u8, place: u8) -> u8 {
-    if mark == WRITING {
-        return place;
-    }
-    0
+fn pending(mark: u8, place: u8) -> usize {
+    if mark == WRITING { place as usize } else { 0 }
 }
 
 // The first characters of some, and zeros behind them.
-fn write_pending(streams: &mut Streams, some: &[u8], count: u8) -> io::Result<()> {
+fn write_pending(streams: &mut Streams, some: &[u8], count: usize) -> io::Result<()> {
     let zeros = [0u8; places::PENDED];
-    let here = (count as usize).min(some.len());
-    let behind = (count as usize).min(zeros.len());
+    let here = count.min(some.len());
+    let behind = count.min(zeros.len());
     say::bytes(streams, &some[..here])?;
     say::bytes(streams, &zeros[behind..])
 }
 
 // Mark, record as two bytes, place, and the pending characters.
-fn write_cassette(streams: &mut Streams, state: &[u8]) -> io::Result<()> {
-    if state.len() == places::STATE {
-        let mark = state[CASSETTE];
-        let place = state[CASSETTE + 2];
-        say::byte(streams, mark)?;
-        say::byte(streams, state[CASSETTE + 1])?;
-        say::byte(streams, 0)?;
-        say::byte(streams, place)?;
-        write_pending(streams, &state[PENDING..DISK], pending(mark, place))?;
-    }
-    Ok(())
+fn write_cassette(streams: &mut Streams, state: &[u8; places::STATE]) -> io::Result<()> {
+    let mark = state[CASSETTE];
+    let place = state[CASSETTE + 2];
+    say::bytes(streams, &[mark, state[CASSETTE + 1], 0, place])?;
+    write_pending(streams, &state[PENDING..DISK], pending(mark, place))
 }
 
-pub fn write(streams: &mut Streams, state: &[u8], tape: &[u8]) -> io::Result<()> {
-    say::bytes(streams, tape)?;
-    write_cassette(streams, state)
+pub fn write(streams: &mut Streams, board: &Board) -> io::Result<()> {
+    say::bytes(streams, &board.tape)?;
+    write_cassette(streams, &board.state)
 }

@@ -8,20 +8,9 @@ use std::io;
 // A port's first byte, while it runs.
 const RUNNING: u8 = 2;
 
-// How many there were, after one more if there may be one.
-fn made_now(most: u16, made: u16) -> u16 {
-    if made < most {
-        return made + 1;
-    }
-    made
-}
-
 // After a tick with this answer the port runs on.
 fn runs_on(state: &[u8], port: u8, answer: u8) -> bool {
-    if answer == 0 {
-        return base::byte_at(state, places::PORT * (port as usize)) == RUNNING;
-    }
-    false
+    answer == 0 && base::byte_at(state, places::PORT * (port as usize)) == RUNNING
 }
 
 // The ticks that are left; or how many there were and the last one's answer are written, and the next op is read.
@@ -33,11 +22,9 @@ pub fn next(
     answer: u8,
     state: &[u8],
 ) -> io::Result<Op> {
-    let now = made_now(most, made);
-    if now < most {
-        if runs_on(state, port, answer) {
-            return Ok(Op::Ticks(port, most, now));
-        }
+    let now = made.saturating_add(1).min(most);
+    if now < most && runs_on(state, port, answer) {
+        return Ok(Op::Ticks(port, most, now));
     }
     say::word(streams, now)?;
     say::byte(streams, answer)?;

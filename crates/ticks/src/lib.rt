@@ -5,10 +5,12 @@
 ghost use Rattle.std.specs.Prelude.{◌≡◌};
 ghost use Rattle.layout.specs.Places.{Reaches};
 ghost use Rattle.calls.specs.Calls.{tick_at};
-ghost use Rattle.calls.specs.Bytes.{buffers, left, left_of, stick_by, lent_by};
+ghost use Rattle.devices.specs.Media.{SameBuffers};
+ghost use Rattle.calls.specs.Bytes.{buffers_in, left, left_of, stick_by, lent_by};
 ghost use Rattle.calls.specs.Parts.{Called, Rooms, Halves, plan_on, waits_on, errand_on, job_on, start_on, ready_on};
 
 use blocks::Header;
+use devices::Media;
 use layout::places::{AREA, DEVICES, ROOM, ROOMS};
 use plan::{Errand, Job, Plan};
 
@@ -40,18 +42,9 @@ fn waits(port: u8, plan: Plan, state: &[u8]) -> bool
 }
 
 // A start that needs no group.
-fn errand_at(
-    port: u8,
-    errand: Errand,
-    state: &mut [u8],
-    area: &mut [u8],
-    screen: &[u8],
-    paper: &[u8],
-    tape: &[u8],
-    images: &[u8],
-)
+fn errand_at(port: u8, errand: Errand, state: &mut [u8], area: &mut [u8], media: &Media<'_>)
     requires { Halves port state.old area.old }
-    ensures { buffers state.new area.new screen.now paper.now tape.now images.now ≡ errand_on port errand (buffers state.old area.old screen.now paper.now tape.now images.now) }
+    ensures { buffers_in state.new area.new media.now ≡ errand_on port errand (buffers_in state.old area.old media.now) }
 {
     let from = AREA * (port as usize);
     let end = from + AREA;
@@ -62,54 +55,29 @@ fn errand_at(
 }
 
 // A start with its group held.
-fn job_at(
-    port: u8,
-    job: Job,
-    state: &mut [u8],
-    area: &[u8],
-    screen: &mut [u8],
-    paper: &mut [u8],
-    tape: &mut [u8],
-    images: &[u8],
-)
-    requires { Called port (buffers state.old area.now screen.old paper.old tape.old images.now) }
-    ensures { buffers state.new area.now screen.new paper.new tape.new images.now ≡ job_on port job (buffers state.old area.now screen.old paper.old tape.old images.now) }
+fn job_at(port: u8, job: Job, state: &mut [u8], area: &[u8], media: &mut Media<'_>)
+    requires { Called port (buffers_in state.old area.now media.old) }
+    ensures says { buffers_in state.new area.now media.new ≡ job_on port job (buffers_in state.old area.now media.old) }
+    ensures same { SameBuffers media.new media.old }
 {
     let call = job.call;
     let iocb = call.iocb;
     let block = ports::block_of(port, iocb, state);
-    let begin = cio::start::start(
-        port,
-        job,
-        block,
-        &mut state[DEVICES..ROOMS],
-        screen,
-        paper,
-        tape,
-        images,
-    );
+    let begin = cio::start::start(port, job, block, &mut state[DEVICES..ROOMS], media);
     let after = begin.block;
     let next = begin.next;
     ports::set_block(port, iocb, after, state);
     running::land_at(port, next, state);
 }
 
-fn start_at(
-    port: u8,
-    plan: Plan,
-    state: &mut [u8],
-    area: &mut [u8],
-    screen: &mut [u8],
-    paper: &mut [u8],
-    tape: &mut [u8],
-    images: &[u8],
-)
-    requires { Called port (buffers state.old area.old screen.old paper.old tape.old images.now) }
-    ensures { buffers state.new area.new screen.new paper.new tape.new images.now ≡ start_on port plan (buffers state.old area.old screen.old paper.old tape.old images.now) }
+fn start_at(port: u8, plan: Plan, state: &mut [u8], area: &mut [u8], media: &mut Media<'_>)
+    requires { Called port (buffers_in state.old area.old media.old) }
+    ensures says { buffers_in state.new area.new media.new ≡ start_on port plan (buffers_in state.old area.old media.old) }
+    ensures same { SameBuffers media.new media.old }
 {
     match plan {
-        Plan::Free(errand) => errand_at(port, errand, state, area, screen, paper, tape, images),
-        Plan::On(job) => job_at(port, job, state, area, screen, paper, tape, images),
+        Plan::Free(errand) => errand_at(port, errand, state, area, media),
+        Plan::On(job) => job_at(port, job, state, area, media),
     }
 }
 
@@ -119,43 +87,34 @@ fn ready_at(
     header: Header,
     state: &mut [u8],
     area: &mut [u8],
-    screen: &mut [u8],
-    paper: &mut [u8],
-    tape: &mut [u8],
-    images: &[u8],
+    media: &mut Media<'_>,
 ) -> u8
-    requires { Called port (buffers state.old area.old screen.old paper.old tape.old images.now) }
-    ensures { left result 0 (buffers state.new area.new screen.new paper.new tape.new images.now) ≡ ready_on port header (buffers state.old area.old screen.old paper.old tape.old images.now) }
+    requires { Called port (buffers_in state.old area.old media.old) }
+    ensures says { left result 0 (buffers_in state.new area.new media.new) ≡ ready_on port header (buffers_in state.old area.old media.old) }
+    ensures same { SameBuffers media.new media.old }
 {
     let plan = plan_at(port, header, state, area);
     if waits(port, plan, state) {
         return 8;
     }
-    start_at(port, plan, state, area, screen, paper, tape, images);
+    start_at(port, plan, state, area, media);
     0
 }
 
-pub fn tick_at(
-    port: u8,
-    state: &mut [u8],
-    area: &mut [u8],
-    screen: &mut [u8],
-    paper: &mut [u8],
-    tape: &mut [u8],
-    images: &[u8],
-) -> u8
-    requires { Called port (buffers state.old area.old screen.old paper.old tape.old images.now) }
-    ensures { left result 0 (buffers state.new area.new screen.new paper.new tape.new images.now) ≡ left_of (tick_at port (stick_by (buffers state.old area.old screen.old paper.old tape.old images.now)) (lent_by (buffers state.old area.old screen.old paper.old tape.old images.now))) }
+pub fn tick_at(port: u8, state: &mut [u8], area: &mut [u8], media: &mut Media<'_>) -> u8
+    requires { Called port (buffers_in state.old area.old media.old) }
+    ensures says { left result 0 (buffers_in state.new area.new media.new) ≡ left_of (tick_at port (stick_by (buffers_in state.old area.old media.old)) (lent_by (buffers_in state.old area.old media.old))) }
+    ensures same { SameBuffers media.new media.old }
 {
     let number = ports::phase_number(port, state);
     if number == 2 {
         let run = ports::run_of(port, state);
-        running::advance_at(port, run, state, area, screen, paper, tape, images);
+        running::advance_at(port, run, state, area, media);
         return 0;
     }
     if number == 1 {
         let header = ports::header_of(port, state);
-        return ready_at(port, header, state, area, screen, paper, tape, images);
+        return ready_at(port, header, state, area, media);
     }
     7
 }

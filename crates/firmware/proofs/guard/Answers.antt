@@ -6,14 +6,14 @@ use Rattle.firmware.proofs.guard.Goals as goal
 pub undamaged-requires : goal.undamaged-requires
 undamaged-requires c = search headed_by
 
-pub returns-then-port-lt2 : goal.returns-then-port-lt2
-returns-then-port-lt2 c = search guard_0
+pub returns-then-not-lengths_fit : goal.returns-then-not-lengths_fit
+returns-then-not-lengths_fit c = search guard_2
 
-pub returns-then-undamaged : goal.returns-then-undamaged
-returns-then-undamaged c = search guard_1
+pub returns-then-not-undamaged : goal.returns-then-not-undamaged
+returns-then-not-undamaged c = search guard_3
 
-pub returns-then-lengths_fit : goal.returns-then-lengths_fit
-returns-then-lengths_fit c = search guard_3
+pub returns-then-port-ge2 : goal.returns-then-port-ge2
+returns-then-port-ge2 c = search guard_1
 
 pub returns : goal.returns
-returns c = search guard_2
+returns c = search guard_0
