@@ -16,11 +16,9 @@ use Rattle.blocks.specs.declared.BlockState.{BlockState}
 use Rattle.blocks.specs.declared.BlockState.TheVariants as block
 use Rattle.blocks.specs.declared.ControlBlock.{ControlBlock}
 use Rattle.blocks.specs.declared.Device.{Device}
-use Rattle.blocks.specs.declared.Specification.{Specification}
-use Rattle.blocks.specs.declared.Specification.TheVariants.{Refused, Names}
 use Rattle.blocks.specs.declared.Way.{Way}
 use Rattle.blocks.specs.declared.Way.TheVariants.{One, Characters, Record}
-use Rattle.blocks.specs.Opening.{area_length, highest_of, reads, writes, specification_of}
+use Rattle.blocks.specs.Opening.{Reading, names, area_length, highest_of, reads, writes, specification_of}
 use Rattle.blocks.proofs.Keeps.{names_number}
 use Rattle.wire.specs.declared.Call.{Call}
 use Rattle.transfer.specs.Spans.{way_in}
@@ -56,14 +54,14 @@ abbrev pub Planned : Plan → Type 0
 Planned (plan.Free e) = Called e
 Planned (plan.On job) = PlannedWork job.work job.device job.call
 
-open_planned : (then : After) (s : Specification) (half : List ℕ) (c : Call) → ((device : Device) (number : ℕ) → s ≡ Names device number → within 1 (highest_of device) number ≡ true) → Planned (open_plan then s half c)
-open_planned then (Refused status) half c n = tt
-open_planned then (Names device number) half c n = by (named_for device half c.address)
+open_planned : (then : After) (s : Reading) (half : List ℕ) (c : Call) → ((device : Device) (number : ℕ) → s ≡ names device number → within 1 (highest_of device) number ≡ true) → Planned (open_plan then s half c)
+open_planned then (Err e) half c n = tt
+open_planned then (Ok d) half c n = by (named_for d.device half c.address)
   where
-    by : (named : Result (List ℕ) NameError) → Planned (named_plan then device number named c)
+    by : (named : Result (List ℕ) NameError) → Planned (named_plan then d.device d.number named c)
     by (Err Past) = tt
-    by (Err Bad) = n device number refl
-    by (Ok pattern) = n device number refl
+    by (Err Bad) = n d.device d.number refl
+    by (Ok pattern) = n d.device d.number refl
 
 -- a length that is not 0
 some_way : (records : Bool) (n address : ℕ) → (n ≡ 0 → ⊥) → address + n ≤ area_length → Span (pick records Record Characters) n address 0

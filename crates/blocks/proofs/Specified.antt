@@ -174,17 +174,17 @@ module _ (half : List ℕ) (address : ℕ) where
   is_names device number e (is_malformed m) = absurd (omega (arith, ap refusal (malformed m), ap refusal e))
   is_names device number e (is_past p) = absurd (omega (arith, ap refusal (past p), ap refusal e))
 
-  is_82 : RefusedWith half address says 0x82 → Read → Malformed half address
+  is_82 : RefusedWith says 0x82 → Read → Malformed half address
   is_82 e (is_specified d n s) = absurd (omega (arith, ap refusal (specified d n s), ap refusal e.1.0, e.1.1))
   is_82 e (is_malformed m) = m
   is_82 e (is_past p) = absurd (omega (arith, ap refusal (past p), ap refusal e.1.0, e.1.1))
 
-  is_b0 : RefusedWith half address says 0xB0 → Read → NeededPast half address
+  is_b0 : RefusedWith says 0xB0 → Read → NeededPast half address
   is_b0 e (is_specified d n s) = absurd (omega (arith, ap refusal (specified d n s), ap refusal e.1.0, e.1.1))
   is_b0 e (is_malformed m) = absurd (omega (arith, ap refusal (malformed m), ap refusal e.1.0, e.1.1))
   is_b0 e (is_past p) = p
 
-  no_other : (status : ℕ) → RefusedWith half address says status → (status ≡ 0x82 → ⊥) → Read → status ≡ 0xB0
+  no_other : (status : ℕ) → RefusedWith says status → (status ≡ 0x82 → ⊥) → Read → status ≡ 0xB0
   no_other status e n (is_specified d m s) = absurd (omega (arith, ap refusal (specified d m s), ap refusal e.1.0, e.1.1))
   no_other status e n (is_malformed m) = absurd (n (omega (arith, ap refusal (malformed m), ap refusal e.1.0, e.1.1)))
   no_other status e n (is_past p) = omega (arith, ap refusal (past p), ap refusal e.1.0, e.1.1)

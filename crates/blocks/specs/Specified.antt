@@ -20,6 +20,10 @@ pub record NumberDigit (device : Device) (byte : ℕ) : Type 0 where
   pub high : number ≤ highest_of device
   pub digit : byte ≡ 0x30 + number
 
+-- it is refused with this status
+abbrev pub RefusedWith : Reading → (status : ℕ) → Type 0
+RefusedWith s status = (e : SpecificationError) × ((s ≡ Err e) × (error_status e ≡ status))
+
 module _ (half : List ℕ) (address : ℕ) where
   -- the byte so many behind the address
   abbrev pub behind : ℕ → ℕ
@@ -42,10 +46,6 @@ module _ (half : List ℕ) (address : ℕ) where
     letter_past : area_length ≤ address → NeededPast
     next_past : address < area_length → area_length ≤ address + 1 → KnownLetter (behind 0) → NeededPast
     colon_past : address + 1 < area_length → area_length ≤ address + 2 → (k : KnownLetter (behind 0)) → NumberDigit k.device (behind 1) → NeededPast
-
-  -- the status with which this is refused
-  abbrev pub RefusedWith : Reading → (status : ℕ) → Type 0
-  RefusedWith s status = (e : SpecificationError) × ((s ≡ Err e) × (error_status e ≡ status))
 
   pub record Specifies (s : Reading) : Type 0 where
     pub names : (device : Device) (number : ℕ) → (s ≡ names device number) ↔ Specified device number

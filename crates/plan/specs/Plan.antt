@@ -12,10 +12,8 @@ use Rattle.blocks.specs.declared.BlockState.{BlockState}
 use Rattle.blocks.specs.declared.BlockState.TheVariants as block
 use Rattle.blocks.specs.declared.ControlBlock.{ControlBlock}
 use Rattle.blocks.specs.declared.Table.{Table}
-use Rattle.blocks.specs.declared.Specification.{Specification}
-use Rattle.blocks.specs.declared.Specification.TheVariants.{Refused, Names}
 use Rattle.blocks.specs.Blocks.{block_at}
-use Rattle.blocks.specs.Opening.{area_length, reads, writes, specification_of}
+use Rattle.blocks.specs.Opening.{Reading, error_status, area_length, reads, writes, specification_of}
 use Rattle.wire.specs.declared.Call.{Call}
 use Rattle.wire.specs.declared.Message.{Message}
 use Rattle.wire.specs.declared.Message.TheVariants as message
@@ -67,9 +65,9 @@ named_plan then device number (Err Bad) call = planned_of device (work.Open then
 named_plan then device number (Ok pattern) call = planned_of device (work.Open then number (Some pattern)) call
 
 -- "$B0 and $82"
-abbrev pub open_plan : After → Specification → List ℕ → Call → Plan
-open_plan then (Refused status) half call = at_once status call
-open_plan then (Names device number) half call = named_plan then device number (named_for device half call.address) call
+abbrev pub open_plan : After → Reading → List ℕ → Call → Plan
+open_plan then (Err e) half call = at_once (error_status e) call
+open_plan then (Ok d) half call = named_plan then d.device d.number (named_for d.device half call.address) call
 
 -- "$B0 buffer .. past the area"; of length 0 it is not looked at
 unfoldable pub area_plan : (reads records : Bool) → Device → Call → Plan

@@ -117,8 +117,8 @@ pub fn open_plan(after: After, half: &[u8], call: Call) -> Plan
 {
     let specification = blocks::specification_at(half, call.address);
     match specification {
-        Specification::Refused(status) => Plan::Free(Errand::Status(status, call.a)),
-        Specification::Names(device, number) => {
+        Err(error) => Plan::Free(Errand::Status(u8::from(error), call.a)),
+        Ok(Specification { device, number }) => {
             let named = named_for(device, half, call.address);
             named_plan(after, device, number, named, call)
         }

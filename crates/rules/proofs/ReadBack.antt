@@ -38,13 +38,11 @@ use Rattle.blocks.specs.declared.BlockState.TheVariants as block
 use Rattle.blocks.specs.declared.ControlBlock.{ControlBlock}
 use Rattle.blocks.specs.declared.Device.{Device}
 use Rattle.blocks.specs.declared.Device.TheVariants.{E, S, K, P, C, D}
-use Rattle.blocks.specs.declared.Specification.{Specification}
-use Rattle.blocks.specs.declared.Specification.TheVariants.{Refused, Names}
 use Rattle.blocks.specs.declared.Table.{Table}
 use Rattle.blocks.specs.declared.Way.{Way}
 use Rattle.blocks.specs.declared.Way.TheVariants.{One, Characters, Record}
 use Rattle.blocks.specs.Blocks.{closed_block, open_block, block_at}
-use Rattle.blocks.specs.Opening.{area_length, specification_of, offers_of}
+use Rattle.blocks.specs.Opening.{Reading, area_length, specification_of, offers_of}
 use Rattle.blocks.specs.Specified.{Specified}
 use Rattle.blocks.proofs.Keeps.{block_same, block_other}
 use Rattle.blocks.proofs.Specified.{specifies}
@@ -762,9 +760,9 @@ named_call c then device number (Err Past) = tt
 named_call c then device number (Err Bad) = refl
 named_call c then device number (Ok pattern) = refl
 
-open_call : (c : Call) (then : After) (d : Specification) (half : List ℕ) → OfCall c (open_plan then d half c)
-open_call c then (Refused status) half = tt
-open_call c then (Names device number) half = named_call c then device number (named_for device half c.address)
+open_call : (c : Call) (then : After) (d : Reading) (half : List ℕ) → OfCall c (open_plan then d half c)
+open_call c then (Err e) half = tt
+open_call c then (Ok d) half = named_call c then d.device d.number (named_for d.device half c.address)
 
 area_call : (c : Call) (reading records : Bool) (device : Device) → OfCall c (area_plan reading records device c)
 unfolding area_plan

@@ -29,12 +29,10 @@ use Rattle.blocks.specs.declared.Kind.TheVariants.{Get, Put}
 use Rattle.blocks.specs.declared.Phase.{Phase}
 use Rattle.blocks.specs.declared.Phase.TheVariants.{Gathering, Ready, Running, Replying}
 use Rattle.blocks.specs.declared.Run.{Run}
-use Rattle.blocks.specs.declared.Specification.{Specification}
-use Rattle.blocks.specs.declared.Specification.TheVariants.{Refused, Names}
 use Rattle.blocks.specs.declared.Table.{Table}
 use Rattle.blocks.specs.declared.Way.{Way}
 use Rattle.blocks.specs.Blocks.{block_at, with_block, closed_block}
-use Rattle.blocks.specs.Opening.{area_length, highest_of, reads, writes, offers_of, specification_of}
+use Rattle.blocks.specs.Opening.{Reading, names, area_length, highest_of, reads, writes, offers_of, specification_of}
 use Rattle.blocks.specs.Made.{made_of, table_made}
 use Rattle.blocks.proofs.Keeps.{block_back, block_made, with_made, closed_made, names_number}
 use Rattle.wire.specs.declared.Call.{Call}
@@ -108,14 +106,14 @@ module _ (call : Call) (table : Table) where
     opening_fit : (then : After) (half : List ℕ) → (block_at table call.iocb).state ≡ block.Closed → FitPlan (open_plan then (specification_of half call.address) half call) table
     opening_fit then half e = by (specification_of half call.address) (names_number half call.address)
       where
-        by : (s : Specification) → ((device : Device) (number : ℕ) → s ≡ Names device number → within 1 (highest_of device) number ≡ true) → FitPlan (open_plan then s half call) table
-        by (Refused status) n = tt
-        by (Names device number) n = named (named_for device half call.address)
+        by : (s : Reading) → ((device : Device) (number : ℕ) → s ≡ names device number → within 1 (highest_of device) number ≡ true) → FitPlan (open_plan then s half call) table
+        by (Err e) n = tt
+        by (Ok d) n = named (named_for d.device half call.address)
           where
-            named : (r : Result (List ℕ) NameError) → FitPlan (named_plan then device number r call) table
+            named : (r : Result (List ℕ) NameError) → FitPlan (named_plan then d.device d.number r call) table
             named (Err Past) = tt
-            named (Err Bad) = record { iocb = i; has = e; numbered = n device number refl }
-            named (Ok pattern) = record { iocb = i; has = e; numbered = n device number refl }
+            named (Err Bad) = record { iocb = i; has = e; numbered = n d.device d.number refl }
+            named (Ok pattern) = record { iocb = i; has = e; numbered = n d.device d.number refl }
 
     area_fit : (reads records : Bool) (device : Device) → ((way : Way) → OpenFor (kind_of reads way) device (block_at table call.iocb).state) → FitPlan (area_plan reads records device call) table
     unfolding area_plan

@@ -56,15 +56,13 @@ use Rattle.blocks.specs.declared.Device.{Device}
 use Rattle.blocks.specs.declared.Device.TheVariants.{E, S, K, P, C, D}
 use Rattle.blocks.specs.declared.Kind.{Kind}
 use Rattle.blocks.specs.declared.Kind.TheVariants.{Get, Put}
-use Rattle.blocks.specs.declared.Specification.{Specification}
-use Rattle.blocks.specs.declared.Specification.TheVariants.{Refused, Names}
 use Rattle.blocks.specs.declared.Way.{Way}
 use Rattle.blocks.specs.declared.Way.TheVariants.{One, Characters, Record}
 use Rattle.blocks.specs.declared.Table.{Table}
 use Rattle.blocks.specs.Blocks.{closed_block, open_block, block_at, with_block}
-use Rattle.blocks.specs.Opening.{area_length, specification_of, reads, writes, offers_of}
+use Rattle.blocks.specs.Opening.{Reading, error_status, area_length, specification_of, reads, writes, offers_of}
 use Rattle.blocks.specs.Made.{made_state}
-use Rattle.blocks.specs.Specified.{Specified, NotOffered}
+use Rattle.blocks.specs.Specified.{RefusedWith, Specified, NotOffered}
 use Rattle.blocks.proofs.Keeps.{block_back, block_made, made_offers, keys_unwritten, disk_unwritten, paper_unread, tape_one_way}
 use Rattle.blocks.proofs.Specified.{specifies, offers_not}
 use Rattle.commands.specs.declared.Command.{Command}
@@ -644,9 +642,9 @@ module _ (c : Call) (l : Local) (s : Groups) where
         ∙ rw (e, special_says device (asks number name) (opens_to device (asks number name) s).leaves) same_block
 
   -- the block that a specification opens
-  abbrev block_of : Specification → ControlBlock
-  block_of (Refused status) = closed_block
-  block_of (Names device number) = open_block device number c.aux1
+  abbrev block_of : Reading → ControlBlock
+  block_of (Err e) = closed_block
+  block_of (Ok d) = open_block d.device d.number c.aux1
 
   opened_one : (device : Device) (number : ℕ) → Specified half c.address device number → (other : Device) (n : ℕ) → Specified half c.address other n
       → open_block device number c.aux1 ≡ open_block other n c.aux1
@@ -728,15 +726,16 @@ module _ (c : Call) (l : Local) (s : Groups) where
     named_row device number q (Ok pattern) e =
         device_row fg device (record { opening = o; number = number; specified = q; name = Some pattern; named = found_name half c.address device (Some pattern) e }) then h
 
-    specification_row : (sp : Specification) → specification_of half c.address ≡ sp → Holds (open_plan then sp half c)
-    specification_row (Names device number) e = named_row device number (((specifies half c.address).names device number).0 e) (named_for device half c.address) refl
-    specification_row (Refused status) e =
+    specification_row : (sp : Reading) → specification_of half c.address ≡ sp → Holds (open_plan then sp half c)
+    specification_row (Ok d) e = named_row d.device d.number (((specifies half c.address).names d.device d.number).0 e) (named_for d.device half c.address) refl
+    specification_row (Err r) e =
+        let status = error_status r in
         by_eq status 0x82
         (λ q.
-        leaf _ status (at_once_lem status) (at_once_area status) (subst Row (sym q) (record { opening = o; malformed = (specifies half c.address).malformed.0 (e ∙ ap Refused q) }))
+        leaf _ status (at_once_lem status) (at_once_area status) (subst Row (sym q) (record { opening = o; malformed = (specifies half c.address).malformed.0 (r, (e, q)) }))
         (refuses status (opening_close o) (λ r. omega (arith, q, r))))
-        (λ n. let q = (specifies half c.address).numbers status e n in
-        leaf _ status (at_once_lem status) (at_once_area status) (subst Row (sym q) (specification_past o ((specifies half c.address).past.0 (e ∙ ap Refused q))))
+        (λ n. let q = (specifies half c.address).numbers status (r, (e, refl)) n in
+        leaf _ status (at_once_lem status) (at_once_area status) (subst Row (sym q) (specification_past o ((specifies half c.address).past.0 (r, (e, q)))))
         (refuses status (opening_close o) (λ r. omega (arith, q, r))))
 
     opening_row : Holds (open_plan then (specification_of half c.address) half c)
@@ -1186,10 +1185,10 @@ module _ (c : Call) (l : Local) (s : Groups) where
       (λ n. record { then = after.Special; plan = reached command.Special block.Closed o.on (above c.command (omega (arith, g)) (λ e. omega (arith, e, g)) n); status = λ h. absurd (n h); special = λ h. refl }))
       o.command
 
-  specification_plan : (o : Opening c l s) (status : ℕ) → specification_of half c.address ≡ Refused status → Refuses status
+  specification_plan : (o : Opening c l s) (status : ℕ) → RefusedWith (specification_of half c.address) status → Refuses status
   specification_plan o status e =
       let p = opening_plan o in
-      p.plan ∙ ap (λ (sp : Specification). open_plan p.then sp half c) e
+      p.plan ∙ ap (λ (sp : Reading). open_plan p.then sp half c) e.1.0 ∙ ap (λ (n : ℕ). at_once n c) e.1.1
 
   plan_82 : NoDevice c l s → Refuses 0x82
   plan_82 n = specification_plan n.opening 0x82 ((specifies half c.address).malformed.1 n.malformed)
@@ -1201,14 +1200,14 @@ module _ (c : Call) (l : Local) (s : Groups) where
   plan_b0 (specification_past o p) = specification_plan o 0xB0 ((specifies half c.address).past.1 p)
   plan_b0 (name_past device number o q b) =
       let p = opening_plan o in
-      p.plan ∙ ap (λ (sp : Specification). open_plan p.then sp half c) (((specifies half c.address).names device number).1 q)
+      p.plan ∙ ap (λ (sp : Reading). open_plan p.then sp half c) (((specifies half c.address).names device number).1 q)
       ∙ ap (λ (n : Result (List ℕ) NameError). named_plan p.then device number n c) (behind_past half c.address device b)
 
   -- an opening's plan, past the $82 check
   device_plan : (device : Device) (d : NamesDevice c l s device) → planned ≡ opens device (opening_plan d.opening).then d.number d.name
   device_plan device d =
       let p = opening_plan d.opening in
-      p.plan ∙ ap (λ (sp : Specification). open_plan p.then sp half c) (((specifies half c.address).names device d.number).1 d.specified)
+      p.plan ∙ ap (λ (sp : Reading). open_plan p.then sp half c) (((specifies half c.address).names device d.number).1 d.specified)
       ∙ ap (λ (n : Result (List ℕ) NameError). named_plan p.then device d.number n c) (name_found half c.address device d.name d.named)
       ∙ named_opens p.then device d.number d.name c
 
