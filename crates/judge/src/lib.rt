@@ -39,7 +39,7 @@ const NEXT: usize = 8 * disk::PLACE - PORT;
 fn four(a: u8, b: u8, c: u8, d: u8) -> u32
     ensures { result ≡ a + 256 * b + 65536 * c + 16777216 * d }
 {
-    a as u32 + 256 * (b as u32) + 65536 * (c as u32) + 16777216 * (d as u32)
+    u32::from_le_bytes([a, b, c, d])
 }
 
 // Four bytes are 0, by one comparison.
@@ -53,7 +53,7 @@ fn none(a: u8, b: u8, c: u8, d: u8) -> bool
 fn neither(a: u8, b: u8) -> bool
     ensures { result ≡ unused 0 0 a b }
 {
-    reading::word(a, b) == 0
+    base::word(a, b) == 0
 }
 
 // AUX1 is one that the device takes.
@@ -259,7 +259,7 @@ fn gathers(bytes: &[u8]) -> bool
     if rest(bytes) {
         return wire::gather_fits(Gather {
             tag: bytes[1],
-            length: reading::word(bytes[2], bytes[3]),
+            length: base::word(bytes[2], bytes[3]),
             taken: reading::three(bytes[4], bytes[5], bytes[6]),
         });
     }
@@ -283,8 +283,8 @@ fn replies(bytes: &[u8]) -> bool
     if rest(bytes) {
         if neither(bytes[5], bytes[6]) {
             return wire::reply_fits(Reply {
-                length: reading::word(bytes[1], bytes[2]),
-                given: reading::word(bytes[3], bytes[4]),
+                length: base::word(bytes[1], bytes[2]),
+                given: base::word(bytes[3], bytes[4]),
             });
         }
         return false;
@@ -400,9 +400,9 @@ fn runs(bytes: &[u8], mode: u8) -> bool
                 if mode_fits(device, mode) {
                     return span(
                         kind,
-                        reading::word(bytes[4], bytes[5]),
-                        reading::word(bytes[6], bytes[7]),
-                        reading::word(bytes[8], bytes[9]),
+                        base::word(bytes[4], bytes[5]),
+                        base::word(bytes[6], bytes[7]),
+                        base::word(bytes[8], bytes[9]),
                     );
                 }
                 return false;
@@ -484,7 +484,7 @@ fn picture(mode: u8, row: u8, column: u16) -> bool
 fn cursor(mode: u8, row: u8, low: u8, high: u8) -> bool
     ensures { result ≡ cursor_whole mode row (word_of low high) }
 {
-    let column = reading::word(low, high);
+    let column = base::word(low, high);
     if mode == 0 {
         return text(row, column);
     }
@@ -526,7 +526,7 @@ fn console(bytes: &[u8]) -> bool
 fn used(low: u8, high: u8) -> bool
     ensures { result ≡ leb (word_of low high) paper_length }
 {
-    reading::word(low, high) <= PAPER
+    base::word(low, high) <= PAPER
 }
 
 // The numbers behind the console's.

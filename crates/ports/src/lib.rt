@@ -90,10 +90,10 @@ pub fn set_run(port: u8, run: Run, state: &mut [u8])
 }
 
 // Where the block of an IOCB begins.
-fn block_place(port: u8, iocb: u8) -> usize
+fn block_place(port: u8, iocb: u8) -> u32
     ensures { result ≡ block_place port iocb }
 {
-    PORT * (port as usize) + PHASE + BLOCK * (iocb as usize)
+    (PORT * (port as usize) + PHASE + BLOCK * (iocb as usize)) as u32
 }
 
 // The block of an IOCB; past the table the closed one.
@@ -103,7 +103,7 @@ pub fn block_of(port: u8, iocb: u8, state: &[u8]) -> ControlBlock
 {
     if iocb < 8 {
         let place = block_place(port, iocb);
-        return reading::block(state, place);
+        return reading::block(state, place as usize);
     }
     ControlBlock::CLOSED
 }

@@ -2,8 +2,6 @@
 -- Assumes nothing.
 use mathlib.Core.Path.{refl, sym, ◌∙◌}
 use Rattle.base.specs.Decides.{Decides, Allows}
-use Rattle.reading.proofs.word.Kinds as word_kinds
-use Rattle.reading.proofs.word.Reads as word_reads
 use Rattle.reading.proofs.three.Kinds as three_kinds
 use Rattle.reading.proofs.three.Reads as three_reads
 use Rattle.reading.proofs.block.Kinds as block_kinds
@@ -24,12 +22,6 @@ use Rattle.reading.proofs.printer.Kinds as printer_kinds
 use Rattle.reading.proofs.printer.Reads as printer_reads
 use Rattle.reading.proofs.cassette.Kinds as cassette_kinds
 use Rattle.reading.proofs.cassette.Reads as cassette_reads
-
-pub word_decides : Decides word_kinds.ps word_kinds.r word_reads.Pre word_reads.Learnt
-word_decides κs a z z' ws ws' p e e' = (e ∙ sym e', refl)
-
-pub word_allows : Allows word_kinds.ps word_kinds.r word_reads.Pre word_reads.Learnt
-word_allows κs a p = (_, (_, refl))
 
 pub three_decides : Decides three_kinds.ps three_kinds.r three_reads.Pre three_reads.Learnt
 three_decides κs a z z' ws ws' p e e' = (e ∙ sym e', refl)

@@ -2,7 +2,6 @@
 #![tactic(auto)]
 
 ghost use Rattle.std.specs.Prelude.{◌≡◌, ◌+◌, ◌*◌, ◌≤◌, length};
-ghost use Rattle.wire.specs.Messages.{word_of};
 ghost use Rattle.layout.specs.Places.{phase_length, block_length, console_length, printer_length, cassette_length};
 ghost use Rattle.layout.specs.Layout.{device_in, kind_in, block_of, block_in, gather_in, header_in, run_in, reply_in, phase_in, reading_in, console_in, printer_in, cassette_in};
 
@@ -12,62 +11,42 @@ use console::state::Console;
 use keys::keyboard::Keyboard;
 use printer::Printer;
 
-// Two bytes as a number, the low one first.
-pub fn word(low: u8, high: u8) -> u16
-    ensures { result ≡ word_of low high }
-{
-    low as u16 + 256 * (high as u16)
-}
-
 // Three bytes as a number, the low one first.
 pub fn three(low: u8, middle: u8, high: u8) -> u32
     ensures { result ≡ low + 256 * middle + 65536 * high }
 {
-    low as u32 + 256 * (middle as u32) + 65536 * (high as u32)
+    u32::from_le_bytes([low, middle, high, 0])
 }
 
+#[tactic(auto, using(base::proofs::Tests::tests), unfolding(layout::specs::Layout::device_in))]
 fn device(number: u8) -> Device
     ensures { result ≡ device_in number }
 {
-    if number == 1 {
-        return Device::E;
+    match number {
+        1 => Device::E,
+        2 => Device::S,
+        3 => Device::K,
+        4 => Device::P,
+        5 => Device::C,
+        _ => Device::D,
     }
-    if number == 2 {
-        return Device::S;
-    }
-    if number == 3 {
-        return Device::K;
-    }
-    if number == 4 {
-        return Device::P;
-    }
-    if number == 5 {
-        return Device::C;
-    }
-    Device::D
 }
 
+#[tactic(auto, using(base::proofs::Tests::tests), unfolding(layout::specs::Layout::kind_in))]
 fn kind(number: u8) -> Kind
     ensures { result ≡ kind_in number }
 {
-    if number == 0 {
-        return Kind::Get(Way::One);
+    match number {
+        0 => Kind::Get(Way::One),
+        1 => Kind::Get(Way::Characters),
+        2 => Kind::Get(Way::Record),
+        3 => Kind::Put(Way::One),
+        4 => Kind::Put(Way::Characters),
+        _ => Kind::Put(Way::Record),
     }
-    if number == 1 {
-        return Kind::Get(Way::Characters);
-    }
-    if number == 2 {
-        return Kind::Get(Way::Record);
-    }
-    if number == 3 {
-        return Kind::Put(Way::One);
-    }
-    if number == 4 {
-        return Kind::Put(Way::Characters);
-    }
-    Kind::Put(Way::Record)
 }
 
+#[tactic(auto, using(base::proofs::Tests::tests), unfolding(layout::specs::Layout::block_of))]
 fn block_of(number: u8, unit: u8, aux1: u8) -> ControlBlock
     ensures { result ≡ block_of number unit aux1 }
 {
@@ -97,7 +76,7 @@ pub fn gather(bytes: &[u8]) -> Gather
 {
     Gather {
         tag: bytes[1],
-        length: word(bytes[2], bytes[3]),
+        length: base::word(bytes[2], bytes[3]),
         taken: three(bytes[4], bytes[5], bytes[6]),
     }
 }
@@ -108,7 +87,7 @@ pub fn header(bytes: &[u8]) -> Header
 {
     Header {
         tag: bytes[1],
-        length: word(bytes[2], bytes[3]),
+        length: base::word(bytes[2], bytes[3]),
     }
 }
 
@@ -120,9 +99,9 @@ pub fn run(bytes: &[u8]) -> Run
         kind: kind(bytes[1]),
         device: device(bytes[2]),
         iocb: bytes[3],
-        left: word(bytes[4], bytes[5]),
-        place: word(bytes[6], bytes[7]),
-        count: word(bytes[8], bytes[9]),
+        left: base::word(bytes[4], bytes[5]),
+        place: base::word(bytes[6], bytes[7]),
+        count: base::word(bytes[8], bytes[9]),
         a: bytes[10],
     }
 }
@@ -132,36 +111,35 @@ pub fn reply(bytes: &[u8]) -> Reply
     ensures { result ≡ reply_in bytes.now }
 {
     Reply {
-        length: word(bytes[1], bytes[2]),
-        given: word(bytes[3], bytes[4]),
+        length: base::word(bytes[1], bytes[2]),
+        given: base::word(bytes[3], bytes[4]),
     }
 }
 
+#[tactic(auto, using(base::proofs::Tests::tests), unfolding(layout::specs::Layout::phase_in))]
 pub fn phase(bytes: &[u8]) -> Phase
     requires { phase_length ≤ length bytes.now }
     ensures { result ≡ phase_in bytes.now }
 {
-    if bytes[0] == 0 {
-        return Phase::Gathering(gather(bytes));
+    match bytes[0] {
+        0 => Phase::Gathering(gather(bytes)),
+        1 => Phase::Ready(header(bytes)),
+        2 => Phase::Running(run(bytes)),
+        _ => Phase::Replying(reply(bytes)),
     }
-    if bytes[0] == 1 {
-        return Phase::Ready(header(bytes));
-    }
-    if bytes[0] == 2 {
-        return Phase::Running(run(bytes));
-    }
-    Phase::Replying(reply(bytes))
 }
 
+#[tactic(auto, using(base::proofs::Tests::tests))]
 fn read_column(byte: u8) -> Option<u16>
     ensures { result ≡ reading_in byte }
 {
     if byte == 255 {
         return None;
     }
-    Some(word(byte, 0))
+    Some(byte as u16)
 }
 
+#[tactic(auto, unfolding(layout::specs::Layout::console_in))]
 pub fn console(bytes: &[u8]) -> Console
     requires { console_length ≤ length bytes.now }
     ensures { result ≡ console_in bytes.now }
@@ -173,8 +151,8 @@ pub fn console(bytes: &[u8]) -> Console
     };
     Console {
         mode: bytes[0],
-        row: word(bytes[1], 0),
-        column: word(bytes[2], bytes[3]),
+        row: bytes[1] as u16,
+        column: base::word(bytes[2], bytes[3]),
         last: bytes[4],
         escape: bytes[5] == 1,
         reading: read_column(bytes[6]),
@@ -187,7 +165,7 @@ pub fn printer(bytes: &[u8]) -> Printer
     ensures { result ≡ printer_in bytes.now }
 {
     Printer {
-        used: word(bytes[0], bytes[1]),
+        used: base::word(bytes[0], bytes[1]),
     }
 }
 

@@ -4,7 +4,7 @@
 ghost use Rattle.std.specs.Prelude.{◌≡◌, ◌+◌, ◌≤◌, length};
 ghost use Rattle.std.proofs.lemmas.List.Edits.{sets};
 ghost use Rattle.base.specs.Choice.{pick};
-ghost use Rattle.layout.specs.Places.{phase_length, block_length, table_length, port_length, console_length, printer_length, cassette_length};
+ghost use Rattle.layout.specs.Places.{port_length};
 ghost use Rattle.layout.specs.Layout.{device_number, way_number, put_number, kind_number, block_bytes, table_bytes, phase_bytes, port_bytes, reading_byte, console_bytes, printer_bytes, cassette_bytes};
 
 use blocks::{
@@ -58,113 +58,92 @@ fn kind_number(kind: Kind) -> u8
 }
 
 // The three bytes of a block, at this place.
-pub fn block(bytes: &mut [u8], place: usize, block: ControlBlock)
-    requires { place + block_length ≤ length bytes.old }
+pub fn block(bytes: &mut [u8], place: u32, block: ControlBlock)
     ensures { bytes.new ≡ sets bytes.old place (block_bytes block) }
 {
-    let state = block.state;
-    match state {
-        BlockState::Closed => {
-            bytes[place] = 0;
-            bytes[place + 1] = 0;
-            bytes[place + 2] = 0;
-        }
+    match block.state {
+        BlockState::Closed => base::lay(bytes, place, &[0, 0, 0]),
         BlockState::Open {
             device,
             number,
             aux1,
-        } => {
-            bytes[place] = device_number(device);
-            bytes[place + 1] = number;
-            bytes[place + 2] = aux1;
-        }
+        } => base::lay(bytes, place, &[device_number(device), number, aux1]),
     }
 }
 
 fn table(bytes: &mut [u8], table: Table)
-    requires { table_length ≤ length bytes.old }
     ensures { bytes.new ≡ sets bytes.old 0 (table_bytes table) }
 {
-    let mut iocb: usize = 0;
-    while iocb < 8 {
-        block(bytes, BLOCK * iocb, table.blocks[iocb]);
-        iocb += 1;
+    for iocb in 0..8 {
+        block(bytes, (BLOCK * iocb) as u32, table.blocks[iocb]);
     }
 }
 
-// The count's high byte goes last, and its low two together: they are read again together.
+#[tactic(auto, unfolding(layout::specs::Layout::phase_bytes))]
 pub fn gather(bytes: &mut [u8], gather: Gather)
-    requires { phase_length ≤ length bytes.old }
     ensures { bytes.new ≡ sets bytes.old 0 (phase_bytes (Phase.Gathering gather)) }
 {
-    bytes[0] = 0;
-    bytes[1] = gather.tag;
-    bytes[2] = (gather.length % 256) as u8;
-    bytes[3] = (gather.length / 256) as u8;
-    bytes[4] = (gather.taken % 256) as u8;
-    bytes[5] = (gather.taken / 256 % 256) as u8;
-    bytes[7] = 0;
-    bytes[8] = 0;
-    bytes[9] = 0;
-    bytes[10] = 0;
-    bytes[6] = (gather.taken / 65536 % 256) as u8;
+    let [length, length_high] = gather.length.to_le_bytes();
+    let [taken, middle, high, _] = gather.taken.to_le_bytes();
+    base::lay(
+        bytes,
+        0,
+        &[
+            0,
+            gather.tag,
+            length,
+            length_high,
+            taken,
+            middle,
+            high,
+            0,
+            0,
+            0,
+            0,
+        ],
+    );
 }
 
+#[tactic(auto, unfolding(layout::specs::Layout::phase_bytes))]
 fn header(bytes: &mut [u8], header: Header)
-    requires { phase_length ≤ length bytes.old }
     ensures { bytes.new ≡ sets bytes.old 0 (phase_bytes (Phase.Ready header)) }
 {
-    bytes[0] = 1;
-    bytes[1] = header.tag;
-    bytes[2] = (header.length % 256) as u8;
-    bytes[3] = (header.length / 256) as u8;
-    bytes[4] = 0;
-    bytes[5] = 0;
-    bytes[6] = 0;
-    bytes[7] = 0;
-    bytes[8] = 0;
-    bytes[9] = 0;
-    bytes[10] = 0;
+    let [low, high] = header.length.to_le_bytes();
+    base::lay(bytes, 0, &[1, header.tag, low, high, 0, 0, 0, 0, 0, 0, 0]);
 }
 
+#[tactic(auto, unfolding(layout::specs::Layout::phase_bytes))]
 pub fn run(bytes: &mut [u8], run: Run)
-    requires { phase_length ≤ length bytes.old }
     ensures { bytes.new ≡ sets bytes.old 0 (phase_bytes (Phase.Running run)) }
 {
-    let kind = run.kind;
-    let device = run.device;
-    bytes[0] = 2;
-    bytes[1] = kind_number(kind);
-    bytes[2] = device_number(device);
-    bytes[3] = run.iocb;
-    bytes[4] = (run.left % 256) as u8;
-    bytes[5] = (run.left / 256) as u8;
-    bytes[6] = (run.place % 256) as u8;
-    bytes[7] = (run.place / 256) as u8;
-    bytes[8] = (run.count % 256) as u8;
-    bytes[9] = (run.count / 256) as u8;
-    bytes[10] = run.a;
+    let [left, left_high] = run.left.to_le_bytes();
+    let [place, place_high] = run.place.to_le_bytes();
+    let [count, count_high] = run.count.to_le_bytes();
+    let kind = kind_number(run.kind);
+    let device = device_number(run.device);
+    base::lay(
+        bytes,
+        0,
+        &[
+            2, kind, device, run.iocb, left, left_high, place, place_high, count, count_high, run.a,
+        ],
+    );
 }
 
+#[tactic(auto, unfolding(layout::specs::Layout::phase_bytes))]
 fn reply(bytes: &mut [u8], reply: Reply)
-    requires { phase_length ≤ length bytes.old }
     ensures { bytes.new ≡ sets bytes.old 0 (phase_bytes (Phase.Replying reply)) }
 {
-    bytes[0] = 3;
-    bytes[1] = (reply.length % 256) as u8;
-    bytes[2] = (reply.length / 256) as u8;
-    bytes[3] = (reply.given % 256) as u8;
-    bytes[4] = (reply.given / 256) as u8;
-    bytes[5] = 0;
-    bytes[6] = 0;
-    bytes[7] = 0;
-    bytes[8] = 0;
-    bytes[9] = 0;
-    bytes[10] = 0;
+    let [length, length_high] = reply.length.to_le_bytes();
+    let [given, given_high] = reply.given.to_le_bytes();
+    base::lay(
+        bytes,
+        0,
+        &[3, length, length_high, given, given_high, 0, 0, 0, 0, 0, 0],
+    );
 }
 
 pub fn phase(bytes: &mut [u8], phase: Phase)
-    requires { phase_length ≤ length bytes.old }
     ensures { bytes.new ≡ sets bytes.old 0 (phase_bytes phase) }
 {
     match phase {
@@ -180,10 +159,8 @@ pub fn port(bytes: &mut [u8], port: Port)
     requires { port_length ≤ length bytes.old }
     ensures { bytes.new ≡ sets bytes.old 0 (port_bytes port) }
 {
-    let p = port.phase;
-    let t = port.table;
-    phase(bytes, p);
-    table(&mut bytes[PHASE..PORT], t);
+    phase(bytes, port.phase);
+    table(&mut bytes[PHASE..PORT], port.table);
 }
 
 fn reading_byte(reading: Option<u16>) -> u8
@@ -204,37 +181,43 @@ fn escape_byte(escape: bool) -> u8
     0
 }
 
+#[tactic(auto, unfolding(layout::specs::Layout::console_bytes))]
 pub fn console(bytes: &mut [u8], console: Console)
-    requires { console_length ≤ length bytes.old }
     ensures { bytes.new ≡ sets bytes.old 0 (console_bytes console) }
 {
-    let reading = console.reading;
     let keyboard = console.keyboard;
-    bytes[0] = console.mode;
-    bytes[1] = (console.row % 256) as u8;
-    bytes[2] = (console.column % 256) as u8;
-    bytes[3] = (console.column / 256) as u8;
-    bytes[4] = console.last;
-    bytes[5] = escape_byte(console.escape);
-    bytes[6] = reading_byte(reading);
-    bytes[7] = keyboard.code;
-    bytes[8] = keyboard.lock;
-    bytes[9] = keyboard.inverse;
+    let [column, column_high] = console.column.to_le_bytes();
+    let row = (console.row % 256) as u8;
+    let escape = escape_byte(console.escape);
+    let reading = reading_byte(console.reading);
+    base::lay(
+        bytes,
+        0,
+        &[
+            console.mode,
+            row,
+            column,
+            column_high,
+            console.last,
+            escape,
+            reading,
+            keyboard.code,
+            keyboard.lock,
+            keyboard.inverse,
+        ],
+    );
 }
 
+#[tactic(auto, unfolding(layout::specs::Layout::printer_bytes))]
 pub fn printer(bytes: &mut [u8], printer: Printer)
-    requires { printer_length ≤ length bytes.old }
     ensures { bytes.new ≡ sets bytes.old 0 (printer_bytes printer) }
 {
-    bytes[0] = (printer.used % 256) as u8;
-    bytes[1] = (printer.used / 256) as u8;
+    base::set_word(bytes, 0, printer.used);
 }
 
+#[tactic(auto, unfolding(layout::specs::Layout::cassette_bytes))]
 pub fn cassette(bytes: &mut [u8], cassette: Cassette)
-    requires { cassette_length ≤ length bytes.old }
     ensures { bytes.new ≡ sets bytes.old 0 (cassette_bytes cassette) }
 {
-    bytes[0] = cassette.mark;
-    bytes[1] = cassette.record;
-    bytes[2] = cassette.place;
+    base::lay(bytes, 0, &[cassette.mark, cassette.record, cassette.place]);
 }
