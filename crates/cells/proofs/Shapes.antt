@@ -7,10 +7,8 @@ use Rattle.base.specs.Choice.{within}
 use Rattle.base.proofs.Choices.{by_lt, and_false}
 use mathlib.Core.List.{List}
 use Prim.Native.Nat.{ℕ, ◌+◌, ◌*◌, ◌%◌, ◌<◌, ◌≤◌}
-use native.Mathlib.Nat.{mul_comm, mul-le-mul, mul-le-mul_right, suc-mul, mod-lt, le_of_lt}
+use native.Mathlib.Nat.{mul_comm, mul-le-mul_right, suc-mul, mod-lt}
 use native.Mathlib.Omega.{arith}
-use mir.Syntax.{w8, w64}
-use mir.Val.{Fits}
 use lib.Dec.{T, leb, ltb, leb→le, ltb→lt}
 use lib.ListN.{get_or, set, get_or-eq_default}
 use Rattle.base.proofs.Table.{both, both_left, both_right, at}
@@ -58,23 +56,8 @@ pub cell_in : (shape : Shape) (row column n : ℕ) → row < shape.rows → colu
 cell_in shape row column n h k l =
     omega (arith, mul-le-mul_right shape.columns h, suc-mul row shape.columns, mul_comm shape.rows shape.columns)
 
--- two 16-bit numbers' product fits
-pub product_below : (a b : ℕ) → a < 65536 → b < 65536 → a * b ≤ 4294967296
-product_below a b h k = mul-le-mul (le_of_lt h) (le_of_lt k)
-
 pub cell_byte : (x colours : ℕ) → Colours colours → x % colours < 256
 cell_byte x colours c = omega (arith, mod-lt x c.some, c.byte)
-
--- a byte modulo the colours
-module _ (byte colours : ℕ) where
-  pub colour_is : (some : ℕ) → colours ≡ some → byte % some ≡ byte % colours
-  colour_is some e = rw e
-
-  pub colour_some : Colours colours → 0 < colours
-  colour_some c = c.some
-
-  pub colour_byte : Colours colours → Fits w8 (byte % colours)
-  colour_byte c = record { fits = cell_byte byte colours c }
 
 -- a mode by its number, and what is no mode
 pub shape_by : (mode number : ℕ) → mode ≡ number → shape_of number ≡ shape_of mode
@@ -100,21 +83,12 @@ module _ (mode : ℕ) (shape : Shape) (e : shape ≡ shape_of mode) where
   pub good_shape : Good shape
   good_shape = subst Good (sym e) (shape_good mode)
 
-  pub some_colours : 0 < shape.colours
-  some_colours = good_shape.colours.some
-
-  pub colours_byte : (x : ℕ) → Fits w8 (x % shape.colours)
-  colours_byte x = record { fits = cell_byte x shape.colours good_shape.colours }
-
   pub shape_colours : Colours shape.colours
   shape_colours = good_shape.colours
 
   pub count_of_lem : shape.columns * shape.rows ≡ count_of mode
   unfolding count_of
   count_of_lem = rw e
-
-  pub count_bound : Fits w64 (shape.columns * shape.rows)
-  count_bound = record { fits = omega (arith, good_shape.fit) }
 
 -- a cell of a shape
 module _ (shape : Shape) (row column place : ℕ) (cells : List ℕ) (p : place ≡ place_of shape row column) where

@@ -82,13 +82,6 @@ unfolding found_at
 found_past tape r h = rw (le-ltb r 250 h)
 
 -- a record made around its data
-module _ (bytes : List ℕ) (a b d : ℕ) where
-  pub three_stores : length bytes ≡ 132 → 131 ≤ length (set (set (set bytes 0 a) 1 b) 2 d)
-  three_stores e = simp length-set (omega arith)
-
-  pub four_stores : length bytes ≡ 132 → 131 < length (set (set (set bytes 0 a) 1 b) 2 d)
-  four_stores e = simp length-set (omega arith)
-
 around : (rest : List ℕ) (sum : ℕ) → length rest ≡ 129 → set rest 128 sum ≡ take 128 rest ++ (sum ∷ [])
 around rest sum e =
     let l : 128 < length rest = omega arith in
