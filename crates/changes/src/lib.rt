@@ -2,9 +2,7 @@
 // image becomes what the list says.
 #![tactic(auto)]
 
-ghost use Rattle.std.specs.Prelude.{◌≡◌, ◌∷◌, [], ◌*◌, ◌+◌, ◌<◌, get_or, set};
-ghost use Rattle.std.proofs.lemmas.List.Edits.{sets};
-ghost use Rattle.image.specs.Image.{sector_place};
+ghost use Rattle.std.specs.Prelude.{◌≡◌, ◌∷◌, [], ◌<◌};
 ghost use Rattle.changes.specs.Changes.{change_to, differing, as_listed, listed_on, replayed, replay_list};
 
 // The bytes of a list: room for 512 changes.

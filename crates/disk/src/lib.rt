@@ -1,7 +1,7 @@
 // The diskettes D1 to D4: OPEN, OPEN DIRECTORY, GET and GET STATUS at a block's own place, over the lent images, which no act changes.
 #![tactic(auto)]
 
-ghost use Rattle.std.specs.Prelude.{◌≡◌, ◌-◌};
+ghost use Rattle.std.specs.Prelude.{◌≡◌};
 ghost use Rattle.std.proofs.lemmas.List.Edits.{sets};
 ghost use Rattle.handler.specs.Answer.{answer};
 ghost use Rattle.disk.specs.Disk.{directory_place, file_opened, place_opened, place_read, flag_status, place_status};

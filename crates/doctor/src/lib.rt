@@ -2,7 +2,7 @@
 // the image what the list says.
 #![tactic(auto)]
 
-ghost use Rattle.std.specs.Prelude.{◌≡◌, ◌∷◌, [], ◌+◌, ◌*◌, ◌<◌, ◌≤◌, length};
+ghost use Rattle.std.specs.Prelude.{◌≡◌, ◌∷◌, [], ◌<◌};
 ghost use Rattle.image.specs.Image.{flag_of};
 ghost use Rattle.chains.specs.Chains.{files_in};
 ghost use Rattle.chains.specs.Marks.{marked};

@@ -1,7 +1,7 @@
 // A file of a diskette: what a read at a file block's place gives.
 #![tactic(auto)]
 
-ghost use Rattle.std.specs.Prelude.{◌≡◌, ◌+◌, ◌*◌, ◌/◌, ◌%◌, ◌<◌, get_or, set};
+ghost use Rattle.std.specs.Prelude.{◌≡◌, ◌+◌, ◌<◌};
 ghost use Rattle.handler.specs.Answer.{answer};
 ghost use Rattle.image.specs.Image.{sector_byte, stand_of};
 ghost use Rattle.image.specs.Place.{unit_of, entry_of, place_of, sector_in, passed_in};

@@ -2,7 +2,7 @@
 // stands. A unit is a drive counted from 0: D1 is 0.
 #![tactic(auto)]
 
-ghost use Rattle.std.specs.Prelude.{◌≡◌, ◌*◌, ◌+◌, ◌-◌, set};
+ghost use Rattle.std.specs.Prelude.{◌≡◌, ◌+◌, set};
 ghost use Rattle.image.specs.Image.{sector_place, sector_byte, entry_byte, flag_of, in_use, locked, count_of, first_of, matches_entry, match_from, found_entry, sector_of, stand_of};
 
 use names::Pattern;

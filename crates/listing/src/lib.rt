@@ -1,8 +1,7 @@
 // A diskette's directory: the records that it is read as, and what a read at a directory block's place gives.
 #![tactic(auto)]
 
-ghost use Rattle.std.specs.Prelude.{◌≡◌, [], ◌∷◌, ◌+◌, ◌*◌, ◌<◌};
-ghost use Rattle.std.proofs.lemmas.List.Edits.{sets};
+ghost use Rattle.std.specs.Prelude.{◌≡◌, ◌<◌};
 ghost use Rattle.handler.specs.Answer.{answer};
 ghost use Rattle.image.specs.Place.{pattern_in};
 ghost use Rattle.listing.specs.Directory.{free_of, digit_at, entry_byte_at, free_byte_at, record_byte, record_length};

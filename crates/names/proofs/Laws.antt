@@ -6,11 +6,9 @@ use mathlib.Core.List.{List, [], ◌∷◌, ◌++◌, append-nil}
 use Prim.Native.Nat.{ℕ, zero, suc, ◌+◌, ◌-◌, ◌<◌, ◌≤◌}
 use native.Mathlib.Numerals.{add-one}
 use native.Mathlib.Omega.{arith}
-use borrow.Author.Tests.{le-leb, lt-leb, eq-eqb, ne_eqb}
-use lib.Dec.{eqb, leb}
+use borrow.Author.Tests.{eq-eqb, ne_eqb}
 use lib.ListN.{length, get_or, drop, length-drop, drop_of_length-le}
 use lib.Seq.{drop-cons, take-suc, get_or-drop, ext_get_or}
-use Rattle.base.specs.Choice.{or}
 use Rattle.base.specs.Parts.{part}
 use Rattle.std.specs.Prelude.{Ok, Err}
 use Rattle.names.specs.declared.Cut.TheVariants.{Dot, End}

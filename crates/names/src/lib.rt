@@ -1,7 +1,7 @@
 // File names: a name read from an area, the pattern of eleven bytes that it comes to, and whether an entry's name matches it.
 #![tactic(auto)]
 
-ghost use Rattle.std.specs.Prelude.{◌≡◌, ◌+◌, ◌-◌, ◌<◌, ◌≤◌, length, get_or, drop};
+ghost use Rattle.std.specs.Prelude.{◌≡◌, ◌+◌, ◌-◌, ◌<◌, ◌≤◌, length, drop};
 ghost use Rattle.base.specs.Parts.{part};
 ghost use Rattle.names.specs.Names.{no_name, may_stand, CutIn, cut_of, field_at, name_of, extended_by, named_in, places_match};
 

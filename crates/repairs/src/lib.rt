@@ -2,7 +2,7 @@
 // the map. The image stays.
 #![tactic(auto)]
 
-ghost use Rattle.std.specs.Prelude.{◌≡◌, ◌∷◌, [], ◌+◌, ◌*◌, ◌<◌, ◌≤◌, length};
+ghost use Rattle.std.specs.Prelude.{◌≡◌, ◌∷◌, [], ◌<◌, ◌≤◌};
 ghost use Rattle.chains.specs.Marks.{marked};
 ghost use Rattle.changes.specs.Changes.{differing, as_listed, listed_on};
 ghost use Rattle.repairs.specs.Repairs.{entry_change, cut_changes, count_changes, empty_changes, file_changes, free_changes, map_bit, map_byte, map_in, sectors_changes};

@@ -3,7 +3,6 @@
 use mathlib.Core.Path.{◌≡◌}
 use native.Mathlib.Omega.{arith}
 use Rattle.chains.proofs.Laws.{walk_ended, walk_stopped, walk_turn, walk_spent, marks_length}
-use borrow.Author.Rules.{rules}
 use Rattle.chains.proofs.keep.Goals as goal
 
 pub returns-then-at-eq0 : goal.returns-then-at-eq0

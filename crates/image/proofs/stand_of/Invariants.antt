@@ -1,7 +1,6 @@
 -- `stand_of` meets its contract, by `stands_ended`, `stands_wrong`, `stands_here`, `stands_turn` and `stands_last`.
 -- Assumes nothing.
 use mathlib.Core.Path.{◌≡◌}
-use Prim.Native.Nat.{◌-◌}
 use Rattle.image.specs.Image.{stand_of}
 use Rattle.image.proofs.stand_of.Given as goal
 
