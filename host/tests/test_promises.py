@@ -31,7 +31,7 @@ FREE |= {crate.name for crate in CRATES.iterdir()}
 
 DECLARED = {
     ".antt": (r"^ *(?:abbrev |unfoldable )?(?:pub )?(?:record |data )?{}(?: [({{].*)? :",),
-    ".rt": (r"\b(?:fn|struct|enum|const) {}\b", r"^ *pub {}:"),
+    ".rt": (r"\b(?:fn|struct|enum|const|type) {}\b", r"^ *pub {}:"),
     ".rs": (r"\bfn {}\b",),
     ".py": (r"\b(?:def|class) {}\b", r"^{}\b.* = "),
     ".md": (),
@@ -293,7 +293,7 @@ class Functions(unittest.TestCase):
         law = "pub device_of_decides : Decides " + says
         own, other = law.format("device_of"), law.format("offers")
         promise = f"promise blocks_{says} blocks.{{0}}_decides blocks.{{0}}_allows (".replace(" {0}", " blocks_{0}")
-        contract = "pub fn device_of(byte: u8) -> Letter\n    ensures "
+        contract = "pub fn device_of(byte: u8) -> Option<Device>\n    ensures "
         source, decided, demands = "blocks/src/lib.rt", "blocks/proofs/Decided.antt", "demands/proofs/Decided.antt"
         no_law = [f"{source} device_of: no law that it {word}" for word in ENDINGS]
         neither = [f"{source} device_of: device_of_{word} is not gathered" for word in ENDINGS]

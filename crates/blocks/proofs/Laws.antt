@@ -48,15 +48,8 @@ goes_on (Err e) reading = Err e
 pub digit_arm : (known device : Device) → device ≡ known → 0x30 + highest_of known ≡ 0x30 + highest_of device
 digit_arm known device e = rw e
 
--- a needed byte is there, or past the area
+-- what is read on from a needed byte is read on from there
 module _ (half : List ℕ) (place : ℕ) where
-  pub byte_past : 16384 ≤ place → Err Past ≡ needed_byte half place
-  byte_past o = rw (le-ltb place 16384 o)
-
-  pub byte_there : (byte : ℕ) → place < 16384 → byte ≡ get_or half place 0 → Ok byte ≡ needed_byte half place
-  byte_there byte i e = rw (e, lt-ltb place 16384 i)
-
-  -- what is read on from it is read on from there
   module _ (reading : ℕ → Reading) where
     needed_by : (t : Bool) (r : Result ℕ SpecificationError) → r ≡ pick t (Ok (get_or half place 0)) (Err Past)
         → pick t (reading (get_or half place 0)) (Err Past) ≡ goes_on r reading

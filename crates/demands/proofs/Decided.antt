@@ -11,6 +11,14 @@ use Rattle.base.proofs.byte_at.Kinds as base_byte_at_kinds
 use Rattle.base.proofs.byte_at.Reads as base_byte_at_reads
 use Rattle.base.proofs.set_byte.Kinds as base_set_byte_kinds
 use Rattle.base.proofs.set_byte.Reads as base_set_byte_reads
+use Rattle.base.proofs.word.Kinds as base_word_kinds
+use Rattle.base.proofs.word.Reads as base_word_reads
+use Rattle.base.proofs.word_at.Kinds as base_word_at_kinds
+use Rattle.base.proofs.word_at.Reads as base_word_at_reads
+use Rattle.base.proofs.lay.Kinds as base_lay_kinds
+use Rattle.base.proofs.lay.Reads as base_lay_reads
+use Rattle.base.proofs.set_word.Kinds as base_set_word_kinds
+use Rattle.base.proofs.set_word.Reads as base_set_word_reads
 use Rattle.base.proofs.Decided as base
 use Rattle.names.proofs.none.Kinds as names_none_kinds
 use Rattle.names.proofs.none.Reads as names_none_reads
@@ -260,8 +268,6 @@ use Rattle.wire.proofs.gather_fits.Reads as wire_gather_fits_reads
 use Rattle.wire.proofs.reply_fits.Kinds as wire_reply_fits_kinds
 use Rattle.wire.proofs.reply_fits.Reads as wire_reply_fits_reads
 use Rattle.wire.proofs.Decided as wire
-use Rattle.reading.proofs.word.Kinds as reading_word_kinds
-use Rattle.reading.proofs.word.Reads as reading_word_reads
 use Rattle.reading.proofs.three.Kinds as reading_three_kinds
 use Rattle.reading.proofs.three.Reads as reading_three_reads
 use Rattle.reading.proofs.block.Kinds as reading_block_kinds
@@ -452,7 +458,11 @@ pub data Promises : Type 3 where
 pub base_decided : Promises
 base_decided =
     promise base_byte_at_kinds.ps base_byte_at_kinds.r base_byte_at_reads.Pre base_byte_at_reads.Learnt base.byte_at_decides base.byte_at_allows (
-    promise base_set_byte_kinds.ps base_set_byte_kinds.r base_set_byte_reads.Pre base_set_byte_reads.Learnt base.set_byte_decides base.set_byte_allows none)
+    promise base_set_byte_kinds.ps base_set_byte_kinds.r base_set_byte_reads.Pre base_set_byte_reads.Learnt base.set_byte_decides base.set_byte_allows (
+    promise base_word_kinds.ps base_word_kinds.r base_word_reads.Pre base_word_reads.Learnt base.word_decides base.word_allows (
+    promise base_word_at_kinds.ps base_word_at_kinds.r base_word_at_reads.Pre base_word_at_reads.Learnt base.word_at_decides base.word_at_allows (
+    promise base_lay_kinds.ps base_lay_kinds.r base_lay_reads.Pre base_lay_reads.Learnt base.lay_decides base.lay_allows (
+    promise base_set_word_kinds.ps base_set_word_kinds.r base_set_word_reads.Pre base_set_word_reads.Learnt base.set_word_decides base.set_word_allows none)))))
 
 pub names_decided : Promises
 names_decided =
@@ -640,7 +650,6 @@ wire_decided =
 
 pub reading_decided : Promises
 reading_decided =
-    promise reading_word_kinds.ps reading_word_kinds.r reading_word_reads.Pre reading_word_reads.Learnt reading.word_decides reading.word_allows (
     promise reading_three_kinds.ps reading_three_kinds.r reading_three_reads.Pre reading_three_reads.Learnt reading.three_decides reading.three_allows (
     promise reading_block_kinds.ps reading_block_kinds.r reading_block_reads.Pre reading_block_reads.Learnt reading.block_decides reading.block_allows (
     promise reading_phase_kinds.ps reading_phase_kinds.r reading_phase_reads.Pre reading_phase_reads.Learnt reading.phase_decides reading.phase_allows (
@@ -650,7 +659,7 @@ reading_decided =
     promise reading_gather_kinds.ps reading_gather_kinds.r reading_gather_reads.Pre reading_gather_reads.Learnt reading.gather_decides reading.gather_allows (
     promise reading_header_kinds.ps reading_header_kinds.r reading_header_reads.Pre reading_header_reads.Learnt reading.header_decides reading.header_allows (
     promise reading_run_kinds.ps reading_run_kinds.r reading_run_reads.Pre reading_run_reads.Learnt reading.run_decides reading.run_allows (
-    promise reading_reply_kinds.ps reading_reply_kinds.r reading_reply_reads.Pre reading_reply_reads.Learnt reading.reply_decides reading.reply_allows wire_decided))))))))))
+    promise reading_reply_kinds.ps reading_reply_kinds.r reading_reply_reads.Pre reading_reply_reads.Learnt reading.reply_decides reading.reply_allows wire_decided)))))))))
 
 pub writing_decided : Promises
 writing_decided =
