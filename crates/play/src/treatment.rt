@@ -1,6 +1,6 @@
 // The doctor's work on one of the images. It is lent that image whole, whatever length of the images is lent to the calls.
 use firmware::{IMAGE, LIST};
-use script::changes;
+use script::doctored;
 use script::ops::Op;
 use script::streams::Streams;
 use std::io;
@@ -11,7 +11,7 @@ const REFUSED: u32 = 1;
 fn repair(streams: &mut Streams, image: &mut [u8]) -> io::Result<()> {
     let mut list = [0u8; LIST];
     let returned = firmware::fixlomand_doctor(image, &mut list);
-    changes::write(streams, returned, &list)
+    doctored::write(streams, returned, &list)
 }
 
 // What an op asks of the doctor: an image that is not there is refused like one of a wrong length.
@@ -24,5 +24,5 @@ pub fn done(streams: &mut Streams, op: Op, images: &mut [u8]) -> io::Result<()> 
     if end <= images.len() {
         return repair(streams, &mut images[from..end]);
     }
-    changes::write(streams, REFUSED, b"")
+    doctored::write(streams, REFUSED, b"")
 }

@@ -2,7 +2,7 @@
 use crate::board::Board;
 use crate::ops::{CallOp, Op};
 use crate::streams::Streams;
-use crate::{dump, ops, say, tape, ticks, writes};
+use crate::{dump, ops, say, tape, ticking, writes};
 use std::io;
 
 // A call's answer, and of a give the reply byte: the low and the high byte of the number that the call returned.
@@ -23,7 +23,7 @@ fn answered(streams: &mut Streams, op: Op, number: u16, board: &Board) -> io::Re
         Op::DumpTape => tape::write(streams, board)?,
         Op::Ticks(port, most, made) => {
             let [answer, _] = number.to_le_bytes();
-            return ticks::next(streams, port, most, made, answer, &board.state);
+            return ticking::next(streams, port, most, made, answer, &board.state);
         }
         Op::Call(call) => write(streams, call, number)?,
         _ => {}

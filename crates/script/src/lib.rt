@@ -4,12 +4,12 @@
 
 pub mod answers;
 pub mod board;
-pub mod changes;
+pub mod doctored;
 pub mod dump;
 pub mod lengths;
 pub mod ops;
 pub mod say;
 pub mod streams;
 pub mod tape;
-pub mod ticks;
+pub mod ticking;
 pub mod writes;
