@@ -58,44 +58,68 @@ module _ (test : ℕ → ℕ → Bool) (step stride place at : ℕ) where
     unfolding all_from
     turn_last h = let none : left ≡ 0 = omega arith in e ∙ rw none
 
--- of a port's table, and of the ports
-module _ (mark : ℕ) (b : List ℕ) (from : ℕ) where
-  abbrev pub TableFrom : (place at left : ℕ) → Type 0
-  TableFrom place at left = table_whole mark b from ≡ all_from (two_whole mark b) (2 * block_length) (2 * place_length) place at left
+-- of a port's table: what is left behind so many pairs of blocks
+module _ (mark : ℕ) (b : List ℕ) (from pair : ℕ) where
+  abbrev pub TableFrom : Type 0
+  TableFrom =
+      table_whole mark b from ≡ all_from (two_whole mark b) (2 * block_length) (2 * place_length) (phase_length + 2 * block_length * pair) (from + 2 * place_length * pair) (4 - pair)
 
-  module _ (place at left : ℕ) (e : TableFrom place at left) where
-    pub table_last : left ≤ 0 → true ≡ table_whole mark b from
-    table_last h = sym (turn_last (two_whole mark b) (2 * block_length) (2 * place_length) place at left (table_whole mark b from) e h)
+module _ (mark : ℕ) (b : List ℕ) (from pair : ℕ) (e : TableFrom mark b from pair) where
+  abbrev pair_place : ℕ
+  pair_place = phase_length + 2 * block_length * pair
 
-    module _ (r : Bool) where
-      pub table_yes : r ≡ two_whole mark b place at → 0 < left → r ≡ true → TableFrom (place + 2 * block_length) (at + 2 * place_length) (left - 1)
-      table_yes = turn_yes (two_whole mark b) (2 * block_length) (2 * place_length) place at left (table_whole mark b from) e r
+  abbrev pair_at : ℕ
+  pair_at = from + 2 * place_length * pair
 
-      pub table_no : r ≡ two_whole mark b place at → 0 < left → r ≡ false → false ≡ table_whole mark b from
-      table_no = turn_no (two_whole mark b) (2 * block_length) (2 * place_length) place at left (table_whole mark b from) e r
+  pub table_last : 4 ≤ pair → true ≡ table_whole mark b from
+  table_last h = sym (turn_last (two_whole mark b) (2 * block_length) (2 * place_length) pair_place pair_at (4 - pair) (table_whole mark b from) e (omega arith))
 
-module _ (b : List ℕ) (place at left : ℕ) where
+  module _ (r : Bool) (q : r ≡ two_whole mark b pair_place pair_at) (h : pair < 4) where
+    pub table_yes : r ≡ true → TableFrom mark b from (pair + 1)
+    table_yes z =
+        let p : phase_length + 2 * block_length * pair + 2 * block_length ≡ phase_length + 2 * block_length * (pair + 1) = omega arith in
+        let a : from + 2 * place_length * pair + 2 * place_length ≡ from + 2 * place_length * (pair + 1) = omega arith in
+        let l : 4 - pair - 1 ≡ 4 - (pair + 1) = omega arith in
+        rw (p, a, l) at (turn_yes (two_whole mark b) (2 * block_length) (2 * place_length) pair_place pair_at (4 - pair) (table_whole mark b from) e r q (omega arith) z)
+
+    pub table_no : r ≡ false → false ≡ table_whole mark b from
+    table_no z = turn_no (two_whole mark b) (2 * block_length) (2 * place_length) pair_place pair_at (4 - pair) (table_whole mark b from) e r q (omega arith) z
+
+-- and of the ports behind so many
+module _ (b : List ℕ) (port : ℕ) where
   abbrev pub PortsFrom : Type 0
-  PortsFrom = all_from (port_at_whole b) port_length next_places (port_place 0) own_places 2 ≡ all_from (port_at_whole b) port_length next_places place at left
+  PortsFrom =
+      all_from (port_at_whole b) port_length next_places (port_place 0) own_places 2
+      ≡ all_from (port_at_whole b) port_length next_places (port_length * port) (own_places + next_places * port) (2 - port)
 
-module _ (b : List ℕ) (place at left : ℕ) (r : Bool) where
-  module _ (e : PortsFrom b place at left) where
-    abbrev ports : Bool
-    ports = all_from (port_at_whole b) port_length next_places (port_place 0) own_places 2
+module _ (b : List ℕ) (port : ℕ) (r : Bool) (e : PortsFrom b port) where
+  abbrev ports : Bool
+  ports = all_from (port_at_whole b) port_length next_places (port_place 0) own_places 2
 
-    abbrev behind_ports : Bool
-    behind_ports = and (devices_whole (drop devices_place b)) (and (tapes_whole b) (apart_whole b))
+  abbrev behind_ports : Bool
+  behind_ports = and (devices_whole (drop devices_place b)) (and (tapes_whole b) (apart_whole b))
 
-    pub ports_yes : r ≡ port_at_whole b place at → 0 < left → r ≡ true → PortsFrom b (place + port_length) (at + next_places) (left - 1)
-    ports_yes = turn_yes (port_at_whole b) port_length next_places place at left ports e r
+  abbrev its_place : ℕ
+  its_place = port_length * port
 
-    pub head_no : r ≡ port_at_whole b place at → 0 < left → r ≡ false → false ≡ head_whole b
+  abbrev its_own : ℕ
+  its_own = own_places + next_places * port
+
+  module _ (q : r ≡ port_at_whole b its_place its_own) (h : port < 2) where
+    pub ports_yes : r ≡ true → PortsFrom b (port + 1)
+    ports_yes z =
+        let p : port_length * port + port_length ≡ port_length * (port + 1) = omega arith in
+        let a : own_places + next_places * port + next_places ≡ own_places + next_places * (port + 1) = omega arith in
+        let l : 2 - port - 1 ≡ 2 - (port + 1) = omega arith in
+        rw (p, a, l) at (turn_yes (port_at_whole b) port_length next_places its_place its_own (2 - port) ports e r q (omega arith) z)
+
+    pub head_no : r ≡ false → false ≡ head_whole b
     unfolding head_whole
-    head_no q h z = and_no ports behind_ports ports refl (sym (turn_no (port_at_whole b) port_length next_places place at left ports e r q h z))
+    head_no z = and_no ports behind_ports ports refl (sym (turn_no (port_at_whole b) port_length next_places its_place its_own (2 - port) ports e r q (omega arith) z))
 
-    pub head_last : left ≤ 0 → r ≡ behind_ports → r ≡ head_whole b
-    unfolding head_whole
-    head_last h = and_yes ports behind_ports ports refl r (turn_last (port_at_whole b) port_length next_places place at left ports e h)
+  pub head_last : 2 ≤ port → r ≡ behind_ports → r ≡ head_whole b
+  unfolding head_whole
+  head_last h = and_yes ports behind_ports ports refl r (turn_last (port_at_whole b) port_length next_places its_place its_own (2 - port) ports e (omega arith))
 
 -- numbers made of bytes
 module _ (b : List ℕ) (t : Bool) (e : t ≡ unused (byte_at b 7) (byte_at b 8) (byte_at b 9) (byte_at b 10)) (h : t ≡ true) (n m : ℕ) where
@@ -157,17 +181,20 @@ unfolding apart_groups
 groups_told one other n m e f = rw (e, f)
 
 -- a turn over the blocks of a table: those that have C open are counted
-module _ (b : List ℕ) (goal at left tapes : ℕ) (e : tapes + tapes_from b at left ≡ goal) where
-  pub tapes_on : (n : ℕ) → 0 < left → n ≡ pick (eqb (byte_at b at) 5) 1 0 → tapes + n + tapes_from b (at + block_length) (left - 1) ≡ goal
+module _ (b : List ℕ) (goal place block tapes : ℕ) (e : tapes + tapes_from b (place + block_length * block) (8 - block) ≡ goal) where
+  pub tapes_on : (n : ℕ) → block < 8 → n ≡ pick (eqb (byte_at b (place + block_length * block)) 5) 1 0
+      → tapes + n + tapes_from b (place + block_length * (block + 1)) (8 - (block + 1)) ≡ goal
   unfolding tapes_from
   tapes_on n h q =
-      let z : left ≡ suc (left - 1) = omega arith in
-      let k : tapes_from b at left ≡ n + tapes_from b (at + block_length) (left - 1) = ap (tapes_from b at) z ∙ rw q in
-      omega (arith, k)
+      let at = place + block_length * block in
+      let further : at + block_length ≡ place + block_length * (block + 1) = omega arith in
+      let z : 8 - block ≡ suc (8 - (block + 1)) = omega arith in
+      let k : tapes_from b at (8 - block) ≡ n + tapes_from b (at + block_length) (8 - (block + 1)) = ap (tapes_from b at) z ∙ rw q in
+      rw further at (omega (arith, k, e))
 
-  pub tapes_all : left ≤ 0 → tapes ≡ goal
+  pub tapes_all : 8 ≤ block → tapes ≡ goal
   unfolding tapes_from
-  tapes_all h = let z : left ≡ 0 = omega arith in omega (arith, ap (tapes_from b at) z)
+  tapes_all h = let z : 8 - block ≡ 0 = omega arith in omega (arith, ap (tapes_from b (place + block_length * block)) z)
 
 abbrev mark_place : ℕ
 mark_place = devices_place + cassette_place

@@ -1,4 +1,5 @@
-// Whether the bytes of a lent state stand for an undamaged stick: each byte is looked at once, in the order of damage's Whole.
+// Whether the bytes of a lent state stand for an undamaged stick: each byte is looked at once, in the order of damage's Whole. Kinds, devices
+// and phases are numbers here, since a damaged byte stands for none: `stands` of layout speaks of any byte.
 #![tactic(auto)]
 
 ghost use Rattle.std.specs.Prelude.{◌≡◌, ◌+◌, ◌*◌, ◌≤◌, eqb, leb, length, drop};
@@ -57,41 +58,28 @@ fn neither(a: u8, b: u8) -> bool
 }
 
 // AUX1 is one that the device takes.
+#[tactic(auto, using(crate::proofs::Calls::calls), unfolding(damage::specs::Whole::aux1_whole))]
 fn aux1_whole(device: u8, aux1: u8) -> bool
     ensures { result ≡ aux1_whole device aux1 }
 {
-    if device == 1 {
-        if aux1 / 4 % 2 == 1 {
-            return aux1 % 2 == 1;
-        }
-        return true;
+    match device {
+        1 => !blocks::aux1_reads(aux1) || aux1 % 2 == 1,
+        2 => aux1 / 16 % 2 != 1,
+        4 => !blocks::aux1_reads(aux1),
+        5 => !blocks::aux1_reads(aux1) || !blocks::aux1_writes(aux1),
+        _ => !blocks::aux1_writes(aux1),
     }
-    if device == 2 {
-        return !(aux1 / 16 % 2 == 1);
-    }
-    if device == 3 {
-        return !(aux1 / 8 % 2 == 1);
-    }
-    if device == 4 {
-        return !(aux1 / 4 % 2 == 1);
-    }
-    if device == 5 {
-        if aux1 / 4 % 2 == 1 {
-            return !(aux1 / 8 % 2 == 1);
-        }
-        return true;
-    }
-    !(aux1 / 8 % 2 == 1)
 }
 
 // How a block has C open, by its AUX1.
+#[tactic(auto, using(crate::proofs::Calls::calls))]
 fn mark_of(aux1: u8) -> u8
     ensures { result ≡ mark_of aux1 }
 {
-    if aux1 / 4 % 2 == 1 {
+    if blocks::aux1_reads(aux1) {
         return 1;
     }
-    if aux1 / 8 % 2 == 1 {
+    if blocks::aux1_writes(aux1) {
         return 2;
     }
     3
@@ -108,16 +96,15 @@ fn mark_whole(mark: u8, device: u8, aux1: u8) -> bool
 }
 
 // Both of AUX1.
+#[tactic(auto, using(crate::proofs::Calls::calls))]
 fn directed(mark: u8, device: u8, aux1: u8) -> bool
     ensures { result ≡ and (aux1_whole device aux1) (mark_whole mark device aux1) }
 {
-    if aux1_whole(device, aux1) {
-        return mark_whole(mark, device, aux1);
-    }
-    false
+    aux1_whole(device, aux1) && mark_whole(mark, device, aux1)
 }
 
 // A device's number is at most its highest.
+#[tactic(auto, using(crate::proofs::Calls::calls), unfolding(damage::specs::Whole::highest_whole))]
 fn numbered(device: u8, number: u8) -> bool
     ensures { result ≡ leb number (highest_whole device) }
 {
@@ -156,6 +143,7 @@ fn placed(bytes: &[u8], at: usize, device: u8, number: u8, aux1: u8) -> bool
 }
 
 // The block whose three bytes begin at one place, and those of its own place at another.
+#[tactic(auto, using(crate::proofs::Calls::calls), unfolding(damage::specs::Whole::block_whole))]
 fn block(bytes: &[u8], place: usize, at: usize, mark: u8) -> bool
     requires { Blocks bytes.now place at 1 }
     ensures { result ≡ block_whole_in mark bytes.now place at }
@@ -166,24 +154,20 @@ fn block(bytes: &[u8], place: usize, at: usize, mark: u8) -> bool
     if device == 0 {
         return none(0, 0, number, aux1);
     }
-    if open_whole(mark, device, number, aux1) {
-        return placed(bytes, at, device, number, aux1);
-    }
-    false
+    open_whole(mark, device, number, aux1) && placed(bytes, at, device, number, aux1)
 }
 
 // Both of two blocks, where D may be open on either.
+#[tactic(auto, using(crate::proofs::Calls::calls), unfolding(damage::specs::Whole::two_whole))]
 fn both(bytes: &[u8], place: usize, at: usize, mark: u8) -> bool
     requires { Blocks bytes.now place at 2 }
     ensures { result ≡ two_whole mark bytes.now place at }
 {
-    if block(bytes, place, at, mark) {
-        return block(bytes, place + BLOCK, at + disk::PLACE, mark);
-    }
-    false
+    block(bytes, place, at, mark) && block(bytes, place + BLOCK, at + disk::PLACE, mark)
 }
 
 // A block that has not D open: it is closed, or some OPEN makes it.
+#[tactic(auto, using(crate::proofs::Calls::calls))]
 fn plain(mark: u8, device: u8, number: u8, aux1: u8) -> bool
     ensures { result ≡ pick (eqb device 0) (unused 0 0 number aux1) (open_whole mark device number aux1) }
 {
@@ -229,15 +213,8 @@ fn table(bytes: &[u8], from: usize, mark: u8) -> bool
     requires { from + 8 * place_length ≤ length bytes.now }
     ensures { result ≡ table_whole mark bytes.now from }
 {
-    let mut place = PHASE;
-    let mut at = from;
-    let mut left: u8 = 4;
-    while 0 < left {
-        if two(bytes, place, at, mark) {
-            place += PAIR;
-            at += PLACES;
-            left -= 1;
-        } else {
+    for pair in 0..4 {
+        if !two(bytes, PHASE + PAIR * pair, from + PLACES * pair, mark) {
             return false;
         }
     }
@@ -266,14 +243,12 @@ fn gathers(bytes: &[u8]) -> bool
     false
 }
 
+#[tactic(auto, using(crate::proofs::Calls::calls), unfolding(damage::specs::Whole::ready_whole))]
 fn is_ready(bytes: &[u8]) -> bool
     requires { port_length ≤ length bytes.now }
     ensures { result ≡ ready_whole bytes.now }
 {
-    if rest(bytes) {
-        return none(0, bytes[4], bytes[5], bytes[6]);
-    }
-    false
+    rest(bytes) && none(0, bytes[4], bytes[5], bytes[6])
 }
 
 fn replies(bytes: &[u8]) -> bool
@@ -293,98 +268,70 @@ fn replies(bytes: &[u8]) -> bool
 }
 
 // A running request's kind is 0 to 5, its device 1 to 6.
+#[tactic(auto, using(crate::proofs::Calls::calls), unfolding(layout::specs::Stands::run_stands))]
 fn run_stands(kind: u8, device: u8) -> bool
     ensures { result ≡ run_stands kind device }
 {
-    if kind < 6 {
-        if 1 <= device {
-            return device <= 6;
-        }
-        return false;
-    }
-    false
+    kind < 6 && 1 <= device && device <= 6
 }
 
 // AUX1 allows the direction of this kind.
+#[tactic(auto, using(crate::proofs::Calls::calls), unfolding(damage::specs::Whole::direction_whole))]
 fn directs(kind: u8, aux1: u8) -> bool
     ensures { result ≡ direction_whole kind aux1 }
 {
     if kind < 3 {
-        return aux1 / 4 % 2 == 1;
+        return blocks::aux1_reads(aux1);
     }
-    aux1 / 8 % 2 == 1
+    blocks::aux1_writes(aux1)
 }
 
 // The block of this IOCB is open on the device and for the direction.
+#[tactic(auto, using(crate::proofs::Calls::calls), unfolding(damage::specs::Whole::opened_whole))]
 fn opened(bytes: &[u8], kind: u8, device: u8, iocb: u8) -> bool
     requires { Ported bytes.now iocb }
     ensures { result ≡ opened_whole bytes.now kind device iocb }
 {
     let place = PHASE + BLOCK * (iocb as usize);
-    if bytes[place] == device {
-        return directs(kind, bytes[place + 2]);
-    }
-    false
+    bytes[place] == device && directs(kind, bytes[place + 2])
 }
 
 // E runs in mode 0, S in another.
+#[tactic(auto, using(crate::proofs::Calls::calls), unfolding(damage::specs::Whole::mode_whole))]
 fn mode_fits(device: u8, mode: u8) -> bool
     ensures { result ≡ mode_whole device mode }
 {
-    if device == 1 {
-        return mode == 0;
+    match device {
+        1 => mode == 0,
+        2 => 0 < mode,
+        _ => true,
     }
-    if device == 2 {
-        return 0 < mode;
-    }
-    true
 }
 
 // Something is left, or of a record counted.
+#[tactic(auto, using(crate::proofs::Calls::calls), unfolding(damage::specs::Whole::some_left))]
 fn some(kind: u8, left: u16, count: u16) -> bool
     ensures { result ≡ some_left kind left count }
 {
-    if 0 < left {
-        return true;
-    }
-    if kind == 1 {
-        return false;
-    }
-    if kind == 4 {
-        return false;
-    }
-    0 < count
+    0 < left || kind != 1 && kind != 4 && 0 < count
 }
 
 // What is left and what is counted lie in the area.
+#[tactic(auto, using(crate::proofs::Calls::calls), unfolding(damage::specs::Whole::buffer_whole))]
 fn buffer(kind: u8, left: u16, place: u16, count: u16) -> bool
     ensures { result ≡ buffer_whole kind left place count }
 {
-    if some(kind, left, count) {
-        if place as usize + left as usize <= blocks::AREA {
-            return count <= place;
-        }
-        return false;
-    }
-    false
+    some(kind, left, count) && place as usize + left as usize <= blocks::AREA && count <= place
 }
 
+#[tactic(auto, using(crate::proofs::Calls::calls), unfolding(damage::specs::Whole::span_whole))]
 fn span(kind: u8, left: u16, place: u16, count: u16) -> bool
     ensures { result ≡ span_whole kind left place count }
 {
-    if kind == 0 {
-        if left == 0 {
-            return count == 0;
-        }
-        return false;
+    match kind {
+        0 | 3 => left == 0 && count == 0,
+        _ => buffer(kind, left, place, count),
     }
-    if kind == 3 {
-        if left == 0 {
-            return count == 0;
-        }
-        return false;
-    }
-    buffer(kind, left, place, count)
 }
 
 fn runs(bytes: &[u8], mode: u8) -> bool
@@ -414,35 +361,27 @@ fn runs(bytes: &[u8], mode: u8) -> bool
     false
 }
 
+#[tactic(auto, using(crate::proofs::Calls::calls), unfolding(damage::specs::Whole::phase_whole))]
 fn phase(bytes: &[u8], mode: u8) -> bool
     requires { port_length ≤ length bytes.now }
     ensures { result ≡ phase_whole bytes.now mode }
 {
-    let number = bytes[0];
-    if number == 0 {
-        return gathers(bytes);
+    match bytes[0] {
+        0 => gathers(bytes),
+        1 => is_ready(bytes),
+        2 => runs(bytes, mode),
+        3 => replies(bytes),
+        _ => false,
     }
-    if number == 1 {
-        return is_ready(bytes);
-    }
-    if number == 2 {
-        return runs(bytes, mode);
-    }
-    if number == 3 {
-        return replies(bytes);
-    }
-    false
 }
 
 // The places of its blocks begin behind its own bytes.
+#[tactic(auto, using(crate::proofs::Calls::calls), unfolding(damage::specs::Whole::port_whole))]
 fn port(bytes: &[u8], at: usize, mode: u8, mark: u8) -> bool
     requires { at + 8 * place_length ≤ length bytes.now }
     ensures { result ≡ port_whole bytes.now mode mark at }
 {
-    if table(bytes, at, mark) {
-        return phase(bytes, mode);
-    }
-    false
+    table(bytes, at, mark) && phase(bytes, mode)
 }
 
 // The port whose bytes begin at this place.
@@ -453,16 +392,11 @@ fn port_at(state: &[u8], place: usize, at: usize, mode: u8, mark: u8) -> bool
     port(&state[place..], at, mode, mark)
 }
 
+#[tactic(auto, using(crate::proofs::Calls::calls), unfolding(damage::specs::Whole::text_whole))]
 fn text(row: u8, column: u16) -> bool
     ensures { result ≡ text_whole row column }
 {
-    if row < 24 {
-        if 2 <= column {
-            return column <= 39;
-        }
-        return false;
-    }
-    false
+    row < 24 && 2 <= column && column <= 39
 }
 
 fn picture(mode: u8, row: u8, column: u16) -> bool
@@ -491,35 +425,23 @@ fn cursor(mode: u8, row: u8, low: u8, high: u8) -> bool
     picture(mode, row, column)
 }
 
+#[tactic(auto, using(crate::proofs::Calls::calls), unfolding(damage::specs::Whole::reading_whole))]
 fn read_column(byte: u8) -> bool
     ensures { result ≡ reading_whole byte }
 {
-    if byte == 255 {
-        return true;
-    }
-    if 2 <= byte {
-        return byte <= 40;
-    }
-    false
+    byte == 255 || 2 <= byte && byte <= 40
 }
 
+#[tactic(auto, using(crate::proofs::Calls::calls), unfolding(damage::specs::Whole::console_whole))]
 fn console(bytes: &[u8]) -> bool
     requires { console_length ≤ length bytes.now }
     ensures { result ≡ console_whole bytes.now }
 {
-    if cursor(bytes[0], bytes[1], bytes[2], bytes[3]) {
-        if read_column(bytes[6]) {
-            if bytes[5] < 2 {
-                if bytes[8] <= 2 {
-                    return bytes[9] <= 1;
-                }
-                return false;
-            }
-            return false;
-        }
-        return false;
-    }
-    false
+    cursor(bytes[0], bytes[1], bytes[2], bytes[3])
+        && read_column(bytes[6])
+        && bytes[5] < 2
+        && bytes[8] <= 2
+        && bytes[9] <= 1
 }
 
 // The printer's used length is one of its paper.
@@ -565,13 +487,9 @@ fn tapes_from(state: &[u8], place: usize) -> u16
     requires { place + table_length ≤ length state.now }
     ensures { result ≡ tapes_from state.now place 8 }
 {
-    let mut at = place;
-    let mut left: u8 = 8;
     let mut tapes: u16 = 0;
-    while 0 < left {
-        tapes += tape(state[at]) as u16;
-        at += BLOCK;
-        left -= 1;
+    for block in 0..8 {
+        tapes += tape(state[place + BLOCK * block]) as u16;
     }
     tapes
 }
@@ -588,22 +506,16 @@ fn tapes(state: &[u8]) -> bool
 }
 
 // The number of a device's group.
+#[tactic(auto, using(crate::proofs::Calls::calls), unfolding(damage::specs::Whole::group_whole))]
 fn group(device: u8) -> u8
     ensures { result ≡ group_whole device }
 {
-    if device == 4 {
-        return 2;
+    match device {
+        1..=3 => 1,
+        4 => 2,
+        5 => 3,
+        _ => 4,
     }
-    if device == 5 {
-        return 3;
-    }
-    if 1 <= device {
-        if device <= 3 {
-            return 1;
-        }
-        return 4;
-    }
-    4
 }
 
 // The groups of two devices are not one.
@@ -614,17 +526,12 @@ fn apart_groups(one: u8, other: u8) -> bool
 }
 
 // The two ports hold no group both: only a running request holds one.
+#[tactic(auto, using(crate::proofs::Calls::calls), unfolding(damage::specs::Whole::apart_whole))]
 fn apart(state: &[u8]) -> bool
     requires { Headed state.now }
     ensures { result ≡ apart_whole state.now }
 {
-    if state[0] == 2 {
-        if state[PORT] == 2 {
-            return apart_groups(state[2], state[PORT + 2]);
-        }
-        return true;
-    }
-    true
+    state[0] != 2 || state[PORT] != 2 || apart_groups(state[2], state[PORT + 2])
 }
 
 // Behind the ports: the devices' numbers, the tape's blocks, and the groups.
@@ -647,15 +554,8 @@ fn head(state: &[u8]) -> bool
 {
     let mode = state[MODE];
     let mark = state[MARK];
-    let mut place: usize = 0;
-    let mut at = OWN;
-    let mut left: u8 = 2;
-    while 0 < left {
-        if port_at(state, place, at, mode, mark) {
-            place += PORT;
-            at += NEXT;
-            left -= 1;
-        } else {
+    for port in 0..2 {
+        if !port_at(state, PORT * port, OWN + NEXT * port, mode, mark) {
             return false;
         }
     }

@@ -148,12 +148,12 @@ pub fn transfer_plan(reads: bool, records: bool, device: Device, aux1: u8, call:
     ensures { result ≡ transfer_plan reads records device aux1 call }
 {
     if reads {
-        if aux1 / 4 % 2 == 1 {
+        if blocks::aux1_reads(aux1) {
             return area_plan(reads, records, device, call);
         }
         return Plan::Free(Errand::Status(0x83, call.a));
     }
-    if aux1 / 8 % 2 == 1 {
+    if blocks::aux1_writes(aux1) {
         return area_plan(reads, records, device, call);
     }
     Plan::Free(Errand::Status(0x87, call.a))

@@ -30,16 +30,12 @@ fn carry_at(port: u8, run: Run, carried: Carried, state: &mut [u8])
 {
     match carried {
         Carried::On(left, place, count, a) => {
-            let kind = run.kind;
-            let device = run.device;
             let more = Run {
-                kind: kind,
-                device: device,
-                iocb: run.iocb,
-                left: left,
-                place: place,
-                count: count,
-                a: a,
+                left,
+                place,
+                count,
+                a,
+                ..run
             };
             ports::set_run(port, more, state);
         }

@@ -29,13 +29,6 @@ pub fn take_at(port: u8, byte: u8, state: &mut [u8], area: &[u8], media: &Media<
     4
 }
 
-// The answer in the low byte, the reply byte in the high.
-fn both(answer: u8, byte: u8) -> u16
-    ensures { result ≡ answer + 256 * byte }
-{
-    answer as u16 + 256 * (byte as u16)
-}
-
 // The next byte of a port's reply, above the answer.
 pub fn give_at(port: u8, state: &mut [u8], area: &[u8], media: &Media<'_>) -> u16
     requires { Called port (buffers_in state.old area.now media.now) }
@@ -48,9 +41,9 @@ pub fn give_at(port: u8, state: &mut [u8], area: &[u8], media: &Media<'_>) -> u1
         let given = wire::give(reply, &state[room..past]);
         let next = given.phase;
         ports::set_phase(port, next, state);
-        return both(0, given.byte);
+        return base::word(0, given.byte);
     }
-    both(5, 0)
+    base::word(5, 0)
 }
 
 // A port's running request holds the console.

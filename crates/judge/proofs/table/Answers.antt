@@ -3,21 +3,17 @@
 use mathlib.Core.Path.{refl}
 use Rattle.damage.specs.Whole.{table_whole}
 use Rattle.judge.proofs.Calls.{table_yes, table_no, table_last}
-use borrow.Author.Rules.{rules}
 use Rattle.judge.proofs.table.Goals as goal
 
-pub loop-left-init : goal.loop-left-init
+pub loop-pair-init : goal.loop-pair-init
 unfolding table_whole
-loop-left-init c = (search rules, (search rules, refl))
+loop-pair-init c = refl
 
-pub loop-left-preserved : goal.loop-left-preserved
-unfolding table_whole
-loop-left-preserved c = (search rules, (search rules, search table_yes))
+pub loop-pair-preserved : goal.loop-pair-preserved
+loop-pair-preserved c = search table_yes
 
-pub returns-else-two : goal.returns-else-two
-unfolding table_whole
-returns-else-two c = search table_no
+pub returns-then-not-two : goal.returns-then-not-two
+returns-then-not-two c = search table_no
 
 pub returns : goal.returns
-unfolding table_whole
 returns c = search table_last
