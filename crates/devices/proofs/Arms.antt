@@ -2,12 +2,9 @@
 -- Assumes nothing.
 use mathlib.Core.Path.{◌≡◌, ◌∙◌, refl, sym, ap}
 use mathlib.Core.List.{List, ◌++◌}
-use mathlib.Core.Bool.{false}
-use Prim.Native.Nat.{ℕ, ◌-◌, ◌≤◌, ◌<◌}
+use Prim.Native.Nat.{ℕ, ◌-◌, ◌≤◌}
 use native.Mathlib.Nat.{add-zero}
 use native.Mathlib.Omega.{arith}
-use lib.Dec.{eqb}
-use borrow.Author.Tests.{lt-ltb, le-ltb}
 use lib.ListN.{length, take, drop, replicate, length-drop, take-append-drop}
 use lib.Seq.{sets}
 use Rattle.base.proofs.Lists.{part_tail, back_tail}
@@ -38,21 +35,12 @@ use Rattle.drives.specs.Drives.{disk_lent, get_disk, put_disk}
 use Rattle.drives.proofs.Laws.{place_still}
 use Rattle.recorder.specs.Recorder.{tape_lent, get_tape, put_tape}
 use Rattle.recorder.proofs.Laws.{sets_part, tape_still}
-use Rattle.devices.specs.declared.Group.{Group}
 use Rattle.devices.specs.declared.Group.TheVariants as groups
 use Rattle.devices.specs.declared.Owner.{Owner}
 use Rattle.devices.specs.declared.Owner.TheVariants as owner
-use Rattle.devices.specs.Groups.{group_number, clash, owner_of}
+use Rattle.devices.specs.Groups.{owner_of}
 use Rattle.devices.specs.Lent.{DevicesLent, devices_lent, printer_with, with_tape, with_disk, get_lent, put_lent, lent_acts, lent_of, fresh_groups, Freshens}
 use Rattle.layout.proofs.WriteRead.{bytes_drop, printer_back, Known, bytes_of}
-
--- the numbers of two groups compared
-module _ (one other : Group) (n m : ℕ) (is_n : n ≡ group_number one) where
-  pub clash_some : 0 < n → m ≡ group_number other → eqb n m ≡ clash one other
-  clash_some h is_m = rw (is_m, ← is_n, lt-ltb 0 n h)
-
-  pub clash_none : n ≤ 0 → false ≡ clash one other
-  clash_none h = rw (← is_n, le-ltb 0 n h)
 
 -- a device's owner, by the arm that the match found
 pub owner_arm : (d w : Device) (o : Owner) → d ≡ w → o ≡ owner_of w → o ≡ owner_of d

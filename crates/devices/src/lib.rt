@@ -10,7 +10,7 @@ ghost use Rattle.std.specs.Prelude.{◌≡◌};
 ghost use Rattle.handler.specs.Answer.{answer};
 ghost use Rattle.layout.specs.Places.{Numbers};
 ghost use Rattle.recorder.specs.Recorder.{Wound};
-ghost use Rattle.devices.specs.Groups.{owner_of, group_of, held_of, group_number, clash};
+ghost use Rattle.devices.specs.Groups.{owner_of, group_of, held_of, clash};
 ghost use Rattle.devices.specs.Lent.{Lends, lent_acts};
 ghost use Rattle.devices.specs.Media.{lent_with, SameBuffers};
 
@@ -19,7 +19,7 @@ use console::Handler;
 use handler::{Asked, Done, Got};
 
 // The groups that requests share; a message may need none.
-#[derive(Clone, Copy)]
+#[derive(Clone, Copy, PartialEq, Eq)]
 pub enum Group {
     Nobody,
     Console,
@@ -63,9 +63,7 @@ pub fn group_of(device: Device) -> Group
     ensures { result ≡ group_of device }
 {
     match device {
-        Device::E => Group::Console,
-        Device::S => Group::Console,
-        Device::K => Group::Console,
+        Device::E | Device::S | Device::K => Group::Console,
         Device::P => Group::Printer,
         Device::C => Group::Cassette,
         Device::D => Group::Disk,
@@ -77,25 +75,8 @@ pub fn held_by(phase: Phase) -> Group
     ensures { result ≡ held_of phase }
 {
     match phase {
-        Phase::Gathering(gather) => Group::Nobody,
-        Phase::Ready(header) => Group::Nobody,
-        Phase::Running(run) => {
-            let device = run.device;
-            group_of(device)
-        }
-        Phase::Replying(reply) => Group::Nobody,
-    }
-}
-
-fn group_number(group: Group) -> u8
-    ensures { result ≡ group_number group }
-{
-    match group {
-        Group::Nobody => 0,
-        Group::Console => 1,
-        Group::Printer => 2,
-        Group::Cassette => 3,
-        Group::Disk => 4,
+        Phase::Running(run) => group_of(run.device),
+        Phase::Gathering(_) | Phase::Ready(_) | Phase::Replying(_) => Group::Nobody,
     }
 }
 
@@ -103,11 +84,10 @@ fn group_number(group: Group) -> u8
 pub fn clashes(one: Group, other: Group) -> bool
     ensures { result ≡ clash one other }
 {
-    let number = group_number(one);
-    if 0 < number {
-        return number == group_number(other);
+    match one {
+        Group::Nobody => false,
+        _ => one == other,
     }
-    false
 }
 
 // OPEN, with an AUX1 that the device offers. It writes no tape.

@@ -190,7 +190,8 @@ module _ (b : List ℕ) (goal place block tapes : ℕ) (e : tapes + tapes_from b
       let further : at + block_length ≡ place + block_length * (block + 1) = omega arith in
       let z : 8 - block ≡ suc (8 - (block + 1)) = omega arith in
       let k : tapes_from b at (8 - block) ≡ n + tapes_from b (at + block_length) (8 - (block + 1)) = ap (tapes_from b at) z ∙ rw q in
-      rw further at (omega (arith, k, e))
+      let all : tapes + n + tapes_from b (at + block_length) (8 - (block + 1)) ≡ goal = omega (arith, k, e) in
+      rw further at all
 
   pub tapes_all : 8 ≤ block → tapes ≡ goal
   unfolding tapes_from
