@@ -11,6 +11,14 @@ use Rattle.base.proofs.byte_at.Kinds as base_byte_at_kinds
 use Rattle.base.proofs.byte_at.Reads as base_byte_at_reads
 use Rattle.base.proofs.set_byte.Kinds as base_set_byte_kinds
 use Rattle.base.proofs.set_byte.Reads as base_set_byte_reads
+use Rattle.base.proofs.word.Kinds as base_word_kinds
+use Rattle.base.proofs.word.Reads as base_word_reads
+use Rattle.base.proofs.word_at.Kinds as base_word_at_kinds
+use Rattle.base.proofs.word_at.Reads as base_word_at_reads
+use Rattle.base.proofs.lay.Kinds as base_lay_kinds
+use Rattle.base.proofs.lay.Reads as base_lay_reads
+use Rattle.base.proofs.set_word.Kinds as base_set_word_kinds
+use Rattle.base.proofs.set_word.Reads as base_set_word_reads
 use Rattle.base.proofs.Decided as base
 use Rattle.names.proofs.none.Kinds as names_none_kinds
 use Rattle.names.proofs.none.Reads as names_none_reads
@@ -142,8 +150,6 @@ use Rattle.listing.proofs.record_length.Reads as listing_record_length_reads
 use Rattle.listing.proofs.read.Kinds as listing_read_kinds
 use Rattle.listing.proofs.read.Reads as listing_read_reads
 use Rattle.listing.proofs.Decided as listing
-use Rattle.files.proofs.word.Kinds as files_word_kinds
-use Rattle.files.proofs.word.Reads as files_word_reads
 use Rattle.files.proofs.read.Kinds as files_read_kinds
 use Rattle.files.proofs.read.Reads as files_read_reads
 use Rattle.files.proofs.Decided as files
@@ -454,7 +460,11 @@ pub data Promises : Type 3 where
 pub base_decided : Promises
 base_decided =
     promise base_byte_at_kinds.ps base_byte_at_kinds.r base_byte_at_reads.Pre base_byte_at_reads.Learnt base.byte_at_decides base.byte_at_allows (
-    promise base_set_byte_kinds.ps base_set_byte_kinds.r base_set_byte_reads.Pre base_set_byte_reads.Learnt base.set_byte_decides base.set_byte_allows none)
+    promise base_set_byte_kinds.ps base_set_byte_kinds.r base_set_byte_reads.Pre base_set_byte_reads.Learnt base.set_byte_decides base.set_byte_allows (
+    promise base_word_kinds.ps base_word_kinds.r base_word_reads.Pre base_word_reads.Learnt base.word_decides base.word_allows (
+    promise base_word_at_kinds.ps base_word_at_kinds.r base_word_at_reads.Pre base_word_at_reads.Learnt base.word_at_decides base.word_at_allows (
+    promise base_lay_kinds.ps base_lay_kinds.r base_lay_reads.Pre base_lay_reads.Learnt base.lay_decides base.lay_allows (
+    promise base_set_word_kinds.ps base_set_word_kinds.r base_set_word_reads.Pre base_set_word_reads.Learnt base.set_word_decides base.set_word_allows none)))))
 
 pub names_decided : Promises
 names_decided =
@@ -553,8 +563,7 @@ listing_decided =
 
 pub files_decided : Promises
 files_decided =
-    promise files_word_kinds.ps files_word_kinds.r files_word_reads.Pre files_word_reads.Learnt files.word_decides files.word_allows (
-    promise files_read_kinds.ps files_read_kinds.r files_read_reads.Pre files_read_reads.Learnt files.read_decides files.read_allows listing_decided)
+    promise files_read_kinds.ps files_read_kinds.r files_read_reads.Pre files_read_reads.Learnt files.read_decides files.read_allows listing_decided
 
 pub disk_decided : Promises
 disk_decided =
