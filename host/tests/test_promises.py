@@ -31,7 +31,7 @@ FREE |= {crate.name for crate in CRATES.iterdir()}
 
 DECLARED = {
     ".antt": (r"^ *(?:abbrev |unfoldable )?(?:pub )?(?:record |data )?{}(?: [({{].*)? :",),
-    ".rt": (r"\b(?:fn|struct|enum|const) {}\b", r"^ *pub {}:"),
+    ".rt": (r"\b(?:fn|struct|enum|const|type) {}\b", r"^ *pub {}:"),
     ".rs": (r"\bfn {}\b",),
     ".py": (r"\b(?:def|class) {}\b", r"^{}\b.* = "),
     ".md": (),
