@@ -148,8 +148,6 @@ use Rattle.listing.proofs.record_length.Reads as listing_record_length_reads
 use Rattle.listing.proofs.read.Kinds as listing_read_kinds
 use Rattle.listing.proofs.read.Reads as listing_read_reads
 use Rattle.listing.proofs.Decided as listing
-use Rattle.files.proofs.word.Kinds as files_word_kinds
-use Rattle.files.proofs.word.Reads as files_word_reads
 use Rattle.files.proofs.read.Kinds as files_read_kinds
 use Rattle.files.proofs.read.Reads as files_read_reads
 use Rattle.files.proofs.Decided as files
@@ -560,8 +558,7 @@ listing_decided =
 
 pub files_decided : Promises
 files_decided =
-    promise files_word_kinds.ps files_word_kinds.r files_word_reads.Pre files_word_reads.Learnt files.word_decides files.word_allows (
-    promise files_read_kinds.ps files_read_kinds.r files_read_reads.Pre files_read_reads.Learnt files.read_decides files.read_allows listing_decided)
+    promise files_read_kinds.ps files_read_kinds.r files_read_reads.Pre files_read_reads.Learnt files.read_decides files.read_allows listing_decided
 
 pub disk_decided : Promises
 disk_decided =

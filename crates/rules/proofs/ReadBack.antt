@@ -12,7 +12,7 @@ use lib.Dec.{eqb, leb, ltb}
 use lib.ListN.{length, get_or, set, take, drop, replicate, length-append, take-append-drop}
 use lib.Seq.{sets, length-sets, take-add, length-take-le}
 use borrow.Author.Tests.{le-ltb, le-leb, lt-leb, eq-eqb, ne_eqb}
-use Rattle.std.specs.Prelude.{Result, Ok, Err, Some, None}
+use Rattle.std.specs.Prelude.{Result, Ok, Err}
 use Rattle.base.specs.Choice.{or, bit}
 use Rattle.base.proofs.Choices.{pick_go, choose_go, by_eq}
 use Rattle.base.proofs.Parts.{cat, part_same}

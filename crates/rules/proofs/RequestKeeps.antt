@@ -10,7 +10,7 @@ use borrow.Author.Tests.{ltb-false}
 use lib.Dec.{eqb, leb, ltb}
 use lib.ListN.{length}
 use lib.Seq.{length-sets}
-use Rattle.std.specs.Prelude.{Option, Result, Ok, Err, Some, None}
+use Rattle.std.specs.Prelude.{Option, Result, Ok, Err}
 use Rattle.base.specs.Choice.{or, within}
 use Rattle.base.proofs.Choices.{pick_go, choose_go}
 use Rattle.handler.specs.declared.Asked.{Asked}

@@ -2,10 +2,10 @@
 -- says so. From the message, the port's blocks and area, and the device alone. With document 02's Asks 1, 7 and 12: the lines of the
 -- tape and of the diskettes.
 -- Assumes nothing.
-use Rattle.std.specs.Prelude.{◌≡◌, ◌↔◌, ◌⊎◌, Bool, true, false, List, [], ◌∷◌, ℕ, ◌+◌, ◌*◌, ◌<◌, ◌≤◌, length, get_or, drop, Option, Result, Ok, Err, Some, None}
+use Rattle.std.specs.Prelude.{◌≡◌, ◌↔◌, ◌⊎◌, Bool, true, false, List, [], ◌∷◌, ℕ, ◌+◌, ◌*◌, ◌<◌, ◌≤◌, length, get_or, drop, Option, Result, Err, Some, None}
 use Rattle.base.specs.Choice.{bit}
 use Rattle.names.specs.declared.NameError.{NameError}
-use Rattle.names.specs.declared.NameError.TheVariants.{Past, Bad}
+use Rattle.names.specs.declared.NameError.TheVariants.{Past}
 use Rattle.names.specs.Names.{no_name, as_read}
 use Rattle.names.specs.Read.{NameReads}
 use Rattle.handler.specs.declared.Done.TheVariants as done
