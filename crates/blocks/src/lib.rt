@@ -19,6 +19,7 @@ pub enum Device {
     D,
 }
 
+// No Option: document 01 asks for an enum with the open case's data (docs/DECISIONS.md, "Forms").
 #[derive(Clone, Copy)]
 pub enum BlockState {
     Closed,

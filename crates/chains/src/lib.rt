@@ -65,7 +65,7 @@ pub fn keep(image: &[u8], marks: &mut [u8; MARKS], file: u8, first: u16) -> Walk
     Walk { last, count: 719 }
 }
 
-// 1 for a sector that is neither reserved nor claimed.
+// 1 for a sector that is neither reserved nor claimed: a bit of the map, and a number that is summed.
 pub fn free(marks: &[u8], sector: u16) -> u8
     ensures { result ≡ pick (is_free (marked marks.now) sector) 1 0 }
 {

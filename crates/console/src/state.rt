@@ -32,7 +32,7 @@ impl Console {
         }
     }
 
-    // E's part.
+    // E's part, field by field: it is another type, and S's part shares its cursor.
     pub fn editor(self) -> Editor
         ensures { result ≡ editor_of self }
     {

@@ -42,7 +42,8 @@ pub enum Got {
     Refused(u8),
 }
 
-// A PUT, an OPEN or another act: success, or a refusal with its status from $80.
+// A PUT, an OPEN or another act: success, or a refusal with its status from $80. A Result with an error enum were no plainer: one caller asks
+// which it is (cio's open), and `Refused(0x91)` reads as document 01's "else $91".
 #[derive(Clone, Copy)]
 pub enum Done {
     Success,

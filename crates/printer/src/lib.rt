@@ -10,6 +10,7 @@ use handler::Done;
 // The bytes of the lent paper.
 pub const PAPER: u16 = 4096;
 
+// How much of the paper is used stands beside it: the paper is lent, and there is no heap.
 #[derive(Clone, Copy)]
 pub struct Printer {
     pub used: u16,

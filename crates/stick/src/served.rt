@@ -8,7 +8,7 @@ ghost use Rattle.calls.specs.Parts.{Called, Rooms, console_held_on, key_on};
 use devices::{Group, Media};
 use layout::places::{DEVICES, ROOM, ROOMS};
 
-// A byte offered by a port's host.
+// A byte offered by a port's host. What the calls answer are the numbers that C is told.
 pub fn take_at(port: u8, byte: u8, state: &mut [u8], area: &[u8], media: &Media<'_>) -> u8
     requires { Called port (buffers_in state.old area.now media.now) }
     ensures { left result 0 (buffers_in state.new area.now media.now) ≡ left_of (take_at port (stick_by (buffers_in state.old area.now media.now)) (lent_by (buffers_in state.old area.now media.now)) byte) }

@@ -8,7 +8,7 @@ ghost use Rattle.transfer.specs.Transfer.{next_of, progress, further_of, onward_
 use blocks::{Phase, Run, Way};
 use handler::{Done, Got};
 
-// The request goes on, or ends with status, count and A.
+// The request goes on, or ends with status, count and A. A Result were no plainer: an end is no error, and each case has its own numbers.
 #[derive(Clone, Copy)]
 pub enum Next {
     On(Run),

@@ -15,6 +15,7 @@ use console::state::Console;
 use layout::places::{BLOCK, PHASE, PORT};
 use printer::Printer;
 
+// No impl of From: the numbers are the lent state's own, and their definitions stand in layout, above the enums' crate.
 fn device_number(device: Device) -> u8
     ensures { result ≡ device_number device }
 {
