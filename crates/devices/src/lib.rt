@@ -18,7 +18,8 @@ use blocks::{Device, Phase};
 use console::Handler;
 use handler::{Asked, Done, Got};
 
-// The groups that requests share; a message may need none.
+// The groups that requests share; a message may need none. Nobody is no Option's None: the definitions over groups, and the machine of
+// `serial`, take it as a group whose part is empty (`Part`).
 #[derive(Clone, Copy, PartialEq, Eq)]
 pub enum Group {
     Nobody,
