@@ -8,8 +8,8 @@ use Rattle.handler.specs.declared.Got.{Got}
 use Rattle.handler.specs.declared.Done.{Done}
 use Rattle.handler.specs.Answer.{Answer, answer}
 use Rattle.devices.specs.declared.Media.{Media}
-use Rattle.devices.specs.Lent.{DevicesLent, devices_lent, lent_acts, lent_of, fresh_groups}
-use Rattle.devices.specs.Media.{lent_with, holding, SameBuffers}
+use Rattle.devices.specs.Lent.{DevicesLent, lent_acts, lent_of, fresh_groups}
+use Rattle.devices.specs.Media.{lent_with}
 use Rattle.devices.proofs.Alike.{left_in, left_alike}
 use Rattle.devices.proofs.Images.{images_kept, left_with, tape_stays, media_stay}
 use Rattle.devices.proofs.owner_of.Kinds as owner_of_kinds
