@@ -4,6 +4,5 @@ pub mod Stores
 pub mod Links
 pub mod TickAnswers
 pub mod Serving
-pub mod Numbers
 pub mod Passing
 pub mod Images

@@ -1,5 +1,6 @@
 -- What each answer of a tick leaves is what the tick of the stick says.
 -- Assumes nothing.
+use mathlib.Core.Logic.{◌⊎◌, inl, inr}
 use mathlib.Core.Path.{◌≡◌, ◌∙◌, sym, ap}
 use mathlib.Core.Bool.{Bool, true, false}
 use mathlib.Core.List.{List}
@@ -66,13 +67,17 @@ module _ (port : ℕ) (b : Buffers) (c : Called port b) where
     unfolding tick_at
     by x t z q = q ∙ ap (λ (y : Phase). left_of (ticked_by (tick_port port y (held_of (other_at port s).phase) (reach_at port s l)))) (own x z)
 
-    pub tick_gathering : (g : Gather) → phase ≡ Gathering g → left_alone 7 b ≡ left_of (tick_at port s l)
+    tick_gathering : (g : Gather) → phase ≡ Gathering g → left_alone 7 b ≡ left_of (tick_at port s l)
     unfolding tick_port
     tick_gathering g z = by (Gathering g) (left_alone 7 b) z (stays 7)
 
-    pub tick_replying : (r : Reply) → phase ≡ Replying r → left_alone 7 b ≡ left_of (tick_at port s l)
+    tick_replying : (r : Reply) → phase ≡ Replying r → left_alone 7 b ≡ left_of (tick_at port s l)
     unfolding tick_port
     tick_replying r z = by (Replying r) (left_alone 7 b) z (stays 7)
+
+    pub tick_idle : ((g : Gather) × phase ≡ Gathering g) ⊎ ((r : Reply) × phase ≡ Replying r) → left_alone 7 b ≡ left_of (tick_at port s l)
+    tick_idle (inl (g, z)) = tick_gathering g z
+    tick_idle (inr (r, z)) = tick_replying r z
 
     pub tick_running : (run : Run) (b' : Buffers) → phase ≡ Running run → b' ≡ advance_on port run b → left 0 0 b' ≡ left_of (tick_at port s l)
     unfolding tick_port

@@ -318,16 +318,6 @@ use Rattle.ports.proofs.set_block.Kinds as ports_set_block_kinds
 use Rattle.ports.proofs.set_block.Reads as ports_set_block_reads
 use Rattle.ports.proofs.set_port.Kinds as ports_set_port_kinds
 use Rattle.ports.proofs.set_port.Reads as ports_set_port_reads
-use Rattle.ports.proofs.phase_number.Kinds as ports_phase_number_kinds
-use Rattle.ports.proofs.phase_number.Reads as ports_phase_number_reads
-use Rattle.ports.proofs.gather_of.Kinds as ports_gather_of_kinds
-use Rattle.ports.proofs.gather_of.Reads as ports_gather_of_reads
-use Rattle.ports.proofs.header_of.Kinds as ports_header_of_kinds
-use Rattle.ports.proofs.header_of.Reads as ports_header_of_reads
-use Rattle.ports.proofs.run_of.Kinds as ports_run_of_kinds
-use Rattle.ports.proofs.run_of.Reads as ports_run_of_reads
-use Rattle.ports.proofs.reply_of.Kinds as ports_reply_of_kinds
-use Rattle.ports.proofs.reply_of.Reads as ports_reply_of_reads
 use Rattle.ports.proofs.Decided as ports
 use Rattle.transfer.proofs.after_get.Kinds as transfer_after_get_kinds
 use Rattle.transfer.proofs.after_get.Reads as transfer_after_get_reads
@@ -677,12 +667,7 @@ ports_decided =
     promise ports_set_run_kinds.ps ports_set_run_kinds.r ports_set_run_reads.Pre ports_set_run_reads.Learnt ports.set_run_decides ports.set_run_allows (
     promise ports_block_of_kinds.ps ports_block_of_kinds.r ports_block_of_reads.Pre ports_block_of_reads.Learnt ports.block_of_decides ports.block_of_allows (
     promise ports_set_block_kinds.ps ports_set_block_kinds.r ports_set_block_reads.Pre ports_set_block_reads.Learnt ports.set_block_decides ports.set_block_allows (
-    promise ports_set_port_kinds.ps ports_set_port_kinds.r ports_set_port_reads.Pre ports_set_port_reads.Learnt ports.set_port_decides ports.set_port_allows (
-    promise ports_phase_number_kinds.ps ports_phase_number_kinds.r ports_phase_number_reads.Pre ports_phase_number_reads.Learnt ports.phase_number_decides ports.phase_number_allows (
-    promise ports_gather_of_kinds.ps ports_gather_of_kinds.r ports_gather_of_reads.Pre ports_gather_of_reads.Learnt ports.gather_of_decides ports.gather_of_allows (
-    promise ports_header_of_kinds.ps ports_header_of_kinds.r ports_header_of_reads.Pre ports_header_of_reads.Learnt ports.header_of_decides ports.header_of_allows (
-    promise ports_run_of_kinds.ps ports_run_of_kinds.r ports_run_of_reads.Pre ports_run_of_reads.Learnt ports.run_of_decides ports.run_of_allows (
-    promise ports_reply_of_kinds.ps ports_reply_of_kinds.r ports_reply_of_reads.Pre ports_reply_of_reads.Learnt ports.reply_of_decides ports.reply_of_allows writing_decided)))))))))))
+    promise ports_set_port_kinds.ps ports_set_port_kinds.r ports_set_port_reads.Pre ports_set_port_reads.Learnt ports.set_port_decides ports.set_port_allows writing_decided))))))
 
 pub transfer_decided : Promises
 transfer_decided =

@@ -18,16 +18,6 @@ use Rattle.ports.proofs.set_block.Kinds as set_block_kinds
 use Rattle.ports.proofs.set_block.Reads as set_block_reads
 use Rattle.ports.proofs.set_port.Kinds as set_port_kinds
 use Rattle.ports.proofs.set_port.Reads as set_port_reads
-use Rattle.ports.proofs.phase_number.Kinds as phase_number_kinds
-use Rattle.ports.proofs.phase_number.Reads as phase_number_reads
-use Rattle.ports.proofs.gather_of.Kinds as gather_of_kinds
-use Rattle.ports.proofs.gather_of.Reads as gather_of_reads
-use Rattle.ports.proofs.header_of.Kinds as header_of_kinds
-use Rattle.ports.proofs.header_of.Reads as header_of_reads
-use Rattle.ports.proofs.run_of.Kinds as run_of_kinds
-use Rattle.ports.proofs.run_of.Reads as run_of_reads
-use Rattle.ports.proofs.reply_of.Kinds as reply_of_kinds
-use Rattle.ports.proofs.reply_of.Reads as reply_of_reads
 
 pub phase_of_decides : Decides phase_of_kinds.ps phase_of_kinds.r phase_of_reads.Pre phase_of_reads.Learnt
 phase_of_decides κs a z z' ws ws' p e e' = (e ∙ sym e', refl)
@@ -70,33 +60,3 @@ set_port_decides κs a z z' ws ws' p e e' = (refl, ap (λ (l : List ℕ). (tt, (
 
 pub set_port_allows : Allows set_port_kinds.ps set_port_kinds.r set_port_reads.Pre set_port_reads.Learnt
 set_port_allows κs a p = (_, (_, refl))
-
-pub phase_number_decides : Decides phase_number_kinds.ps phase_number_kinds.r phase_number_reads.Pre phase_number_reads.Learnt
-phase_number_decides κs a z z' ws ws' p e e' = (e ∙ sym e', refl)
-
-pub phase_number_allows : Allows phase_number_kinds.ps phase_number_kinds.r phase_number_reads.Pre phase_number_reads.Learnt
-phase_number_allows κs a p = (_, (_, refl))
-
-pub gather_of_decides : Decides gather_of_kinds.ps gather_of_kinds.r gather_of_reads.Pre gather_of_reads.Learnt
-gather_of_decides κs a z z' ws ws' p e e' = (e ∙ sym e', refl)
-
-pub gather_of_allows : Allows gather_of_kinds.ps gather_of_kinds.r gather_of_reads.Pre gather_of_reads.Learnt
-gather_of_allows κs a p = (_, (_, refl))
-
-pub header_of_decides : Decides header_of_kinds.ps header_of_kinds.r header_of_reads.Pre header_of_reads.Learnt
-header_of_decides κs a z z' ws ws' p e e' = (e ∙ sym e', refl)
-
-pub header_of_allows : Allows header_of_kinds.ps header_of_kinds.r header_of_reads.Pre header_of_reads.Learnt
-header_of_allows κs a p = (_, (_, refl))
-
-pub run_of_decides : Decides run_of_kinds.ps run_of_kinds.r run_of_reads.Pre run_of_reads.Learnt
-run_of_decides κs a z z' ws ws' p e e' = (e ∙ sym e', refl)
-
-pub run_of_allows : Allows run_of_kinds.ps run_of_kinds.r run_of_reads.Pre run_of_reads.Learnt
-run_of_allows κs a p = (_, (_, refl))
-
-pub reply_of_decides : Decides reply_of_kinds.ps reply_of_kinds.r reply_of_reads.Pre reply_of_reads.Learnt
-reply_of_decides κs a z z' ws ws' p e e' = (e ∙ sym e', refl)
-
-pub reply_of_allows : Allows reply_of_kinds.ps reply_of_kinds.r reply_of_reads.Pre reply_of_reads.Learnt
-reply_of_allows κs a p = (_, (_, refl))

@@ -14,36 +14,17 @@ use Rattle.base.specs.Parts.{part}
 use Rattle.base.proofs.Lists.{part_tail}
 use Rattle.base.proofs.Parts.{lent_first}
 use Rattle.blocks.specs.declared.ControlBlock.{ControlBlock}
-use Rattle.blocks.specs.declared.Gather.{Gather}
-use Rattle.blocks.specs.declared.Header.{Header}
-use Rattle.blocks.specs.declared.Run.{Run}
-use Rattle.blocks.specs.declared.Reply.{Reply}
 use Rattle.blocks.specs.declared.Phase.{Phase}
 use Rattle.blocks.specs.declared.Port.{Port}
 use Rattle.blocks.specs.Blocks.{closed_block, block_at}
 use Rattle.layout.specs.Places.{phase_length, block_length, port_length}
-use Rattle.layout.specs.Layout.{block_bytes, phase_bytes, port_bytes, byte_at, block_in, table_in, gather_in, header_in, run_in, reply_in, phase_in}
+use Rattle.layout.specs.Layout.{block_bytes, phase_bytes, port_bytes, block_in, table_in, phase_in}
 use Rattle.layout.proofs.Lengths.{phase_length_lem, port_length_lem}
 use Rattle.layout.proofs.Tables.{block_there, block_past}
 
 -- a port's phase, and the block of an IOCB in its table
 pub phase_read : (p : ℕ) (xs : List ℕ) (r : Phase) → r ≡ phase_in (take (length xs - p) (drop p xs)) → r ≡ phase_in (drop p xs)
 phase_read p xs r e = e ∙ ap phase_in (part_tail p xs)
-
-pub number_read : (p : ℕ) (xs : List ℕ) → get_or xs p 0 ≡ byte_at (drop p xs) 0
-number_read p xs = ap (λ (k : ℕ). get_or xs k 0) (sym (add-zero p)) ∙ sym (get_or-drop p xs 0 0)
-
-pub gather_read : (p : ℕ) (xs : List ℕ) (r : Gather) → r ≡ gather_in (take (length xs - p) (drop p xs)) → r ≡ gather_in (drop p xs)
-gather_read p xs r e = e ∙ ap gather_in (part_tail p xs)
-
-pub header_read : (p : ℕ) (xs : List ℕ) (r : Header) → r ≡ header_in (take (length xs - p) (drop p xs)) → r ≡ header_in (drop p xs)
-header_read p xs r e = e ∙ ap header_in (part_tail p xs)
-
-pub run_read : (p : ℕ) (xs : List ℕ) (r : Run) → r ≡ run_in (take (length xs - p) (drop p xs)) → r ≡ run_in (drop p xs)
-run_read p xs r e = e ∙ ap run_in (part_tail p xs)
-
-pub reply_read : (p : ℕ) (xs : List ℕ) (r : Reply) → r ≡ reply_in (take (length xs - p) (drop p xs)) → r ≡ reply_in (drop p xs)
-reply_read p xs r e = e ∙ ap reply_in (part_tail p xs)
 
 module _ (p iocb : ℕ) (xs : List ℕ) where
   pub block_read : (place : ℕ) (r : ControlBlock) → iocb < 8 → place ≡ p + block_length * iocb → r ≡ block_in xs place → r ≡ block_at (table_in (drop p xs)) iocb

@@ -6,9 +6,9 @@ ghost use Rattle.std.proofs.lemmas.List.Edits.{sets};
 ghost use Rattle.base.specs.Choice.{pick};
 ghost use Rattle.blocks.specs.Blocks.{block_at};
 ghost use Rattle.layout.specs.Places.{Reaches, port_place, phase_place, table_place, block_place};
-ghost use Rattle.layout.specs.Layout.{block_bytes, phase_bytes, port_bytes, byte_at, table_in, gather_in, header_in, run_in, reply_in, phase_in};
+ghost use Rattle.layout.specs.Layout.{block_bytes, phase_bytes, port_bytes, table_in, phase_in};
 
-use blocks::{ControlBlock, Gather, Header, Phase, Port, Reply, Run};
+use blocks::{ControlBlock, Gather, Phase, Port, Run};
 use layout::places::{BLOCK, PHASE, PORT};
 
 pub fn phase_of(port: u8, state: &[u8]) -> Phase
@@ -17,48 +17,6 @@ pub fn phase_of(port: u8, state: &[u8]) -> Phase
 {
     let at = PORT * (port as usize);
     reading::phase(&state[at..])
-}
-
-// Which phase it is: 0 gathering, 1 ready, 2 running, 3 replying.
-pub fn phase_number(port: u8, state: &[u8]) -> u8
-    requires { Reaches port state.now }
-    ensures { result ≡ byte_at (drop (phase_place port) state.now) 0 }
-{
-    let at = PORT * (port as usize);
-    state[at]
-}
-
-// Each phase's own numbers, where it is that phase.
-pub fn gather_of(port: u8, state: &[u8]) -> Gather
-    requires { Reaches port state.now }
-    ensures { result ≡ gather_in (drop (phase_place port) state.now) }
-{
-    let at = PORT * (port as usize);
-    reading::gather(&state[at..])
-}
-
-pub fn header_of(port: u8, state: &[u8]) -> Header
-    requires { Reaches port state.now }
-    ensures { result ≡ header_in (drop (phase_place port) state.now) }
-{
-    let at = PORT * (port as usize);
-    reading::header(&state[at..])
-}
-
-pub fn run_of(port: u8, state: &[u8]) -> Run
-    requires { Reaches port state.now }
-    ensures { result ≡ run_in (drop (phase_place port) state.now) }
-{
-    let at = PORT * (port as usize);
-    reading::run(&state[at..])
-}
-
-pub fn reply_of(port: u8, state: &[u8]) -> Reply
-    requires { Reaches port state.now }
-    ensures { result ≡ reply_in (drop (phase_place port) state.now) }
-{
-    let at = PORT * (port as usize);
-    reading::reply(&state[at..])
 }
 
 pub fn set_phase(port: u8, phase: Phase, state: &mut [u8])

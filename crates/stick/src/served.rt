@@ -5,6 +5,7 @@ ghost use Rattle.calls.specs.Returned.{returned, both_of};
 ghost use Rattle.calls.specs.Bytes.{buffers_in, left, left_of, stick_by, lent_by};
 ghost use Rattle.calls.specs.Parts.{Called, Rooms, console_held_on, key_on};
 
+use blocks::Phase;
 use devices::{Group, Media};
 use layout::places::{DEVICES, ROOM, ROOMS};
 
@@ -15,18 +16,19 @@ pub fn take_at(port: u8, byte: u8, state: &mut [u8], area: &[u8], media: &Media<
 {
     let room = ROOMS + ROOM * (port as usize);
     let past = room + ROOM;
-    if ports::phase_number(port, state) == 0 {
-        let gather = ports::gather_of(port, state);
-        if wire::goes_on(gather) {
-            let more = wire::value(gather, &mut state[room..past], byte);
-            ports::set_gather(port, more, state);
-            return 0;
+    match ports::phase_of(port, state) {
+        Phase::Gathering(gather) => {
+            if wire::goes_on(gather) {
+                let more = wire::value(gather, &mut state[room..past], byte);
+                ports::set_gather(port, more, state);
+                return 0;
+            }
+            let next = wire::take(gather, &mut state[room..past], byte);
+            ports::set_phase(port, next, state);
+            0
         }
-        let next = wire::take(gather, &mut state[room..past], byte);
-        ports::set_phase(port, next, state);
-        return 0;
+        Phase::Ready(_) | Phase::Running(_) | Phase::Replying(_) => 4,
     }
-    4
 }
 
 // The next byte of a port's reply, above the answer.
@@ -36,14 +38,15 @@ pub fn give_at(port: u8, state: &mut [u8], area: &[u8], media: &Media<'_>) -> u1
 {
     let room = ROOMS + ROOM * (port as usize);
     let past = room + ROOM;
-    if 3 <= ports::phase_number(port, state) {
-        let reply = ports::reply_of(port, state);
-        let given = wire::give(reply, &state[room..past]);
-        let next = given.phase;
-        ports::set_phase(port, next, state);
-        return base::word(0, given.byte);
+    match ports::phase_of(port, state) {
+        Phase::Replying(reply) => {
+            let given = wire::give(reply, &state[room..past]);
+            let next = given.phase;
+            ports::set_phase(port, next, state);
+            base::word(0, given.byte)
+        }
+        Phase::Gathering(_) | Phase::Ready(_) | Phase::Running(_) => base::word(5, 0),
     }
-    base::word(5, 0)
 }
 
 // A port's running request holds the console.
@@ -51,11 +54,8 @@ fn holds_console(port: u8, state: &[u8]) -> bool
     requires { Rooms port state.now }
     ensures { result ≡ console_held_on port state.now }
 {
-    if ports::phase_number(port, state) == 2 {
-        let phase = ports::phase_of(port, state);
-        return devices::clashes(Group::Console, devices::held_by(phase));
-    }
-    false
+    let phase = ports::phase_of(port, state);
+    devices::clashes(Group::Console, devices::held_by(phase))
 }
 
 // A pressed key, over an older one.

@@ -9,7 +9,7 @@ ghost use Rattle.devices.specs.Media.{SameBuffers};
 ghost use Rattle.calls.specs.Bytes.{buffers_in, left, left_of, stick_by, lent_by};
 ghost use Rattle.calls.specs.Parts.{Called, Rooms, Halves, plan_on, waits_on, errand_on, job_on, start_on, ready_on};
 
-use blocks::Header;
+use blocks::{Header, Phase};
 use devices::Media;
 use layout::places::{AREA, DEVICES, ROOM, ROOMS};
 use plan::{Errand, Job, Plan};
@@ -34,11 +34,8 @@ fn waits(port: u8, plan: Plan, state: &[u8]) -> bool
     ensures { result ≡ waits_on port plan state.now }
 {
     let other = 1 - port;
-    if ports::phase_number(other, state) == 2 {
-        let phase = ports::phase_of(other, state);
-        return devices::clashes(plan::group_needed(plan), devices::held_by(phase));
-    }
-    false
+    let phase = ports::phase_of(other, state);
+    devices::clashes(plan::group_needed(plan), devices::held_by(phase))
 }
 
 // A start that needs no group.
@@ -106,15 +103,12 @@ pub fn tick_at(port: u8, state: &mut [u8], area: &mut [u8], media: &mut Media<'_
     ensures says { left result 0 (buffers_in state.new area.new media.new) ≡ left_of (tick_at port (stick_by (buffers_in state.old area.old media.old)) (lent_by (buffers_in state.old area.old media.old))) }
     ensures same { SameBuffers media.new media.old }
 {
-    let number = ports::phase_number(port, state);
-    if number == 2 {
-        let run = ports::run_of(port, state);
-        running::advance_at(port, run, state, area, media);
-        return 0;
+    match ports::phase_of(port, state) {
+        Phase::Running(run) => {
+            running::advance_at(port, run, state, area, media);
+            0
+        }
+        Phase::Ready(header) => ready_at(port, header, state, area, media),
+        Phase::Gathering(_) | Phase::Replying(_) => 7,
     }
-    if number == 1 {
-        let header = ports::header_of(port, state);
-        return ready_at(port, header, state, area, media);
-    }
-    7
 }
