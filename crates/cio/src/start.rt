@@ -34,12 +34,28 @@ fn status_of(done: Done) -> u8
     }
 }
 
+// GET STATUS, which looks at the buffers.
+fn looked(device: Device, asked: Asked, numbers: &[u8], media: &Media<'_>) -> Done
+    requires { Numbers numbers.now }
+    ensures { result ≡ (lent_acts device asked).statuses (lent_with numbers.now media.now) }
+{
+    devices::status(
+        device,
+        asked,
+        numbers,
+        media.screen,
+        media.paper,
+        media.tape,
+        media.images,
+    )
+}
+
 // What GET STATUS says of a device.
 fn status_said(device: Device, asked: Asked, numbers: &[u8], media: &Media<'_>) -> u8
     requires { Numbers numbers.now }
     ensures { result ≡ done_status ((lent_acts device asked).statuses (lent_with numbers.now media.now)) }
 {
-    status_of(devices::status(device, asked, numbers, media))
+    status_of(looked(device, asked, numbers, media))
 }
 
 // After an opening: GET STATUS and SPECIAL answer and close again.
@@ -57,7 +73,7 @@ fn then(
     match after {
         After::Stay => Done::Success,
         After::Status => {
-            let done = devices::status(device, asked, numbers, media);
+            let done = looked(device, asked, numbers, media);
             devices::close(device, asked, numbers, media);
             done
         }

@@ -8,7 +8,7 @@ use Rattle.handler.specs.declared.Got.{Got}
 use Rattle.handler.specs.declared.Done.{Done}
 use Rattle.handler.specs.Answer.{Answer, answer}
 use Rattle.devices.specs.declared.Media.{Media}
-use Rattle.devices.specs.Lent.{DevicesLent, lent_acts, lent_of, fresh_groups}
+use Rattle.devices.specs.Lent.{DevicesLent, lent_acts}
 use Rattle.devices.specs.Media.{lent_with}
 use Rattle.devices.proofs.Alike.{left_in, left_alike}
 use Rattle.devices.proofs.Images.{images_kept, left_with, tape_stays, media_stay}
@@ -138,12 +138,10 @@ special_allows κs a p =
     (x.says, ((tt, (tt, (x.leaves.numbers, (tt, tt)))), ap (answer x.says) (media_stay a.0 a.1.0 s)))
 
 pub fresh_decides : Decides fresh_kinds.ps fresh_kinds.r fresh_reads.Pre fresh_reads.Learnt
-fresh_decides κs a z z' ws ws' p e e' = (refl, ap (λ (l : List ℕ × Media). (l.0, (l.1, tt))) (left_alike a.1.0.now _ _ _ _ (e.0 ∙ sym e'.0) e.1 e'.1))
+fresh_decides κs a z z' ws ws' p e e' = (refl, ap (λ (w : DevicesLent). (w.numbers, (w.screen, (tt, (tt, (tt, tt)))))) (e ∙ sym e'))
 
 pub fresh_allows : Allows fresh_kinds.ps fresh_kinds.r fresh_reads.Pre fresh_reads.Learnt
-fresh_allows κs a p =
-    let x = lent_of (fresh_groups a.1.0.now.paper.now a.1.0.now.tape.now a.1.0.now.images.now) in
-    (tt, ((x.numbers, (left_in a.1.0.now x, tt)), (refl, refl)))
+fresh_allows κs a p = (_, (_, refl))
 
 pub console_of_decides : Decides console_of_kinds.ps console_of_kinds.r console_of_reads.Pre console_of_reads.Learnt
 console_of_decides κs a z z' ws ws' p e e' = (e ∙ sym e', refl)

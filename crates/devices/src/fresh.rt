@@ -1,17 +1,15 @@
 // The devices as a fresh start leaves them.
 ghost use Rattle.std.specs.Prelude.{◌≡◌};
-ghost use Rattle.devices.specs.Lent.{Freshens, fresh_groups, lent_of};
-ghost use Rattle.devices.specs.Media.{lent_with, SameBuffers};
+ghost use Rattle.devices.specs.Lent.{Freshens, devices_lent, fresh_groups, lent_of};
 
-use crate::{Media, numbers};
+use crate::numbers;
 
 // Every number of a fresh printer and of a fresh cassette is 0, no character is pending, and every place of the diskettes is 0.
-pub fn fresh(numbers: &mut [u8], media: &mut Media<'_>)
-    requires { Freshens numbers.old media.old.screen.now }
-    ensures says { lent_with numbers.new media.new ≡ lent_of (fresh_groups media.old.paper.now media.old.tape.now media.old.images.now) }
-    ensures same { SameBuffers media.new media.old }
+pub fn fresh(numbers: &mut [u8], screen: &mut [u8], paper: &[u8], tape: &[u8], images: &[u8])
+    requires { Freshens numbers.old screen.old }
+    ensures { devices_lent numbers.new screen.new paper.now tape.now images.now ≡ lent_of (fresh_groups paper.now tape.now images.now) }
 {
     cells::part::paint(numbers, 0);
-    let console = acts::fresh(media.screen);
+    let console = acts::fresh(screen);
     numbers::set_console(numbers, console);
 }

@@ -11,7 +11,7 @@ ghost use Rattle.handler.specs.Answer.{answer};
 ghost use Rattle.layout.specs.Places.{Numbers};
 ghost use Rattle.recorder.specs.Recorder.{Wound};
 ghost use Rattle.devices.specs.Groups.{owner_of, group_of, held_of, clash};
-ghost use Rattle.devices.specs.Lent.{Lends, lent_acts};
+ghost use Rattle.devices.specs.Lent.{Lends, devices_lent, lent_acts};
 ghost use Rattle.devices.specs.Media.{lent_with, SameBuffers};
 
 use blocks::{Device, Phase};
@@ -201,17 +201,25 @@ pub fn write(
     }
 }
 
-// GET STATUS.
-pub fn status(device: Device, asked: Asked, numbers: &[u8], media: &Media<'_>) -> Done
+// GET STATUS. It writes no buffer, and takes them as one that may only look at them.
+pub fn status(
+    device: Device,
+    asked: Asked,
+    numbers: &[u8],
+    screen: &[u8],
+    paper: &[u8],
+    tape: &[u8],
+    images: &[u8],
+) -> Done
     requires { Numbers numbers.now }
-    ensures { result ≡ (lent_acts device asked).statuses (lent_with numbers.now media.now) }
+    ensures { result ≡ (lent_acts device asked).statuses (devices_lent numbers.now screen.now paper.now tape.now images.now) }
 {
     let owner = owner_of(device);
     match owner {
         Owner::Console(handler) => Done::Success,
         Owner::Printer => Done::Success,
         Owner::Cassette => Done::Success,
-        Owner::Disk => drives::status(numbers, media.images, asked),
+        Owner::Disk => drives::status(numbers, images, asked),
     }
 }
 

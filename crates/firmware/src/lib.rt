@@ -60,7 +60,14 @@ fn guard(state: &[u8], area: &[u8], media: &Media<'_>, port: u8) -> u8
     if !lengths_fit(state, area, media) {
         return 2;
     }
-    if !judge::undamaged(state, area, media) {
+    if !judge::undamaged(
+        state,
+        area,
+        media.screen,
+        media.paper,
+        media.tape,
+        media.images,
+    ) {
         return 3;
     }
     if 2 <= port {
@@ -88,7 +95,7 @@ pub fn fixlomand_fresh(
         images,
     };
     if lengths_fit(state, area, &media) {
-        stick::started::fresh_all(state, area, &mut media);
+        stick::started::fresh_all(state, area, media.screen, media.paper, media.tape, media.images);
         return 0;
     }
     2
@@ -116,7 +123,7 @@ pub fn fixlomand_take(
     };
     let refused = guard(state, area, &media, port);
     if refused == 0 {
-        return stick::served::take_at(port, byte, state, area, &media);
+        return stick::served::take_at(port, byte, state, area, media.screen, media.paper, media.tape, media.images);
     }
     refused
 }
@@ -168,7 +175,7 @@ pub fn fixlomand_give(
     };
     let refused = guard(state, area, &media, port);
     if refused == 0 {
-        return stick::served::give_at(port, state, area, &media);
+        return stick::served::give_at(port, state, area, media.screen, media.paper, media.tape, media.images);
     }
     refused as u16
 }
@@ -194,7 +201,7 @@ pub fn fixlomand_press(
     };
     let refused = guard(state, area, &media, 0);
     if refused == 0 {
-        return stick::served::press_at(code, state, area, &media);
+        return stick::served::press_at(code, state, area, media.screen, media.paper, media.tape, media.images);
     }
     refused
 }

@@ -18,7 +18,6 @@ ghost use Rattle.damage.specs.Whole.{aux1_whole, highest_whole, mark_whole, open
 ghost use Rattle.judge.specs.Ported.{Ported, Blocks};
 
 use blocks::{Gather, Reply};
-use devices::Media;
 use layout::places::{BLOCK, CASSETTE, CONSOLE, DEVICES, DISK, PHASE, PORT, PRINTER};
 use printer::PAPER;
 
@@ -563,9 +562,16 @@ fn head(state: &[u8]) -> bool
 }
 
 // Whether a state, with what is lent beside it, stands for an undamaged stick.
-pub fn undamaged(state: &[u8], area: &[u8], media: &Media<'_>) -> bool
+pub fn undamaged(
+    state: &[u8],
+    area: &[u8],
+    screen: &[u8],
+    paper: &[u8],
+    tape: &[u8],
+    images: &[u8],
+) -> bool
     requires { Headed state.now }
-    ensures { result ≡ and (stands state.now) (stick_fits (stick_in state.now) (lent_in state.now area.now media.now.screen.now media.now.paper.now media.now.tape.now media.now.images.now)) }
+    ensures { result ≡ and (stands state.now) (stick_fits (stick_in state.now) (lent_in state.now area.now screen.now paper.now tape.now images.now)) }
 {
     head(state)
 }

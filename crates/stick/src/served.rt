@@ -2,17 +2,26 @@
 ghost use Rattle.std.specs.Prelude.{◌≡◌, ◌+◌, ◌*◌};
 ghost use Rattle.calls.specs.Calls.{take_at, give_at, press_at};
 ghost use Rattle.calls.specs.Returned.{returned, both_of};
-ghost use Rattle.calls.specs.Bytes.{buffers_in, left, left_of, stick_by, lent_by};
+ghost use Rattle.calls.specs.Bytes.{buffers, left, left_of, stick_by, lent_by};
 ghost use Rattle.calls.specs.Parts.{Called, Rooms, console_held_on, key_on};
 
 use blocks::Phase;
-use devices::{Group, Media};
+use devices::Group;
 use layout::places::{DEVICES, ROOM, ROOMS};
 
 // A byte offered by a port's host. What the calls answer are the numbers that C is told.
-pub fn take_at(port: u8, byte: u8, state: &mut [u8], area: &[u8], media: &Media<'_>) -> u8
-    requires { Called port (buffers_in state.old area.now media.now) }
-    ensures { left result 0 (buffers_in state.new area.now media.now) ≡ left_of (take_at port (stick_by (buffers_in state.old area.now media.now)) (lent_by (buffers_in state.old area.now media.now)) byte) }
+pub fn take_at(
+    port: u8,
+    byte: u8,
+    state: &mut [u8],
+    area: &[u8],
+    screen: &[u8],
+    paper: &[u8],
+    tape: &[u8],
+    images: &[u8],
+) -> u8
+    requires { Called port (buffers state.old area.now screen.now paper.now tape.now images.now) }
+    ensures { left result 0 (buffers state.new area.now screen.now paper.now tape.now images.now) ≡ left_of (take_at port (stick_by (buffers state.old area.now screen.now paper.now tape.now images.now)) (lent_by (buffers state.old area.now screen.now paper.now tape.now images.now)) byte) }
 {
     let room = ROOMS + ROOM * (port as usize);
     let past = room + ROOM;
@@ -32,9 +41,17 @@ pub fn take_at(port: u8, byte: u8, state: &mut [u8], area: &[u8], media: &Media<
 }
 
 // The next byte of a port's reply, above the answer.
-pub fn give_at(port: u8, state: &mut [u8], area: &[u8], media: &Media<'_>) -> u16
-    requires { Called port (buffers_in state.old area.now media.now) }
-    ensures { returned result (buffers_in state.new area.now media.now) ≡ both_of (left_of (give_at port (stick_by (buffers_in state.old area.now media.now)) (lent_by (buffers_in state.old area.now media.now)))) }
+pub fn give_at(
+    port: u8,
+    state: &mut [u8],
+    area: &[u8],
+    screen: &[u8],
+    paper: &[u8],
+    tape: &[u8],
+    images: &[u8],
+) -> u16
+    requires { Called port (buffers state.old area.now screen.now paper.now tape.now images.now) }
+    ensures { returned result (buffers state.new area.now screen.now paper.now tape.now images.now) ≡ both_of (left_of (give_at port (stick_by (buffers state.old area.now screen.now paper.now tape.now images.now)) (lent_by (buffers state.old area.now screen.now paper.now tape.now images.now)))) }
 {
     let room = ROOMS + ROOM * (port as usize);
     let past = room + ROOM;
@@ -69,9 +86,17 @@ fn store_key(code: u8, state: &mut [u8])
 }
 
 // A key of the console.
-pub fn press_at(code: u8, state: &mut [u8], area: &[u8], media: &Media<'_>) -> u8
-    requires { Called 0 (buffers_in state.old area.now media.now) }
-    ensures { left result 0 (buffers_in state.new area.now media.now) ≡ left_of (press_at (stick_by (buffers_in state.old area.now media.now)) (lent_by (buffers_in state.old area.now media.now)) code) }
+pub fn press_at(
+    code: u8,
+    state: &mut [u8],
+    area: &[u8],
+    screen: &[u8],
+    paper: &[u8],
+    tape: &[u8],
+    images: &[u8],
+) -> u8
+    requires { Called 0 (buffers state.old area.now screen.now paper.now tape.now images.now) }
+    ensures { left result 0 (buffers state.new area.now screen.now paper.now tape.now images.now) ≡ left_of (press_at (stick_by (buffers state.old area.now screen.now paper.now tape.now images.now)) (lent_by (buffers state.old area.now screen.now paper.now tape.now images.now)) code) }
 {
     if holds_console(0, state) {
         return 6;
