@@ -5,7 +5,7 @@
 
 ghost use Rattle.std.specs.Prelude.{◌≡◌};
 ghost use Rattle.keys.specs.Translation.{translate_of};
-ghost use Rattle.calls.specs.Bytes.{buffers, buffers_in, buffers_fit, bytes_refusal, fresh_bytes, take_bytes, tick_bytes, give_bytes, press_bytes};
+ghost use Rattle.calls.specs.Bytes.{buffers, buffers_fit, bytes_refusal, fresh_bytes, take_bytes, tick_bytes, give_bytes, press_bytes};
 ghost use Rattle.calls.specs.Returned.{returned, answer_of, both_of};
 ghost use Rattle.doctor.specs.Doctor.{leaving, doctor_of};
 
@@ -42,32 +42,40 @@ pub fn fixlomand_doctor(image: &mut [u8], list: &mut [u8]) -> u32
 }
 
 #[tactic(auto, using(base::proofs::Tests::tests), unfolding(calls::specs::Bytes::six_fit))]
-fn lengths_fit(state: &[u8], area: &[u8], media: &Media<'_>) -> bool
-    ensures { result ≡ buffers_fit (buffers_in state.now area.now media.now) }
+fn lengths_fit(
+    state: &[u8],
+    area: &[u8],
+    screen: &[u8],
+    paper: &[u8],
+    tape: &[u8],
+    images: &[u8],
+) -> bool
+    ensures { result ≡ buffers_fit (buffers state.now area.now screen.now paper.now tape.now images.now) }
 {
     state.len() == STATE
         && area.len() == 2 * AREA
-        && media.screen.len() == SCREEN
-        && media.paper.len() == PAPER
-        && media.tape.len() == TAPE
-        && media.images.len() == IMAGES
+        && screen.len() == SCREEN
+        && paper.len() == PAPER
+        && tape.len() == TAPE
+        && images.len() == IMAGES
 }
 
 // 2, 3 or 1, in this order, or 0.
-fn guard(state: &[u8], area: &[u8], media: &Media<'_>, port: u8) -> u8
-    ensures { result ≡ bytes_refusal (buffers_in state.now area.now media.now) port }
+fn guard(
+    state: &[u8],
+    area: &[u8],
+    screen: &[u8],
+    paper: &[u8],
+    tape: &[u8],
+    images: &[u8],
+    port: u8,
+) -> u8
+    ensures { result ≡ bytes_refusal (buffers state.now area.now screen.now paper.now tape.now images.now) port }
 {
-    if !lengths_fit(state, area, media) {
+    if !lengths_fit(state, area, screen, paper, tape, images) {
         return 2;
     }
-    if !judge::undamaged(
-        state,
-        area,
-        media.screen,
-        media.paper,
-        media.tape,
-        media.images,
-    ) {
+    if !judge::undamaged(state, area, screen, paper, tape, images) {
         return 3;
     }
     if 2 <= port {
@@ -88,14 +96,8 @@ pub fn fixlomand_fresh(
 ) -> u8
     ensures { returned result (buffers state.new area.new screen.new paper.new tape.new images.new) ≡ answer_of (fresh_bytes (buffers state.old area.old screen.old paper.old tape.old images.old)) }
 {
-    let mut media = Media {
-        screen,
-        paper,
-        tape,
-        images,
-    };
-    if lengths_fit(state, area, &media) {
-        stick::started::fresh_all(state, area, media.screen, media.paper, media.tape, media.images);
+    if lengths_fit(state, area, screen, paper, tape, images) {
+        stick::started::fresh_all(state, area, screen, paper, tape, images);
         return 0;
     }
     2
@@ -115,15 +117,9 @@ pub fn fixlomand_take(
 ) -> u8
     ensures { returned result (buffers state.new area.new screen.new paper.new tape.new images.new) ≡ answer_of (take_bytes (buffers state.old area.old screen.old paper.old tape.old images.old) port byte) }
 {
-    let media = Media {
-        screen,
-        paper,
-        tape,
-        images,
-    };
-    let refused = guard(state, area, &media, port);
+    let refused = guard(state, area, screen, paper, tape, images, port);
     if refused == 0 {
-        return stick::served::take_at(port, byte, state, area, media.screen, media.paper, media.tape, media.images);
+        return stick::served::take_at(port, byte, state, area, screen, paper, tape, images);
     }
     refused
 }
@@ -141,14 +137,14 @@ pub fn fixlomand_tick(
 ) -> u8
     ensures { returned result (buffers state.new area.new screen.new paper.new tape.new images.new) ≡ answer_of (tick_bytes (buffers state.old area.old screen.old paper.old tape.old images.old) port) }
 {
-    let mut media = Media {
-        screen,
-        paper,
-        tape,
-        images,
-    };
-    let refused = guard(state, area, &media, port);
+    let refused = guard(state, area, screen, paper, tape, images, port);
     if refused == 0 {
+        let mut media = Media {
+            screen,
+            paper,
+            tape,
+            images,
+        };
         return ticks::tick_at(port, state, area, &mut media);
     }
     refused
@@ -167,15 +163,9 @@ pub fn fixlomand_give(
 ) -> u16
     ensures { returned result (buffers state.new area.new screen.new paper.new tape.new images.new) ≡ both_of (give_bytes (buffers state.old area.old screen.old paper.old tape.old images.old) port) }
 {
-    let media = Media {
-        screen,
-        paper,
-        tape,
-        images,
-    };
-    let refused = guard(state, area, &media, port);
+    let refused = guard(state, area, screen, paper, tape, images, port);
     if refused == 0 {
-        return stick::served::give_at(port, state, area, media.screen, media.paper, media.tape, media.images);
+        return stick::served::give_at(port, state, area, screen, paper, tape, images);
     }
     refused as u16
 }
@@ -193,15 +183,9 @@ pub fn fixlomand_press(
 ) -> u8
     ensures { returned result (buffers state.new area.new screen.new paper.new tape.new images.new) ≡ answer_of (press_bytes (buffers state.old area.old screen.old paper.old tape.old images.old) code) }
 {
-    let media = Media {
-        screen,
-        paper,
-        tape,
-        images,
-    };
-    let refused = guard(state, area, &media, 0);
+    let refused = guard(state, area, screen, paper, tape, images, 0);
     if refused == 0 {
-        return stick::served::press_at(code, state, area, media.screen, media.paper, media.tape, media.images);
+        return stick::served::press_at(code, state, area, screen, paper, tape, images);
     }
     refused
 }
