@@ -176,21 +176,23 @@ class Function:
 
 
 def functions(crates: Path) -> list[Function]:
-    """Every public function of every crate but the program, its library and what C links, whose promises are firmware's."""
+    """Every public function, and every function of a trait's impl, of every crate but the program, its library and what C links,
+    whose promises are firmware's."""
     found = []
     for file in sorted(crates.glob("*/src/*.rt")):
         crate = file.parts[-3]
         if crate in {"play", "script", "firmware_c"}:
             continue
-        owner = ""
-        for outer, indent, name, contract in re.findall(
-            r"^impl (\w+)|^( *)pub (?:extern \"C\" )?fn (\w+)((?:.|\n)*?)\{\n",
+        owner, of = "", ""
+        for outer, argument, type_of, indent, public, name, contract in re.findall(
+            r"^impl (\w+)(?:<(\w+)>)?(?: for (\w+))?|^( *)(pub )?(?:extern \"C\" )?fn (\w+)((?:.|\n)*?)\{\n",
             file.read_text(encoding="utf-8"),
             re.MULTILINE,
         ):
             if outer:
-                owner = outer
-            else:
+                of = type_of[:1].upper() + type_of[1:]
+                owner = of + outer + argument if of else outer
+            elif public or (indent and of):
                 found.append(Function(crate, file.name, f"{owner}.{name}" if indent else name, contract))
     return found
 
@@ -271,6 +273,13 @@ class Functions(unittest.TestCase):
     def setUp(self) -> None:
         self.functions = functions(CRATES)
 
+    def test_each_impl_is_read(self) -> None:
+        """`functions` reads an impl's head by these words alone: one with more would be passed over."""
+        for file in CRATES.glob("*/src/*.rt"):
+            if file.parts[-3] not in {"play", "script", "firmware_c"}:
+                for head in re.findall(r"^ *(?:unsafe )?impl\b.*", file.read_text(encoding="utf-8"), re.MULTILINE):
+                    self.assertRegex(head, r"^impl \w+(<\w+>)?( for \w+)? \{$", file)
+
     def test_each_promise_decides(self) -> None:
         self.assertGreater(len(self.functions), 100)
         self.assertEqual(len({(each.crate, each.path) for each in self.functions}), len(self.functions))
@@ -313,6 +322,7 @@ class Functions(unittest.TestCase):
             (demands, "blocks.device_of_decides", "acts.device_of_decides", neither),
             (demands, ".device_of.Kinds as", ".offers.Kinds as", neither),
             (source, contract, contract.replace("ensures", "requires"), [f"{source} device_of: no promise"]),
+            (decided, own.replace("device_of", "status_from"), own, [each.replace("device_of", "U8FromSpecificationError.from") for each in no_law[:1]]),
             (source, "pub fn device_of(", "pub fn device_too()\n    ensures true\n{\n}\n\npub fn device_of(", too),
             (source, "impl Gather {", "impl Letter {", [each.replace("device_of", "Letter.fresh") for each in no_law]),
             # A crate that is passed over, and the last.

@@ -7,7 +7,7 @@ use Prim.Native.Nat.{ℕ, suc, ◌+◌, ◌-◌, ◌≤◌, ◌<◌}
 use native.Mathlib.Nat.{add-zero, zero-add, add-suc, suc-add}
 use native.Mathlib.Omega.{arith}
 use lib.ListN.{length, take, drop, set, length-append, length-drop, length-set, take-append-drop}
-use lib.Seq.{sets, sets-eq, take_at, drop_at, drop-drop, length-take-le, length-sets, take-add, drop-set-lt, drop-set-add, take-set-le, take-set-lt, set-append_left, set_comm, set-set}
+use lib.Seq.{sets, sets-eq, set_out, take_at, drop_at, drop-drop, length-take-le, length-sets, take-add, drop-set-lt, drop-set-add, take-set-le, take-set-lt, set-append_left, set_comm, set-set}
 use Rattle.base.specs.Parts.{part, Apart, before, behind}
 
 pub cat : {A : Type 0} {a b c d : List A} → a ≡ b → c ≡ d → a ++ c ≡ b ++ d
@@ -164,3 +164,9 @@ module _ (p n : ℕ) where
 
     pub lent_back : take p xs ++ (ys ++ drop (p + n - p) (drop p xs)) ≡ sets xs p ys
     lent_back = ap (λ (k : ℕ). take p xs ++ (ys ++ drop k (drop p xs))) lent_count ∙ back p n ys xs lent_length h
+
+-- bytes laid past a buffer's end
+pub sets_out : (bytes xs : List ℕ) (p : ℕ) → length xs ≤ p → sets xs p bytes ≡ xs
+sets_out [] xs p h = refl
+sets_out (byte ∷ bytes) xs p h =
+    ap (λ (l : List ℕ). sets l (suc p) bytes) (set_out xs p byte h) ∙ sets_out bytes xs (suc p) (omega arith)

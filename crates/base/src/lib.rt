@@ -33,25 +33,27 @@ pub fn word(low: u8, high: u8) -> u16
     u16::from_le_bytes([low, high])
 }
 
-// The number that begins at a place of a lent buffer, whose bytes are 0 past its end.
-pub fn word_at(lent: &[u8], place: u32) -> u16
-    ensures { result ≡ get_or lent.now place 0 + 256 * get_or lent.now (place + 1) 0 }
+// The number whose two bytes lie at these places of a lent buffer, where a byte is 0 past its end.
+pub fn word_at(lent: &[u8], low: usize, high: usize) -> u16
+    ensures { result ≡ get_or lent.now low 0 + 256 * get_or lent.now high 0 }
 {
-    let low = place as usize;
-    word(byte_at(lent, low), byte_at(lent, low + 1))
+    word(byte_at(lent, low), byte_at(lent, high))
 }
 
 // These bytes lie from a place of the lent buffer on, as far as it reaches.
-pub fn lay(lent: &mut [u8], place: u32, bytes: &[u8])
+pub fn lay(lent: &mut [u8], place: usize, bytes: &[u8])
     ensures { lent.new ≡ sets lent.old place bytes.now }
 {
+    if lent.len() <= place {
+        return;
+    }
     for (i, byte) in bytes.iter().enumerate() {
-        set_byte(lent, place as usize + i, *byte);
+        set_byte(lent, place + i, *byte);
     }
 }
 
 // A number lies from a place on, its low byte first.
-pub fn set_word(lent: &mut [u8], place: u32, number: u16)
+pub fn set_word(lent: &mut [u8], place: usize, number: u16)
     ensures { lent.new ≡ sets lent.old place (number % 256 ∷ number / 256 ∷ []) }
 {
     lay(lent, place, &number.to_le_bytes());

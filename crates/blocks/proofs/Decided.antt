@@ -8,6 +8,8 @@ use Rattle.blocks.proofs.Gather.fresh.Kinds as gather_fresh_kinds
 use Rattle.blocks.proofs.Gather.fresh.Reads as gather_fresh_reads
 use Rattle.blocks.proofs.Port.fresh.Kinds as port_fresh_kinds
 use Rattle.blocks.proofs.Port.fresh.Reads as port_fresh_reads
+use Rattle.blocks.proofs.U8FromSpecificationError.from.Kinds as status_from_kinds
+use Rattle.blocks.proofs.U8FromSpecificationError.from.Reads as status_from_reads
 use Rattle.blocks.proofs.device_of.Kinds as device_of_kinds
 use Rattle.blocks.proofs.device_of.Reads as device_of_reads
 use Rattle.blocks.proofs.specification_at.Kinds as specification_at_kinds
@@ -36,6 +38,12 @@ port_fresh_decides κs a z z' ws ws' p e e' = (e ∙ sym e', refl)
 
 pub port_fresh_allows : Allows port_fresh_kinds.ps port_fresh_kinds.r port_fresh_reads.Pre port_fresh_reads.Learnt
 port_fresh_allows κs a p = (_, (_, refl))
+
+pub status_from_decides : Decides status_from_kinds.ps status_from_kinds.r status_from_reads.Pre status_from_reads.Learnt
+status_from_decides κs a z z' ws ws' p e e' = (e ∙ sym e', refl)
+
+pub status_from_allows : Allows status_from_kinds.ps status_from_kinds.r status_from_reads.Pre status_from_reads.Learnt
+status_from_allows κs a p = (_, (_, refl))
 
 pub device_of_decides : Decides device_of_kinds.ps device_of_kinds.r device_of_reads.Pre device_of_reads.Learnt
 device_of_decides κs a z z' ws ws' p e e' = (e ∙ sym e', refl)

@@ -4,5 +4,6 @@ pub mod Stores
 pub mod Links
 pub mod TickAnswers
 pub mod Serving
+pub mod Numbers
 pub mod Passing
 pub mod Images

@@ -72,15 +72,15 @@ module _ (port : ℕ) (state area screen paper tape images : List ℕ) (c : Call
       ∙ ap (λ (t : Served). left_of (outcome t.answer t.byte (with_port port t.port s) (with_room port t.room l))) (sym q)
       ∙ ap (λ (y : Phase). let t = take_port y (port_at port s) (room_at port l) byte in left_of (outcome t.answer t.byte (with_port port t.port s) (with_room port t.room l))) (own x z)
 
-  take_ready : (byte : ℕ) (h : Header) → phase ≡ Ready h → left_alone 4 b ≡ left_of (take_at port s l byte)
+  pub take_ready : (byte : ℕ) (h : Header) → phase ≡ Ready h → left_alone 4 b ≡ left_of (take_at port s l byte)
   unfolding take_port
   take_ready byte h z = took (Ready h) byte z refl
 
-  take_running : (byte : ℕ) (r : Run) → phase ≡ Running r → left_alone 4 b ≡ left_of (take_at port s l byte)
+  pub take_running : (byte : ℕ) (r : Run) → phase ≡ Running r → left_alone 4 b ≡ left_of (take_at port s l byte)
   unfolding take_port
   take_running byte r z = took (Running r) byte z refl
 
-  take_replying : (byte : ℕ) (r : Reply) → phase ≡ Replying r → left_alone 4 b ≡ left_of (take_at port s l byte)
+  pub take_replying : (byte : ℕ) (r : Reply) → phase ≡ Replying r → left_alone 4 b ≡ left_of (take_at port s l byte)
   unfolding take_port
   take_replying byte r z = took (Replying r) byte z refl
 
@@ -105,44 +105,45 @@ module _ (port : ℕ) (state area screen paper tape images : List ℕ) (c : Call
       ∙ ap (λ (x : Gathered). left_of (outcome 0 0 (with_port port (with_phase x.phase (port_at port s)) s) (with_room port x.room l))) r
       ∙ ap (λ (y : Phase). let t = take_port y (port_at port s) (room_at port l) byte in left_of (outcome t.answer t.byte (with_port port t.port s) (with_room port t.room l))) (own (Gathering g) z)
 
-  gave : (x : Phase) (number : ℕ) → phase ≡ x → number ≡ 5 + 256 * 0 → give_port x (port_at port s) (room_at port l) ≡ served 5 0 (port_at port s) (room_at port l) → returned number b ≡ both_of (left_of (give_at port s l))
+  gave : (x : Phase) → phase ≡ x → give_port x (port_at port s) (room_at port l) ≡ served 5 0 (port_at port s) (room_at port l) → left_alone 5 b ≡ left_of (give_at port s l)
   unfolding give_at
-  gave x number z k q =
-      ap (λ (n : ℕ). returned n b) k
-      ∙ ap both_of
-      (as_it_was port b c 5 0
+  gave x z q =
+      as_it_was port b c 5 0
       ∙ ap (λ (y : Stick). left_of (outcome 5 0 y l)) (sym (port_back port c.low s))
       ∙ ap (λ (t : Served). left_of (outcome t.answer t.byte (with_port port t.port s) l)) (sym q)
-      ∙ ap (λ (y : Phase). let t = give_port y (port_at port s) (room_at port l) in left_of (outcome t.answer t.byte (with_port port t.port s) l)) (own x z))
+      ∙ ap (λ (y : Phase). let t = give_port y (port_at port s) (room_at port l) in left_of (outcome t.answer t.byte (with_port port t.port s) l)) (own x z)
 
-  give_gathering : (g : Gather) (number : ℕ) → phase ≡ Gathering g → number ≡ 5 + 256 * 0 → returned number b ≡ both_of (left_of (give_at port s l))
+  pub give_gathering : (g : Gather) → phase ≡ Gathering g → left_alone 5 b ≡ left_of (give_at port s l)
   unfolding give_port
-  give_gathering g number z k = gave (Gathering g) number z k refl
+  give_gathering g z = gave (Gathering g) z refl
 
-  give_ready : (h : Header) (number : ℕ) → phase ≡ Ready h → number ≡ 5 + 256 * 0 → returned number b ≡ both_of (left_of (give_at port s l))
+  pub give_ready : (h : Header) → phase ≡ Ready h → left_alone 5 b ≡ left_of (give_at port s l)
   unfolding give_port
-  give_ready h number z k = gave (Ready h) number z k refl
+  give_ready h z = gave (Ready h) z refl
 
-  give_running : (r : Run) (number : ℕ) → phase ≡ Running r → number ≡ 5 + 256 * 0 → returned number b ≡ both_of (left_of (give_at port s l))
+  pub give_running : (r : Run) → phase ≡ Running r → left_alone 5 b ≡ left_of (give_at port s l)
   unfolding give_port
-  give_running r number z k = gave (Running r) number z k refl
+  give_running r z = gave (Running r) z refl
 
+  pub give_replying : (r : Reply) (g : Given) (state' : List ℕ) → phase ≡ Replying r → g ≡ giving.give_of r (part (room_place port) (room_place port + room_length - room_place port) state)
+      → state' ≡ sets state (phase_place port) (phase_bytes g.phase) → left 0 g.byte (buffers state' area screen paper tape images) ≡ left_of (give_at port s l)
+  unfolding give_at give_port
+  give_replying r g state' z q f =
+      let e = q ∙ ap (giving.give_of r) (lent_part (room_place port) room_length state ∙ room_read state s (drop rooms_place state) w port c.low) in
+      ap (λ (x : List ℕ). left 0 g.byte (buffers x area screen paper tape images)) (f ∙ (written_phase state s (drop rooms_place state) w port c.low g.phase).is)
+      ∙ ap (λ (x : Given). left_of (outcome 0 x.byte (with_port port (with_phase x.phase (port_at port s)) s) l)) e
+      ∙ ap (λ (y : Phase). let t = give_port y (port_at port s) (room_at port l) in left_of (outcome t.answer t.byte (with_port port t.port s) l)) (own (Replying r) z)
+
+  -- the same of the number that C is given
   pub give_not : (number : ℕ) → ((g : Gather) × phase ≡ Gathering g) ⊎ (((h : Header) × phase ≡ Ready h) ⊎ ((r : Run) × phase ≡ Running r)) → number ≡ 5 + 256 * 0 → returned number b ≡ both_of (left_of (give_at port s l))
-  give_not number (inl (g, z)) k = give_gathering g number z k
-  give_not number (inr (inl (h, z))) k = give_ready h number z k
-  give_not number (inr (inr (r, z))) k = give_running r number z k
+  give_not number (inl (g, z)) k = ap (λ (n : ℕ). returned n b) k ∙ ap both_of (give_gathering g z)
+  give_not number (inr (inl (h, z))) k = ap (λ (n : ℕ). returned n b) k ∙ ap both_of (give_ready h z)
+  give_not number (inr (inr (r, z))) k = ap (λ (n : ℕ). returned n b) k ∙ ap both_of (give_running r z)
 
-  pub give_replying : (r : Reply) (g : Given) (state' : List ℕ) (number : ℕ) → phase ≡ Replying r → g ≡ giving.give_of r (part (room_place port) (room_place port + room_length - room_place port) state)
+  pub give_told : (r : Reply) (g : Given) (state' : List ℕ) (number : ℕ) → phase ≡ Replying r → g ≡ giving.give_of r (part (room_place port) (room_place port + room_length - room_place port) state)
       → state' ≡ sets state (phase_place port) (phase_bytes g.phase) → number ≡ 0 + 256 * g.byte
       → returned number (buffers state' area screen paper tape images) ≡ both_of (left_of (give_at port s l))
-  unfolding give_at give_port
-  give_replying r g state' number z q f k =
-      let e = q ∙ ap (giving.give_of r) (lent_part (room_place port) room_length state ∙ room_read state s (drop rooms_place state) w port c.low) in
-      ap (λ (n : ℕ). returned n (buffers state' area screen paper tape images)) k
-      ∙ ap both_of
-      (ap (λ (x : List ℕ). left 0 g.byte (buffers x area screen paper tape images)) (f ∙ (written_phase state s (drop rooms_place state) w port c.low g.phase).is)
-      ∙ ap (λ (x : Given). left_of (outcome 0 x.byte (with_port port (with_phase x.phase (port_at port s)) s) l)) e
-      ∙ ap (λ (y : Phase). let t = give_port y (port_at port s) (room_at port l) in left_of (outcome t.answer t.byte (with_port port t.port s) l)) (own (Replying r) z))
+  give_told r g state' number z q f k = ap (λ (n : ℕ). returned n (buffers state' area screen paper tape images)) k ∙ ap both_of (give_replying r g state' z q f)
 
 -- a key: either port may hold the console
 module _ (state area screen paper tape images : List ℕ) (c : Called 0 (buffers state area screen paper tape images)) (code : ℕ) (t : Bool) (p : t ≡ console_held_on 0 state) where

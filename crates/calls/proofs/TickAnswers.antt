@@ -67,11 +67,11 @@ module _ (port : ℕ) (b : Buffers) (c : Called port b) where
     unfolding tick_at
     by x t z q = q ∙ ap (λ (y : Phase). left_of (ticked_by (tick_port port y (held_of (other_at port s).phase) (reach_at port s l)))) (own x z)
 
-    tick_gathering : (g : Gather) → phase ≡ Gathering g → left_alone 7 b ≡ left_of (tick_at port s l)
+    pub tick_gathering : (g : Gather) → phase ≡ Gathering g → left_alone 7 b ≡ left_of (tick_at port s l)
     unfolding tick_port
     tick_gathering g z = by (Gathering g) (left_alone 7 b) z (stays 7)
 
-    tick_replying : (r : Reply) → phase ≡ Replying r → left_alone 7 b ≡ left_of (tick_at port s l)
+    pub tick_replying : (r : Reply) → phase ≡ Replying r → left_alone 7 b ≡ left_of (tick_at port s l)
     unfolding tick_port
     tick_replying r z = by (Replying r) (left_alone 7 b) z (stays 7)
 

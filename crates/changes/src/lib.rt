@@ -20,7 +20,7 @@ pub fn note(image: &[u8], list: &mut [u8], number: u16, sector: u16, place: u8, 
         return number;
     }
     let [low, high] = sector.to_le_bytes();
-    base::lay(list, 5 * number as u32, &[low, high, place, old, new]);
+    base::lay(list, 5 * number as usize, &[low, high, place, old, new]);
     number + 1
 }
 
@@ -29,7 +29,7 @@ fn make(image: &mut [u8], list: &[u8], from: u16)
     ensures { image.new ≡ replayed list.now from image.old }
 {
     let at = 5 * from as usize;
-    let sector = base::word_at(list, at as u32);
+    let sector = base::word_at(list, at, at + 1);
     let place = base::byte_at(list, at + 2);
     let new = base::byte_at(list, at + 4);
     image::set_sector_byte(image, 0, sector, place, new);

@@ -224,6 +224,8 @@ use Rattle.blocks.proofs.Gather.fresh.Kinds as blocks_gather_fresh_kinds
 use Rattle.blocks.proofs.Gather.fresh.Reads as blocks_gather_fresh_reads
 use Rattle.blocks.proofs.Port.fresh.Kinds as blocks_port_fresh_kinds
 use Rattle.blocks.proofs.Port.fresh.Reads as blocks_port_fresh_reads
+use Rattle.blocks.proofs.U8FromSpecificationError.from.Kinds as blocks_status_from_kinds
+use Rattle.blocks.proofs.U8FromSpecificationError.from.Reads as blocks_status_from_reads
 use Rattle.blocks.proofs.device_of.Kinds as blocks_device_of_kinds
 use Rattle.blocks.proofs.device_of.Reads as blocks_device_of_reads
 use Rattle.blocks.proofs.specification_at.Kinds as blocks_specification_at_kinds
@@ -606,11 +608,12 @@ blocks_decided =
     promise blocks_table_closed_kinds.ps blocks_table_closed_kinds.r blocks_table_closed_reads.Pre blocks_table_closed_reads.Learnt blocks.table_closed_decides blocks.table_closed_allows (
     promise blocks_gather_fresh_kinds.ps blocks_gather_fresh_kinds.r blocks_gather_fresh_reads.Pre blocks_gather_fresh_reads.Learnt blocks.gather_fresh_decides blocks.gather_fresh_allows (
     promise blocks_port_fresh_kinds.ps blocks_port_fresh_kinds.r blocks_port_fresh_reads.Pre blocks_port_fresh_reads.Learnt blocks.port_fresh_decides blocks.port_fresh_allows (
+    promise blocks_status_from_kinds.ps blocks_status_from_kinds.r blocks_status_from_reads.Pre blocks_status_from_reads.Learnt blocks.status_from_decides blocks.status_from_allows (
     promise blocks_device_of_kinds.ps blocks_device_of_kinds.r blocks_device_of_reads.Pre blocks_device_of_reads.Learnt blocks.device_of_decides blocks.device_of_allows (
     promise blocks_specification_at_kinds.ps blocks_specification_at_kinds.r blocks_specification_at_reads.Pre blocks_specification_at_reads.Learnt blocks.specification_at_decides blocks.specification_at_allows (
     promise blocks_aux1_reads_kinds.ps blocks_aux1_reads_kinds.r blocks_aux1_reads_reads.Pre blocks_aux1_reads_reads.Learnt blocks.aux1_reads_decides blocks.aux1_reads_allows (
     promise blocks_aux1_writes_kinds.ps blocks_aux1_writes_kinds.r blocks_aux1_writes_reads.Pre blocks_aux1_writes_reads.Learnt blocks.aux1_writes_decides blocks.aux1_writes_allows (
-    promise blocks_offers_kinds.ps blocks_offers_kinds.r blocks_offers_reads.Pre blocks_offers_reads.Learnt blocks.offers_decides blocks.offers_allows acts_decided)))))))
+    promise blocks_offers_kinds.ps blocks_offers_kinds.r blocks_offers_reads.Pre blocks_offers_reads.Learnt blocks.offers_decides blocks.offers_allows acts_decided))))))))
 
 pub commands_decided : Promises
 commands_decided =

@@ -6,6 +6,7 @@ use mathlib.Core.List.{List}
 use Prim.Native.Nat.{ℕ}
 use native.Mathlib.Omega.{arith}
 use lib.ListN.{length, take}
+use Rattle.handler.specs.Acts.{asks_open}
 use Rattle.image.proofs.Chain.{chain_rule}
 use Rattle.disk.proofs.Opens.{open_rule}
 use Rattle.disk.proofs.Reading.{read_warns}
@@ -24,6 +25,7 @@ use Rattle.layout.proofs.WriteRead.{head_back}
 use Rattle.damage.proofs.Undamaged.{in_bytes}
 use Rattle.calls.specs.Returned.{Returned}
 use Rattle.serial.proofs.Follows as follow
+use Rattle.rules.proofs.Names.{has_eleven}
 use Rattle.rules.proofs.FileGets.{file_gets}
 use Rattle.rules.proofs.Warned.{request_warns, others_never_warn}
 use Rattle.machine.specs.Real.{real}
@@ -77,6 +79,10 @@ demands = record {
   kept = kept;
   disk_warns = λ place images l. read_warns place images l;
   opens = λ asked place images eleven l. open_rule asked place images l eleven;
+  names = λ c l s device d. has_eleven device l.area c.address d.name d.named;
+  opens_named =
+      λ c l s device d place images w.
+      open_rule (asks_open l.number c.iocb d.number c.aux1 c.aux2 d.name) place images w (has_eleven device l.area c.address d.name d.named);
   chains = λ images unit file first. chain_rule images unit file 719 first;
   files = λ images whole unit file first few. file_gives images unit file whole few first;
   file_gets = λ c l s unit file first bytes fit few o chain. file_gets c l s unit file first bytes fit few o chain;

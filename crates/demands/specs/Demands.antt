@@ -6,6 +6,8 @@
 -- Assumes nothing.
 use Rattle.std.specs.Prelude.{◌≡◌, Bool, true, List, ◌++◌, ℕ, ◌*◌, ◌<◌, length, take, replicate}
 use Rattle.names.specs.Names.{Eleven}
+use Rattle.blocks.specs.declared.Device.{Device}
+use Rattle.handler.specs.Acts.{asks_open}
 use Rattle.handler.specs.declared.Asked.{Asked}
 use Rattle.image.specs.Image.{images_length}
 use Rattle.image.specs.Chain.{ChainRule, FileBytes}
@@ -48,6 +50,7 @@ use Rattle.serial.specs.Demand1.{Demand1}
 use Rattle.serial.specs.Demand2.{Demand2}
 use Rattle.serial.specs.Demand3.{Demand3, UnfinishedRule}
 use Rattle.serial.specs.Follows.{Follows}
+use Rattle.rules.specs.Statuses.{NamesDevice}
 use Rattle.rules.specs.FileGets.{GetsFile, FileGets}
 use Rattle.rules.specs.Warned.{ReadsNext, RequestWarns, OthersNeverWarn}
 use Rattle.machine.specs.Real.{real}
@@ -122,6 +125,11 @@ pub record Demands : Type 0 where
   pub disk_warns : (place images : List ℕ) → length place ≡ place_length → ReadWarns place images
   -- "The first match opens, none is $AA": what an opening answers and leaves at its block's place
   pub opens : (asked : Asked) (place images : List ℕ) → Eleven asked.name → length place ≡ place_length → OpenRule asked place images
+  -- "name (8), extension (3)": the name of every opening that a CALL asks for is eleven bytes, or a bad one's none; so the line above is
+  -- of each of them
+  pub names : (c : Call) (l : Local) (s : Groups) (device : Device) (d : NamesDevice c l s device) → Eleven d.name
+  pub opens_named : (c : Call) (l : Local) (s : Groups) (device : Device) (d : NamesDevice c l s device) (place images : List ℕ) → length place ≡ place_length
+      → OpenRule (asks_open l.number c.iocb d.number c.aux1 c.aux2 d.name) place images
   -- each chain has its bytes, and a file's reads give them in order: "next or first 0 ends the file"; "A link above 719, a wrong file
   -- number, a data count above 125 or a 720th sector in one chain gives $A4 to the read that meets it."
   pub chains : (images : List ℕ) (unit file first : ℕ) → ChainRule images unit file 719 first

@@ -96,7 +96,7 @@ pub fn status(p: &[u8], images: &[u8]) -> Done
 fn file_fits(p: &[u8]) -> bool
     ensures { result ≡ file_fits p.now }
 {
-    base::byte_at(p, 2) <= 63 && base::byte_at(p, 3) <= 125 && base::word_at(p, 6) <= 718
+    base::byte_at(p, 2) <= 63 && base::byte_at(p, 3) <= 125 && base::word_at(p, 6, 7) <= 718
 }
 
 // A directory's are.

@@ -40,9 +40,9 @@ fn stand(p: &[u8], images: &[u8]) -> Stand
         images,
         unit,
         file,
-        base::word_at(p, 4),
+        base::word_at(p, 4, 5),
         place,
-        base::word_at(p, 6),
+        base::word_at(p, 6, 7),
     )
 }
 

@@ -7,11 +7,12 @@ use Prim.Native.Nat.{ℕ, ◌≤◌, ◌<◌}
 use native.Mathlib.Omega.{arith}
 use borrow.Author.Tests.{eqb-true, leb-true, le-leb, lt-leb, ne_eqb}
 use lib.Dec.{T, eqb, leb}
+use lib.ListN.{length}
 use Rattle.base.specs.Choice.{or, within}
 use Rattle.base.proofs.Choices.{and_left, and_right, by_test, by_eq}
-use Rattle.std.specs.Prelude.{Result}
+use Rattle.std.specs.Prelude.{Option, Some, None, Result, Ok, Err}
 use Rattle.names.specs.declared.NameError.{NameError}
-use Rattle.names.specs.Names.{Field, past, bad, dotted, ended, onto, cut_of, ends_name, may_stand, extended_by, named_by, named_in}
+use Rattle.names.specs.Names.{Field, past, bad, dotted, ended, onto, cut_of, ends_name, may_stand, Eleven, as_read, extended_by, named_by, named_in}
 use Rattle.names.specs.Read.{Stands, letter, digit, star, question, AllStand, Ends, eol, blank, Outside, NameReads, past_name, past_extension, bad_name_case, bad_extension, second_dot, alone, extended}
 use Rattle.names.proofs.Laws.{before, before_past, before_bad, before_ended, before_dotted, cut_ends, cut_dot, cut_more, cut_bad, cut_none}
 
@@ -187,3 +188,21 @@ by_cut bytes (ended name) c = alone name c.rest c.byte c.shape c.standing c.end 
 pub named_reads : (bytes : List ℕ) → NameReads bytes (named_in bytes)
 unfolding named_in
 named_reads bytes = by_cut bytes (cut_of bytes) (cuts bytes)
+
+-- a name that is read has eleven bytes
+abbrev Long : Result (List ℕ) NameError → Type 0
+Long (Ok pattern) = length pattern ≡ 11
+Long (Err e) = Unit {0}
+
+long : (bytes : List ℕ) (r : Result (List ℕ) NameError) → NameReads bytes r → Long r
+long bytes r (past_name s e) = subst Long (sym e) tt
+long bytes r (past_extension name extension q s t e) = subst Long (sym e) tt
+long bytes r (bad_name_case name rest byte q s o e) = subst Long (sym e) tt
+long bytes r (bad_extension name extension rest byte q s t o e) = subst Long (sym e) tt
+long bytes r (second_dot name extension rest q s t e) = subst Long (sym e) tt
+long bytes r (alone name rest end q s o e) = subst Long (sym e) refl
+long bytes r (extended name extension rest end q s t o e) = subst Long (sym e) refl
+
+pub read_eleven : (bytes : List ℕ) (name : Option (List ℕ)) → NameReads bytes (as_read name) → Eleven name
+read_eleven bytes None r = tt
+read_eleven bytes (Some pattern) r = long bytes (Ok pattern) r

@@ -48,10 +48,10 @@ pub fn set_run(port: u8, run: Run, state: &mut [u8])
 }
 
 // Where the block of an IOCB begins.
-fn block_place(port: u8, iocb: u8) -> u32
+fn block_place(port: u8, iocb: u8) -> usize
     ensures { result ≡ block_place port iocb }
 {
-    (PORT * (port as usize) + PHASE + BLOCK * (iocb as usize)) as u32
+    PORT * (port as usize) + PHASE + BLOCK * (iocb as usize)
 }
 
 // The block of an IOCB; past the table the closed one.
@@ -61,7 +61,7 @@ pub fn block_of(port: u8, iocb: u8, state: &[u8]) -> ControlBlock
 {
     if iocb < 8 {
         let place = block_place(port, iocb);
-        return reading::block(state, place as usize);
+        return reading::block(state, place);
     }
     ControlBlock::CLOSED
 }

@@ -1,4 +1,5 @@
 pub mod Guards
+pub mod Names
 pub mod Statuses
 pub mod Refusals
 pub mod RequestKeeps

@@ -16,14 +16,14 @@ fn write(streams: &mut Streams, call: CallOp, number: u16) -> io::Result<()> {
 }
 
 // Writes it, and returns the op that is next.
-fn answered(streams: &mut Streams, op: Op, number: u16, board: &Board) -> io::Result<Op> {
+fn answered(streams: &mut Streams, op: Op, number: u16, board: &Board<'_>) -> io::Result<Op> {
     match op {
         Op::End => return Ok(Op::End),
-        Op::Dump => dump::write(streams, board)?,
-        Op::DumpTape => tape::write(streams, board)?,
+        Op::Dump => dump::write(streams, board.state, board.area, board.screen, board.paper)?,
+        Op::DumpTape => tape::write(streams, board.state, board.tape)?,
         Op::Ticks(port, most, made) => {
             let [answer, _] = number.to_le_bytes();
-            return ticking::next(streams, port, most, made, answer, &board.state);
+            return ticking::next(streams, port, most, made, answer, board.state);
         }
         Op::Call(call) => write(streams, call, number)?,
         _ => {}
@@ -32,7 +32,7 @@ fn answered(streams: &mut Streams, op: Op, number: u16, board: &Board) -> io::Re
 }
 
 // The same, once an op that writes into a buffer has done so.
-pub fn next(streams: &mut Streams, op: Op, number: u16, board: &mut Board) -> io::Result<Op> {
+pub fn next(streams: &mut Streams, op: Op, number: u16, board: &mut Board<'_>) -> io::Result<Op> {
     let done = writes::done(streams, op, board)?;
     answered(streams, done, number, board)
 }

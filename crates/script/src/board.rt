@@ -1,6 +1,4 @@
-// What a board lends to the calls: the six buffers, each of its length.
-use firmware::{IMAGES, PAPER, SCREEN, TAPE};
-use layout::places::{AREA, STATE};
+// The buffers that a script names, and what a board lends.
 
 #[derive(Clone, Copy)]
 pub enum Buffer {
@@ -32,38 +30,27 @@ fn put(some: &[u8], at: u32, into: &mut [u8]) {
     into[from..from + count].copy_from_slice(&some[..count]);
 }
 
+// The six buffers, of any length; the state is lent to be read.
 #[derive(Drop)]
-pub struct Board {
-    pub state: [u8; STATE],
-    pub area: [u8; 2 * AREA],
-    pub screen: [u8; SCREEN],
-    pub paper: [u8; PAPER],
-    pub tape: [u8; TAPE],
-    pub images: [u8; IMAGES],
+pub struct Board<'a> {
+    pub state: &'a [u8],
+    pub area: &'a mut [u8],
+    pub screen: &'a mut [u8],
+    pub paper: &'a mut [u8],
+    pub tape: &'a mut [u8],
+    pub images: &'a mut [u8],
 }
 
-impl Board {
-    // Every byte is 0.
-    pub fn new() -> Board {
-        Board {
-            state: [0; STATE],
-            area: [0; 2 * AREA],
-            screen: [0; SCREEN],
-            paper: [0; PAPER],
-            tape: [0; TAPE],
-            images: [0; IMAGES],
-        }
-    }
-
+impl Board<'_> {
     // What a script writes: the state is none of it.
     pub fn write(&mut self, buffer: Buffer, at: u32, some: &[u8]) {
         match buffer {
-            Buffer::Area => put(some, at, &mut self.area),
-            Buffer::Screen => put(some, at, &mut self.screen),
-            Buffer::Paper => put(some, at, &mut self.paper),
+            Buffer::Area => put(some, at, self.area),
+            Buffer::Screen => put(some, at, self.screen),
+            Buffer::Paper => put(some, at, self.paper),
             Buffer::State => {}
-            Buffer::Tape => put(some, at, &mut self.tape),
-            Buffer::Images => put(some, at, &mut self.images),
+            Buffer::Tape => put(some, at, self.tape),
+            Buffer::Images => put(some, at, self.images),
         }
     }
 }

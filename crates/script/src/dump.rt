@@ -1,6 +1,5 @@
 // A dump: area, screen and paper whole, then what the state holds but for the cassette and the blocks' places on diskettes, from its
 // bytes.
-use crate::board::Board;
 use crate::say;
 use crate::streams::Streams;
 use layout::places;
@@ -55,9 +54,19 @@ fn write_state(streams: &mut Streams, state: &[u8; places::STATE]) -> io::Result
     say::byte(streams, state[places::PORT])
 }
 
-pub fn write(streams: &mut Streams, board: &Board) -> io::Result<()> {
-    say::bytes(streams, &board.area)?;
-    say::bytes(streams, &board.screen)?;
-    say::bytes(streams, &board.paper)?;
-    write_state(streams, &board.state)
+// Of a state of a wrong length nothing is written.
+pub fn write(
+    streams: &mut Streams,
+    state: &[u8],
+    area: &[u8],
+    screen: &[u8],
+    paper: &[u8],
+) -> io::Result<()> {
+    say::bytes(streams, area)?;
+    say::bytes(streams, screen)?;
+    say::bytes(streams, paper)?;
+    if let Some(whole) = state.as_array() {
+        write_state(streams, whole)?;
+    }
+    Ok(())
 }

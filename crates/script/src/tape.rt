@@ -1,5 +1,4 @@
 // A dump of the tape: its bytes whole, then what the state holds of the cassette.
-use crate::board::Board;
 use crate::say;
 use crate::streams::Streams;
 use layout::places;
@@ -36,7 +35,11 @@ fn write_cassette(streams: &mut Streams, state: &[u8; places::STATE]) -> io::Res
     write_pending(streams, &state[PENDING..DISK], pending(mark, place))
 }
 
-pub fn write(streams: &mut Streams, board: &Board) -> io::Result<()> {
-    say::bytes(streams, &board.tape)?;
-    write_cassette(streams, &board.state)
+// Of a state of a wrong length nothing is written.
+pub fn write(streams: &mut Streams, state: &[u8], tape: &[u8]) -> io::Result<()> {
+    say::bytes(streams, tape)?;
+    if let Some(whole) = state.as_array() {
+        write_cassette(streams, whole)?;
+    }
+    Ok(())
 }

@@ -22,7 +22,7 @@ pub fn next(
     answer: u8,
     state: &[u8],
 ) -> io::Result<Op> {
-    let now = made.saturating_add(1).min(most);
+    let now = made.max(made.saturating_add(1).min(most));
     if now < most && runs_on(state, port, answer) {
         return Ok(Op::Ticks(port, most, now));
     }

@@ -13,7 +13,7 @@ fn write(
     buffer: Option<Buffer>,
     at: u32,
     count: u16,
-    board: &mut Board,
+    board: &mut Board<'_>,
 ) -> io::Result<bool> {
     let mut room = [0u8; ROOM];
     let some = &mut room[..count as usize];
@@ -27,7 +27,7 @@ fn write(
 }
 
 // What an op writes into a buffer; the op, or the end of the script where the input ends inside it.
-pub fn done(streams: &mut Streams, op: Op, board: &mut Board) -> io::Result<Op> {
+pub fn done(streams: &mut Streams, op: Op, board: &mut Board<'_>) -> io::Result<Op> {
     let Op::Write(buffer, at, count) = op else {
         return Ok(op);
     };

@@ -127,8 +127,8 @@ fn call_of(room: &[u8]) -> Call
     Call {
         iocb: base::byte_at(room, 0),
         command: base::byte_at(room, 1),
-        address: base::word_at(room, 2),
-        length: base::word_at(room, 4),
+        address: base::word_at(room, 2, 3),
+        length: base::word_at(room, 4, 5),
         aux1: base::byte_at(room, 6),
         aux2: base::byte_at(room, 7),
         a: base::byte_at(room, 8),
@@ -157,12 +157,12 @@ pub fn message_of(header: Header, room: &[u8]) -> Message
     match tag {
         0x10 => Message::Call(call_of(room)),
         0x11 => Message::Load {
-            address: base::word_at(room, 0),
+            address: base::word_at(room, 0, 1),
             size: length - 2,
         },
         _ => Message::Fetch {
-            address: base::word_at(room, 0),
-            count: base::word_at(room, 2),
+            address: base::word_at(room, 0, 1),
+            count: base::word_at(room, 2, 3),
         },
     }
 }

@@ -59,7 +59,7 @@ fn kind_number(kind: Kind) -> u8
 }
 
 // The three bytes of a block, at this place.
-pub fn block(bytes: &mut [u8], place: u32, block: ControlBlock)
+pub fn block(bytes: &mut [u8], place: usize, block: ControlBlock)
     ensures { bytes.new ≡ sets bytes.old place (block_bytes block) }
 {
     match block.state {
@@ -76,7 +76,7 @@ fn table(bytes: &mut [u8], table: Table)
     ensures { bytes.new ≡ sets bytes.old 0 (table_bytes table) }
 {
     for iocb in 0..8 {
-        block(bytes, (BLOCK * iocb) as u32, table.blocks[iocb]);
+        block(bytes, BLOCK * iocb, table.blocks[iocb]);
     }
 }
 
