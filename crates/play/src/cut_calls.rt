@@ -1,5 +1,5 @@
 // The five calls, over buffers that may be lent cut.
-use crate::lent::Buffers;
+use script::board::Board;
 use script::lengths::LentLengths;
 use script::ops::CallOp;
 
@@ -11,13 +11,13 @@ fn cut(buffer: &mut [u8], length: u32) -> &mut [u8] {
 
 // A call that is lent the first bytes of each buffer, at most its whole. The answer is in the low byte, of a give the reply byte in the
 // high one.
-pub fn perform(buffers: &mut Buffers, call: CallOp, lengths: LentLengths) -> u16 {
-    let state = cut(&mut buffers.state, lengths.state);
-    let area = cut(&mut buffers.area, lengths.area);
-    let screen = cut(&mut buffers.screen, lengths.screen);
-    let paper = cut(&mut buffers.paper, lengths.paper);
-    let tape = cut(&mut buffers.tape, lengths.tape);
-    let images = cut(&mut buffers.images, lengths.images);
+pub fn perform(board: &mut Board, call: CallOp, lengths: LentLengths) -> u16 {
+    let state = cut(&mut board.state, lengths.state);
+    let area = cut(&mut board.area, lengths.area);
+    let screen = cut(&mut board.screen, lengths.screen);
+    let paper = cut(&mut board.paper, lengths.paper);
+    let tape = cut(&mut board.tape, lengths.tape);
+    let images = cut(&mut board.images, lengths.images);
     match call {
         CallOp::Nothing => 0,
         CallOp::Fresh => firmware::fixlomand_fresh(state, area, screen, paper, tape, images) as u16,

@@ -1,5 +1,5 @@
 // What is written for an op once the stick has been asked what the op asks.
-use crate::board::Board;
+use crate::board::Views;
 use crate::ops::{CallOp, Op};
 use crate::streams::Streams;
 use crate::{dump, ops, say, tape, ticking, writes};
@@ -16,14 +16,14 @@ fn write(streams: &mut Streams, call: CallOp, number: u16) -> io::Result<()> {
 }
 
 // Writes it, and returns the op that is next.
-fn answered(streams: &mut Streams, op: Op, number: u16, board: &Board<'_>) -> io::Result<Op> {
+fn answered(streams: &mut Streams, op: Op, number: u16, views: &Views<'_>) -> io::Result<Op> {
     match op {
         Op::End => return Ok(Op::End),
-        Op::Dump => dump::write(streams, board.state, board.area, board.screen, board.paper)?,
-        Op::DumpTape => tape::write(streams, board.state, board.tape)?,
+        Op::Dump => dump::write(streams, views.state, views.area, views.screen, views.paper)?,
+        Op::DumpTape => tape::write(streams, views.state, views.tape)?,
         Op::Ticks(port, most, made) => {
             let [answer, _] = number.to_le_bytes();
-            return ticking::next(streams, port, most, made, answer, board.state);
+            return ticking::next(streams, port, most, made, answer, views.state);
         }
         Op::Call(call) => write(streams, call, number)?,
         _ => {}
@@ -32,7 +32,7 @@ fn answered(streams: &mut Streams, op: Op, number: u16, board: &Board<'_>) -> io
 }
 
 // The same, once an op that writes into a buffer has done so.
-pub fn next(streams: &mut Streams, op: Op, number: u16, board: &mut Board<'_>) -> io::Result<Op> {
-    let done = writes::done(streams, op, board)?;
-    answered(streams, done, number, board)
+pub fn next(streams: &mut Streams, op: Op, number: u16, views: &mut Views<'_>) -> io::Result<Op> {
+    let done = writes::done(streams, op, views)?;
+    answered(streams, done, number, views)
 }

@@ -1,5 +1,5 @@
 // Bytes that a script writes into a buffer, whatever length of it is lent.
-use crate::board::{Board, Buffer};
+use crate::board::{Buffer, Views};
 use crate::ops::Op;
 use crate::streams::Streams;
 use std::io;
@@ -13,7 +13,7 @@ fn write(
     buffer: Option<Buffer>,
     at: u32,
     count: u16,
-    board: &mut Board<'_>,
+    views: &mut Views<'_>,
 ) -> io::Result<bool> {
     let mut room = [0u8; ROOM];
     let some = &mut room[..count as usize];
@@ -21,17 +21,17 @@ fn write(
         return Ok(false);
     }
     if let Some(named) = buffer {
-        board.write(named, at, some);
+        views.write(named, at, some);
     }
     Ok(true)
 }
 
 // What an op writes into a buffer; the op, or the end of the script where the input ends inside it.
-pub fn done(streams: &mut Streams, op: Op, board: &mut Board<'_>) -> io::Result<Op> {
+pub fn done(streams: &mut Streams, op: Op, views: &mut Views<'_>) -> io::Result<Op> {
     let Op::Write(buffer, at, count) = op else {
         return Ok(op);
     };
-    if write(streams, buffer, at, count, board)? {
+    if write(streams, buffer, at, count, views)? {
         return Ok(op);
     }
     Ok(Op::End)
