@@ -1,5 +1,5 @@
-"""docs/slow-crates.txt lists the crates that have no must-fail edit because they take above 15 seconds to prove: an edit proves its
-crate whole again. None of them has one, and each is there."""
+"""docs/slow-crates.txt lists the crates that have no must-fail edit because they take above 15 seconds to prove, and with the older
+kit an edit proved its crate whole again. None of them has one, and each is there."""
 
 from __future__ import annotations
 
