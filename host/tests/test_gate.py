@@ -12,7 +12,7 @@ CRATES = REPOSITORY / "crates"
 SLOW = REPOSITORY / "docs" / "slow-crates.txt"
 
 LIMIT = 15
-"""The seconds that a crate with must-fail edits may take."""
+"""A crate is listed only if it takes more seconds than this."""
 MOST = 50
 """The seconds that a crate may take at all."""
 
